@@ -243,6 +243,13 @@ table_by {es} {slots} t = record { to = t.to; from = λ k p h. by k p (slice_get
     by k p None is h = absurd (let no_one = ap (λ (o : Option (Instance ℕ × Entry)). elim o as (λ _. Bool) [ None ↦ false | Some e ↦ nat_eq e.1.slot k ]) is in cc)
     by k p (Some e) is h = (e, is, eqb-true e.1.slot k (sym (ap (λ (o : Option (Instance ℕ × Entry)). elim o as (λ _. Bool) [ None ↦ false | Some e ↦ nat_eq e.1.slot k ]) is) ∙ h))
 
+-- just one slot has its entry at that place
+pub one_slot : {es : List (Instance ℕ × Entry)} {slots : ℕ → Option ℕ} → IsPlaced es slots → (s p : ℕ) → slots s ≡ Some p → (k : ℕ) → slots k ≡ Some p → k ≡ s
+one_slot t s p there k at =
+    let (e, found, is) = (table_by t).from s p there in
+    let (f, again, its) = (table_by t).from k p at in
+    sym its ∙ ap (λ (x : Instance ℕ × Entry). x.1.slot) (same_Some f e (sym again ∙ found)) ∙ is
+
 -- one entry is changed, and keeps its slot
 value_here : (es : List (Instance ℕ × Entry)) (p : ℕ) (e : Instance ℕ × Entry) (w : Entry) → slice_get es p ≡ Some e → slice_get (set_value_at es p w) p ≡ Some (e.0, w)
 value_here [] p e w h = absurd (none-some e h)

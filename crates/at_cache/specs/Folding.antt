@@ -19,6 +19,14 @@ slots_at lists s = elim (slice_get lists s) [ None ↦ [] | Some v ↦ v.items ]
 abbrev pub AreTaken : Memory → (slots : List ℕ) → Type 0
 AreTaken m slots = (s : ℕ) (e : Info) → m s ≡ Some e → Contains slots s
 
+-- these are the slots of what stands at the places, in their order
+abbrev pub AreOrdered : (places : ℕ → Option ℕ) → (slots : List ℕ) → Type 0
+AreOrdered places slots = (i s : ℕ) → slice_get slots i ≡ Some s → places s ≡ Some i
+
+-- the list of the place of what is in the slot; an empty one where nothing is
+abbrev pub listed_at : (places : ℕ → Option ℕ) → List (SmallVec ℕ) → ℕ → List ℕ
+listed_at places lists s = elim (places s) [ None ↦ [] | Some p ↦ slots_at lists p ]
+
 -- an entry that is folded into itself stays
 abbrev pub Stays : (into : ℕ → List ℕ) → ℕ → Type 0
 Stays into s = Contains (into s) s

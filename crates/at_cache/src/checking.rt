@@ -1,9 +1,9 @@
 //! Whether entries may be folded by a plan.
 
-ghost use Rattle.std.specs.Prelude.{◌≡◌, ◌⊎◌, ℕ, Contains, IsTrue, Some, true};
+ghost use Rattle.std.specs.Prelude.{◌≡◌, ◌⊎◌, ℕ, Bool, Contains, IsTrue, Some, true};
 ghost use Rattle.at_cache.specs.declared.edge.Edge.{Edge};
 ghost use Rattle.at_cache.specs.Edges.{edges_in};
-ghost use Rattle.at_cache.specs.Folding.{AreTaken, FoldsAt, HasUser, IsBelow, slots_at};
+ghost use Rattle.at_cache.specs.Folding.{AreLone, AreTaken, FoldsAt, HasUser, IsBelow, slots_at};
 ghost use Rattle.at_cache.specs.Info.{Info, memory_of};
 ghost use Rattle.at_cache.specs.Putting.{is_current};
 ghost use Rattle.at_cache.specs.Rows.{edges_along, edges_of};
@@ -11,6 +11,7 @@ ghost use Rattle.at_cache.specs.Rows.{edges_along, edges_of};
 use crate::edge::{Edge, Edges, Slot};
 use crate::entry::{Entry, Links};
 use crate::folding::{does_stay, has, slots_at};
+use crate::lone::Lone;
 use crate::row::Row;
 use crate::table::Table;
 
@@ -27,9 +28,13 @@ fn are_among(slots: &[Slot], others: &[Slot]) -> bool
 }
 
 // Whether what is in the slot stays, or is folded into each of the targets, too.
-fn is_below(plan: &[Links], slot: Slot, targets: &[Slot]) -> bool
-    ensures { IsTrue result → IsBelow (slots_at plan.now) targets.now slot }
+fn is_below(plan: &[Links], lone: &Lone, slot: Slot, targets: &[Slot]) -> bool
+    ensures { (there : Edge → Bool) → AreLone there (slots_at plan.now) lone.now.none lone.now.stamps.items
+        → IsTrue result → IsBelow (slots_at plan.now) targets.now slot }
 {
+    if lone.is_at(slot) {
+        return true;
+    }
     if does_stay(plan, slot) {
         return true;
     }
@@ -37,11 +42,12 @@ fn is_below(plan: &[Links], slot: Slot, targets: &[Slot]) -> bool
 }
 
 // Whether that holds of each of these.
-fn are_below(plan: &[Links], used: &[Slot], targets: &[Slot]) -> bool
-    ensures { IsTrue result → (p : ℕ) → Contains used.now p → IsBelow (slots_at plan.now) targets.now p }
+fn are_below(plan: &[Links], lone: &Lone, used: &[Slot], targets: &[Slot]) -> bool
+    ensures { (there : Edge → Bool) → AreLone there (slots_at plan.now) lone.now.none lone.now.stamps.items
+        → IsTrue result → (p : ℕ) → Contains used.now p → IsBelow (slots_at plan.now) targets.now p }
 {
     for slot in used {
-        if !is_below(plan, *slot, targets) {
+        if !is_below(plan, lone, *slot, targets) {
             return false;
         }
     }
@@ -127,35 +133,38 @@ fn are_used(entries: &Table, plan: &[Links], slot: Slot, users: &Edges, targets:
 }
 
 // Whether the entry in the slot may be folded so.
-fn may_fold(entries: &Table, plan: &[Links], slot: Slot, entry: &Entry) -> bool
+fn may_fold(entries: &Table, plan: &[Links], lone: &Lone, slot: Slot, entry: &Entry) -> bool
+    requires lone { AreLone (is_current (memory_of entries.now)) (slots_at plan.now) lone.now.none lone.now.stamps.items }
     ensures below { IsTrue result → (p : ℕ) → Contains entry.now.links.items p → IsBelow (slots_at plan.now) (slots_at plan.now slot) p }
     ensures used { IsTrue result → (r : ℕ) → Contains (slots_at plan.now slot) r
         → (r ≡ slot) ⊎ HasUser (is_current (memory_of entries.now)) (slots_at plan.now) (edges_in entry.now.users) r }
 {
     let targets = slots_at(plan, slot);
-    if !are_below(plan, entry.links.as_slice(), targets) {
+    if !are_below(plan, lone, entry.links.as_slice(), targets) {
         return false;
     }
     are_used(entries, plan, slot, &entry.users, targets)
 }
 
 // Whether what is in the slot may be, if anything is.
-fn is_sound_at(entries: &Table, plan: &[Links], slot: Slot) -> bool
+fn is_sound_at(entries: &Table, plan: &[Links], lone: &Lone, slot: Slot) -> bool
+    requires lone { AreLone (is_current (memory_of entries.now)) (slots_at plan.now) lone.now.none lone.now.stamps.items }
     ensures { IsTrue result → (e : Info) → memory_of entries.now slot ≡ Some e → FoldsAt (memory_of entries.now) (slots_at plan.now) slot e }
 {
     match entries.pair(slot) {
-        Some((_, entry)) => may_fold(entries, plan, slot, entry),
+        Some((_, entry)) => may_fold(entries, plan, lone, slot, entry),
         None => true,
     }
 }
 
 /// Whether each entry may be folded by the plan: they are in these slots.
-pub fn is_sound(entries: &Table, plan: &[Links], taken: &[Slot]) -> bool
+pub fn is_sound(entries: &Table, plan: &[Links], lone: &Lone, taken: &[Slot]) -> bool
+    requires lone { AreLone (is_current (memory_of entries.now)) (slots_at plan.now) lone.now.none lone.now.stamps.items }
     requires taken { AreTaken (memory_of entries.now) taken.now }
     ensures { IsTrue result → (s : ℕ) (e : Info) → memory_of entries.now s ≡ Some e → FoldsAt (memory_of entries.now) (slots_at plan.now) s e }
 {
     for slot in taken {
-        if !is_sound_at(entries, plan, *slot) {
+        if !is_sound_at(entries, plan, lone, *slot) {
             return false;
         }
     }

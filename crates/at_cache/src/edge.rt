@@ -132,6 +132,36 @@ impl Edges {
         Ok(Edges::More(Box::new(alloc, rows)?))
     }
 
+    // The edges of a block, where they take sixteen bytes.
+    fn few(&self) -> Option<Edges>
+        ensures { IfSome result (λ edges. edges_in edges ≡ edges_in self.now) }
+    {
+        match self {
+            Edges::More(rows) => few_of(rows.as_slice()),
+            Edges::Empty => None,
+            Edges::Few(_, _, _, _) => None,
+        }
+    }
+
+    // A block gives back room that it doesn't need.
+    fn shrink_block(&mut self)
+        ensures { edges_in self.new ≡ edges_in self.old }
+    {
+        if let Edges::More(rows) = self {
+            rows.shrink_to_fit();
+        }
+    }
+
+    /// The same edges take no more memory than they need.
+    pub fn shrink(&mut self)
+        ensures { edges_in self.new ≡ edges_in self.old }
+    {
+        match self.few() {
+            Some(edges) => *self = edges,
+            None => self.shrink_block(),
+        }
+    }
+
     /// Whether there is none.
     pub fn is_empty(&self) -> bool
         ensures { result ≡ nat_eq (length (edges_in self.now)) 0 }

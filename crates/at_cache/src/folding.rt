@@ -5,9 +5,10 @@
 
 ghost use Rattle.std.specs.Prelude.{◌≡◌, ℕ, Contains, IfOk, IsTrue, List, OnOk, nat_eq};
 ghost use Rattle.std.specs.List.{list_any};
+ghost use Rattle.slab.specs.Slab.{get};
 ghost use Rattle.at_cache.specs.Asking.{AreNoted};
 ghost use Rattle.at_cache.specs.Finding.{edges_to};
-ghost use Rattle.at_cache.specs.Folding.{AreTaken, LeavesKept, slots_at};
+ghost use Rattle.at_cache.specs.Folding.{AreOrdered, AreTaken, LeavesKept, slots_at};
 ghost use Rattle.at_cache.specs.Info.{memory_of};
 ghost use Rattle.at_cache.specs.Recorded.{IsIndexed, kept_in};
 ghost use Rattle.at_cache.specs.Shedding.{AreHeld, FoldsHeld};
@@ -30,14 +31,21 @@ use std::alloc::{AllocError, Global};
 // How many slots at the end of a list are looked at.
 const NEAR: usize = 8;
 
-/// The list of the slot; an empty one where it has none.
-pub fn slots_at(lists: &[Links], slot: Slot) -> &[Slot]
-    ensures { result.now ≡ slots_at lists.now slot }
+/// The list at the place; an empty one where there is none.
+pub fn list_at(lists: &[Links], place: usize) -> &[Slot]
+    ensures { result.now ≡ slots_at lists.now place }
 {
-    match lists.get(slot as usize) {
+    match lists.get(place) {
         Some(list) => list.as_slice(),
         None => &[],
     }
+}
+
+/// That of the slot.
+pub fn slots_at(lists: &[Links], slot: Slot) -> &[Slot]
+    ensures { result.now ≡ slots_at lists.now slot }
+{
+    list_at(lists, slot as usize)
 }
 
 /// Whether the slot is one of these.
@@ -66,9 +74,10 @@ pub fn does_stay(plan: &[Links], slot: Slot) -> bool
     has(slots_at(plan, slot), slot)
 }
 
-/// The slots of all entries: of many slots most may be free.
+/// The slots of all entries, in their order: of many slots most may be free.
 pub fn taken_of(alloc: Global, entries: &Table) -> Result<Vec<Slot>, AllocError>
-    ensures { IfOk result (λ slots. AreTaken (memory_of entries.now) slots.items) }
+    ensures ordered { IfOk result (λ slots. AreOrdered (get entries.now.places) slots.items) }
+    ensures taken { IfOk result (λ slots. AreTaken (memory_of entries.now) slots.items) }
 {
     let mut slots = Vec::with_capacity(alloc, entries.entries.len())?;
     for place in 0..entries.entries.len() {
@@ -99,14 +108,23 @@ pub fn fold(
 {
     let taken = taken_of(alloc, entries)?;
     let slots = taken.as_slice();
-    if !is_sound(entries, plan, slots) {
+    let lone = lone_of(alloc, entries, plan, slots)?;
+    if !is_sound(entries, plan, &lone, slots) {
         return Err(AllocError);
     }
     let links = links_of(alloc, entries, plan, slots)?;
-    let lone = lone_of(alloc, entries, plan)?;
     let mut room = Room::new(alloc, plan.len())?;
     rewrite(alloc, entries, plan, &lone, &mut room, &mut readers.own)?;
     rerun(alloc, entries, plan, &mut readers.runs)?;
-    relink(alloc, entries, plan, links.as_slice(), &lone, &mut room)?;
-    remove_folded(alloc, entries, plan)
+    relink(
+        alloc,
+        entries,
+        plan,
+        slots,
+        links.as_slice(),
+        &lone,
+        &mut room,
+    )?;
+    remove_folded(entries, plan, slots);
+    Ok(())
 }

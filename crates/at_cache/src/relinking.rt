@@ -1,16 +1,16 @@
 //! Entries that stay use what those used that are folded into them, and the others go.
 
 ghost use Rattle.std.specs.Prelude.{◌≡◌, ◌<◌, ◌∷◌, [], ℕ, Bool, Contains, IfOk, IsTrue, List, OnOk, Some, length};
+ghost use Rattle.slab.specs.Slab.{get};
 ghost use Rattle.at_cache.specs.declared.edge.Edge.{Edge};
 ghost use Rattle.at_cache.specs.Edges.{edges_in};
-ghost use Rattle.at_cache.specs.Folding.{AreAlone, AreLinks, AreLone, AreTaken, HasLinked, HasSame, IsRelinked, Linked, LinkedTo, Relinks, RelinksAt, Remains, RemovesAt, Stays, slots_at};
+ghost use Rattle.at_cache.specs.Folding.{AreAlone, AreLinks, AreLone, AreOrdered, AreTaken, HasLinked, HasSame, IsRelinked, Linked, LinkedTo, Relinks, RelinksAt, Remains, RemovesAt, Stays, listed_at, slots_at};
 ghost use Rattle.at_cache.specs.Info.{Info, memory_of};
 ghost use Rattle.at_cache.specs.Putting.{is_current};
 
 use crate::edge::{Edges, Slot};
 use crate::entry::{Entry, Links};
-use crate::facet::small;
-use crate::folding::{does_stay, is_near, slots_at, taken_of};
+use crate::folding::{does_stay, is_near, list_at, slots_at};
 use crate::lone::{Lone, is_only};
 use crate::rewriting::rewrite_list;
 use crate::room::Room;
@@ -41,33 +41,41 @@ fn add_links(list: &mut Links, plan: &[Links], links: &[Slot]) -> Result<(), All
     Ok(())
 }
 
-// They are added to that of the target.
+// They are added to that of the target. An error where that isn't there.
 fn link_to(
+    entries: &Table,
     lists: &mut Vec<Links>,
     plan: &[Links],
     target: Slot,
     links: &[Slot],
 ) -> Result<(), AllocError>
-    ensures { OnOk result (LinkedTo (slots_at plan.now) (target ∷ []) links.now (slots_at lists.old.items) (slots_at lists.new.items)) }
+    ensures { OnOk result (LinkedTo (slots_at plan.now) (target ∷ []) links.now (listed_at (get entries.now.places) lists.old.items)
+        (listed_at (get entries.now.places) lists.new.items)) }
 {
-    if target as usize >= lists.len() {
+    let Some(place) = entries.places.get(target as usize) else {
+        return Err(AllocError);
+    };
+    let place = *place;
+    if place >= lists.len() {
         return Err(AllocError);
     }
-    let list = &mut lists[target as usize];
+    let list = &mut lists[place];
     add_links(list, plan, links)
 }
 
 // They are added to those of all these targets.
 fn link_each(
+    entries: &Table,
     lists: &mut Vec<Links>,
     plan: &[Links],
     targets: &[Slot],
     links: &[Slot],
 ) -> Result<(), AllocError>
-    ensures { OnOk result (LinkedTo (slots_at plan.now) targets.now links.now (slots_at lists.old.items) (slots_at lists.new.items)) }
+    ensures { OnOk result (LinkedTo (slots_at plan.now) targets.now links.now (listed_at (get entries.now.places) lists.old.items)
+        (listed_at (get entries.now.places) lists.new.items)) }
 {
     for target in targets {
-        link_to(lists, plan, *target, links)?;
+        link_to(entries, lists, plan, *target, links)?;
     }
     Ok(())
 }
@@ -79,14 +87,15 @@ fn link_from(
     lists: &mut Vec<Links>,
     slot: Slot,
 ) -> Result<(), AllocError>
-    ensures { OnOk result (HasLinked (memory_of entries.now) (slots_at plan.now) slot (slots_at lists.old.items) (slots_at lists.new.items)) }
+    ensures { OnOk result (HasLinked (memory_of entries.now) (slots_at plan.now) slot (listed_at (get entries.now.places) lists.old.items)
+        (listed_at (get entries.now.places) lists.new.items)) }
 {
     let targets = slots_at(plan, slot);
     if is_only(targets, slot) {
         return Ok(());
     }
     match entries.pair(slot) {
-        Some((_, entry)) => link_each(lists, plan, targets, entry.links.as_slice()),
+        Some((_, entry)) => link_each(entries, lists, plan, targets, entry.links.as_slice()),
         None => Ok(()),
     }
 }
@@ -102,7 +111,7 @@ fn empty_lists(alloc: Global, count: usize) -> Result<Vec<Links>, AllocError>
     Ok(lists)
 }
 
-/// What each entry that stays is linked to for others that are folded into it, where the entries are in these slots.
+/// By their places, what the entries that stay are linked to for others that are folded into them. The entries are in these slots.
 pub fn links_of(
     alloc: Global,
     entries: &Table,
@@ -110,9 +119,9 @@ pub fn links_of(
     taken: &[Slot],
 ) -> Result<Vec<Links>, AllocError>
     requires taken { AreTaken (memory_of entries.now) taken.now }
-    ensures { IfOk result (λ links. AreLinks (memory_of entries.now) (slots_at plan.now) (slots_at links.items)) }
+    ensures { IfOk result (λ links. AreLinks (memory_of entries.now) (slots_at plan.now) (listed_at (get entries.now.places) links.items)) }
 {
-    let mut lists = empty_lists(alloc, plan.len())?;
+    let mut lists = empty_lists(alloc, taken.len())?;
     for slot in taken {
         link_from(entries, plan, &mut lists, *slot)?;
     }
@@ -156,25 +165,14 @@ fn joined(
     Ok(list)
 }
 
-// Whether all of these stay.
-fn do_stay(plan: &[Links], slots: &[Slot]) -> bool
-    ensures { IsTrue result → (p : ℕ) → Contains slots.now p → Stays (slots_at plan.now) p }
-{
-    for slot in slots {
-        if !does_stay(plan, *slot) {
-            return false;
-        }
-    }
-    true
-}
-
-// Whether all that the entry used stays, and what used it stays by itself.
-fn is_left(plan: &[Links], lone: &Lone, entry: &Entry) -> bool
-    ensures stay { IsTrue result → (p : ℕ) → Contains entry.now.links.items p → Stays (slots_at plan.now) p }
+// Whether all that the entry used stays by itself, and what used it does.
+fn is_left(lone: &Lone, entry: &Entry) -> bool
+    ensures stay { (there : Edge → Bool) (into : ℕ → List ℕ) → AreLone there into lone.now.none lone.now.stamps.items
+        → IsTrue result → (p : ℕ) → Contains entry.now.links.items p → Stays into p }
     ensures alone { (there : Edge → Bool) (into : ℕ → List ℕ) → AreLone there into lone.now.none lone.now.stamps.items
         → IsTrue result → AreAlone there into (edges_in entry.now.users) }
 {
-    if !do_stay(plan, entry.links.as_slice()) {
+    if !lone.are_at(entry.links.as_slice()) {
         return false;
     }
     lone.has_all(&entry.users)
@@ -191,16 +189,15 @@ fn are_none(slots: &[Slot]) -> bool
 }
 
 // Whether the entry in the slot, if there is one, is as it is to be with these links.
-fn is_settled(entries: &Table, plan: &[Links], links: &[Slot], lone: &Lone, slot: Slot) -> bool
-    requires lone { AreLone (is_current (memory_of entries.now)) (slots_at plan.now) lone.now.none lone.now.stamps.items }
-    ensures { IsTrue result → IsRelinked (is_current (memory_of entries.now)) (slots_at plan.now) links.now
-        (memory_of entries.now slot) (memory_of entries.now slot) }
+fn is_settled(entries: &Table, links: &[Slot], lone: &Lone, slot: Slot) -> bool
+    ensures { (into : ℕ → List ℕ) → AreLone (is_current (memory_of entries.now)) into lone.now.none lone.now.stamps.items
+        → IsTrue result → IsRelinked (is_current (memory_of entries.now)) into links.now (memory_of entries.now slot) (memory_of entries.now slot) }
 {
     if !are_none(links) {
         return false;
     }
     match entries.pair(slot) {
-        Some((_, entry)) => is_left(plan, lone, entry),
+        Some((_, entry)) => is_left(lone, entry),
         None => false,
     }
 }
@@ -233,39 +230,44 @@ fn relink_at(
     alloc: Global,
     entries: &mut Table,
     plan: &[Links],
-    links: &[Links],
+    links: &[Slot],
     lone: &Lone,
     room: &mut Room,
     slot: Slot,
 ) -> Result<(), AllocError>
     requires lone { AreLone (is_current (memory_of entries.old)) (slots_at plan.now) lone.now.none lone.now.stamps.items }
-    ensures { OnOk result (RelinksAt (slots_at plan.now) (slots_at links.now slot) slot (memory_of entries.old) (memory_of entries.new)) }
+    ensures { OnOk result (RelinksAt (slots_at plan.now) links.now slot (memory_of entries.old) (memory_of entries.new)) }
 {
     if !does_stay(plan, slot) {
         return Ok(());
     }
-    let gained = slots_at(links, slot);
-    if is_settled(entries, plan, gained, lone, slot) {
+    if is_settled(entries, links, lone, slot) {
         return Ok(());
     }
-    relink_one(alloc, entries, plan, gained, lone, room, slot)
+    relink_one(alloc, entries, plan, links, lone, room, slot)
 }
 
-/// Each entry that stays has its links, and is used by those into which its users are folded.
+/// Each entry that stays has its links, and is used by those into which its users are folded. The entries are in these slots, and what
+/// they gain is in the lists of their places.
 pub fn relink(
     alloc: Global,
     entries: &mut Table,
     plan: &[Links],
+    taken: &[Slot],
     links: &[Links],
     lone: &Lone,
     room: &mut Room,
 ) -> Result<(), AllocError>
     requires lone { AreLone (is_current (memory_of entries.old)) (slots_at plan.now) lone.now.none lone.now.stamps.items }
-    ensures { OnOk result (Relinks (slots_at plan.now) (slots_at links.now) (memory_of entries.old) (memory_of entries.new)) }
+    requires taken { AreTaken (memory_of entries.old) taken.now }
+    requires ordered { AreOrdered (get entries.old.places) taken.now }
+    ensures relinked { OnOk result (Relinks (slots_at plan.now) (listed_at (get entries.old.places) links.now)
+        (memory_of entries.old) (memory_of entries.new)) }
+    ensures taken { OnOk result (AreTaken (memory_of entries.new) taken.now) }
 {
-    for number in 0..plan.len() {
-        let slot = small(number)?;
-        relink_at(alloc, entries, plan, links, lone, room, slot)?;
+    for place in 0..taken.len() {
+        let gained = list_at(links, place);
+        relink_at(alloc, entries, plan, gained, lone, room, taken[place])?;
     }
     Ok(())
 }
@@ -293,12 +295,11 @@ fn remove_each(entries: &mut Table, plan: &[Links], taken: &[Slot])
     }
 }
 
-/// What doesn't stay goes, with the memory that it took. An error where memory is wanting.
-pub fn remove_folded(alloc: Global, entries: &mut Table, plan: &[Links]) -> Result<(), AllocError>
-    ensures { OnOk result (Remains (slots_at plan.now) (memory_of entries.old) (memory_of entries.new)) }
+/// What doesn't stay goes, with the memory that it took. The entries are in these slots.
+pub fn remove_folded(entries: &mut Table, plan: &[Links], taken: &[Slot])
+    requires taken { AreTaken (memory_of entries.old) taken.now }
+    ensures { Remains (slots_at plan.now) (memory_of entries.old) (memory_of entries.new) }
 {
-    let taken = taken_of(alloc, entries)?;
-    remove_each(entries, plan, taken.as_slice());
+    remove_each(entries, plan, taken);
     entries.shrink();
-    Ok(())
 }

@@ -1,6 +1,6 @@
 //! Edges that tell of entries which are folded tell of those into which they are.
 
-ghost use Rattle.std.specs.Prelude.{◌≡◌, ◌<◌, ◌∷◌, ◌++◌, [], ℕ, Bool, IfSome, IsTrue, List, OnOk, Some, length, slice_get, true};
+ghost use Rattle.std.specs.Prelude.{◌≡◌, ◌<◌, ◌∷◌, ◌++◌, [], ℕ, Bool, IfOk, IfSome, IsTrue, List, OnOk, Some, length, slice_get, true};
 ghost use Rattle.at_model.specs.Run.{Location};
 ghost use Rattle.at_cache.specs.declared.edge.Edge.{Edge};
 ghost use Rattle.at_cache.specs.Edges.{edges_in};
@@ -22,6 +22,18 @@ use crate::row::Row;
 use crate::table::Table;
 use std::alloc::{AllocError, Global};
 
+// These slots, too: mostly it is one.
+#[inline(always)]
+fn add_slots(slots: &mut Vec<Slot>, more: &[Slot]) -> Result<(), AllocError>
+    ensures { OnOk result (slots.new.items ≡ slots.old.items ++ more.now) }
+{
+    match more {
+        [only] => slots.push(*only)?,
+        _ => slots.extend_from_slice(more)?,
+    }
+    Ok(())
+}
+
 // Gathers the targets of the entry that the edge tells of.
 fn gather_edge(
     entries: &Table,
@@ -40,8 +52,7 @@ fn gather_edge(
     if !entries.is_current(&edge) {
         return Ok(());
     }
-    slots.extend_from_slice(slots_at(plan, edge.slot))?;
-    Ok(())
+    add_slots(slots, slots_at(plan, edge.slot))
 }
 
 // The same of all edges of the row.
@@ -63,15 +74,6 @@ fn gather_row(
     Ok(())
 }
 
-// How many rows the list has.
-fn rows_in(edges: &Edges) -> usize {
-    match edges {
-        Edges::Empty => 0,
-        Edges::Few(_, _, _, _) => 1,
-        Edges::More(rows) => rows.len(),
-    }
-}
-
 // Whether all that the row tells of stays by itself. The room knows then that it stands at that place.
 fn is_kept(lone: &Lone, room: &mut Room, row: &Row, place: usize) -> bool
     ensures alone { (there : Edge → Bool) (into : ℕ → List ℕ) → AreLone there into lone.now.none lone.now.stamps.items
@@ -89,73 +91,29 @@ fn is_kept(lone: &Lone, room: &mut Room, row: &Row, place: usize) -> bool
     true
 }
 
-// The row comes into the new list, if all that it tells of stays by itself, and else the targets are gathered.
-#[inline(always)]
-fn part_row(
-    entries: &Table,
-    plan: &[Links],
-    lone: &Lone,
-    room: &mut Room,
-    rows: &mut Many,
-    row: &Row,
-) -> Result<(), AllocError>
-    requires lone { AreLone (is_current (memory_of entries.now)) (slots_at plan.now) lone.now.none lone.now.stamps.items }
-    ensures { (done : List Edge) → Parted (memory_of entries.now) (slots_at plan.now) done room.old.slots.items (edges_along rows.old.items)
-        → OnOk result (Parted (memory_of entries.now) (slots_at plan.now) (done ++ edges_of row.now) room.new.slots.items (edges_along rows.new.items)) }
-{
-    if !is_kept(lone, room, row, rows.len()) {
-        return gather_row(entries, plan, lone, &mut room.slots, row);
-    }
-    rows.push(*row)?;
-    Ok(())
-}
-
-// The same of all rows of the list.
-fn part_rows(
-    entries: &Table,
-    plan: &[Links],
-    lone: &Lone,
-    room: &mut Room,
-    rows: &mut Many,
-    list: &[Row],
-) -> Result<(), AllocError>
-    requires lone { AreLone (is_current (memory_of entries.now)) (slots_at plan.now) lone.now.none lone.now.stamps.items }
-    ensures { (done : List Edge) → Parted (memory_of entries.now) (slots_at plan.now) done room.old.slots.items (edges_along rows.old.items)
-        → OnOk result (Parted (memory_of entries.now) (slots_at plan.now) (done ++ edges_along list.now) room.new.slots.items (edges_along rows.new.items)) }
-{
-    for row in list {
-        part_row(entries, plan, lone, room, rows, row)?;
-    }
-    Ok(())
-}
-
-// The same of these edges.
+// Rows stay that tell of nothing but what stays by itself; the others go, and their targets are gathered.
 fn part(
     entries: &Table,
     plan: &[Links],
     lone: &Lone,
     room: &mut Room,
     rows: &mut Many,
-    edges: &Edges,
 ) -> Result<(), AllocError>
     requires lone { AreLone (is_current (memory_of entries.now)) (slots_at plan.now) lone.now.none lone.now.stamps.items }
-    ensures { (done : List Edge) → Parted (memory_of entries.now) (slots_at plan.now) done room.old.slots.items (edges_along rows.old.items)
-        → OnOk result (Parted (memory_of entries.now) (slots_at plan.now) (done ++ edges_in edges.now) room.new.slots.items (edges_along rows.new.items)) }
+    ensures { room.old.slots.items ≡ [] → OnOk result (Parted (memory_of entries.now) (slots_at plan.now) (edges_along rows.old.items)
+        room.new.slots.items (edges_along rows.new.items)) }
 {
-    match edges {
-        Edges::Empty => Ok(()),
-        Edges::Few(count, step, slot, stamp) => {
-            part_row(
-                entries,
-                plan,
-                lone,
-                room,
-                rows,
-                &Row::few(*count, *step, *slot, *stamp),
-            )
+    let mut place = 0;
+    while place < rows.len() {
+        let row = rows.as_slice()[place];
+        if is_kept(lone, room, &row, place) {
+            place += 1;
+        } else {
+            gather_row(entries, plan, lone, &mut room.slots, &row)?;
+            rows.swap_remove(place);
         }
-        Edges::More(list) => part_rows(entries, plan, lone, room, rows, list.as_slice()),
     }
+    Ok(())
 }
 
 // One more edge, unless it is there.
@@ -196,20 +154,80 @@ fn add_edge_to(
     }
 }
 
+// The same, with no look-up where what is in the slot stays by itself.
+fn add_edge_into(
+    entries: &Table,
+    lone: &Lone,
+    room: &mut Room,
+    rows: &mut Many,
+    slot: Slot,
+) -> Result<(), AllocError>
+    ensures added { (into : ℕ → List ℕ) (kept : List Edge) (slots : List ℕ)
+        → AreLone (is_current (memory_of entries.now)) into lone.now.none lone.now.stamps.items
+        → Added (memory_of entries.now) kept slots (edges_along rows.old.items)
+        → OnOk result (Added (memory_of entries.now) kept (slots ++ slot ∷ []) (edges_along rows.new.items)) }
+    ensures slots { room.new.slots ≡ room.old.slots }
+{
+    match lone.edge_to(slot) {
+        Some(edge) => add_edge(entries, room, rows, edge),
+        None => add_edge_to(entries, room, rows, slot),
+    }
+}
+
 // The same of all slots that are gathered.
-fn add_edges_to(entries: &Table, room: &mut Room, rows: &mut Many) -> Result<(), AllocError>
-    ensures { OnOk result (Added (memory_of entries.now) (edges_along rows.old.items) room.old.slots.items (edges_along rows.new.items)) }
+fn add_edges_to(
+    entries: &Table,
+    lone: &Lone,
+    room: &mut Room,
+    rows: &mut Many,
+) -> Result<(), AllocError>
+    ensures { (into : ℕ → List ℕ) → AreLone (is_current (memory_of entries.now)) into lone.now.none lone.now.stamps.items
+        → OnOk result (Added (memory_of entries.now) (edges_along rows.old.items) room.old.slots.items (edges_along rows.new.items)) }
 {
     for number in 0..room.slots.len() {
         let slot = room.slots[number];
-        add_edge_to(entries, room, rows, slot)?;
+        add_edge_into(entries, lone, room, rows, slot)?;
     }
     Ok(())
 }
 
-// The list is made anew, and tells of those into which the entries are folded of which it told: rows whose edges all tell of what stays by
-// itself are as they were.
-fn make_anew(
+// The rows tell of those into which the entries are folded of which they told.
+fn change_rows(
+    entries: &Table,
+    plan: &[Links],
+    lone: &Lone,
+    room: &mut Room,
+    rows: &mut Many,
+) -> Result<(), AllocError>
+    requires lone { AreLone (is_current (memory_of entries.now)) (slots_at plan.now) lone.now.none lone.now.stamps.items }
+    ensures { OnOk result (Refolded (is_current (memory_of entries.now)) (slots_at plan.now) (edges_along rows.old.items) (edges_along rows.new.items)) }
+{
+    room.slots.clear();
+    part(entries, plan, lone, room, rows)?;
+    room.slots.sort_unstable();
+    add_edges_to(entries, lone, room, rows)
+}
+
+// The edges that come in the place of a row.
+fn change_row(
+    alloc: Global,
+    entries: &Table,
+    plan: &[Links],
+    lone: &Lone,
+    room: &mut Room,
+    row: Row,
+) -> Result<Edges, AllocError>
+    requires lone { AreLone (is_current (memory_of entries.now)) (slots_at plan.now) lone.now.none lone.now.stamps.items }
+    ensures { IfOk result (λ edges. Refolded (is_current (memory_of entries.now)) (slots_at plan.now) (edges_of row) (edges_in edges)) }
+{
+    let mut rows = Many::new(alloc);
+    rows.push(row)?;
+    change_rows(entries, plan, lone, room, &mut rows)?;
+    Edges::of_rows(alloc, rows)
+}
+
+// The list tells of those into which the entries are folded of which it told. A list in a block stays there.
+fn change_edges(
     alloc: Global,
     entries: &Table,
     plan: &[Links],
@@ -220,12 +238,31 @@ fn make_anew(
     requires lone { AreLone (is_current (memory_of entries.now)) (slots_at plan.now) lone.now.none lone.now.stamps.items }
     ensures { OnOk result (Refolded (is_current (memory_of entries.now)) (slots_at plan.now) (edges_in edges.old) (edges_in edges.new)) }
 {
-    room.slots.clear();
-    let mut rows = Many::with_capacity(alloc, rows_in(edges))?;
-    part(entries, plan, lone, room, &mut rows, edges)?;
-    room.slots.sort_unstable();
-    add_edges_to(entries, room, &mut rows)?;
-    *edges = Edges::of_rows(alloc, rows)?;
+    match edges {
+        Edges::Empty => Ok(()),
+        Edges::Few(count, step, slot, stamp) => {
+            let row = Row::few(*count, *step, *slot, *stamp);
+            *edges = change_row(alloc, entries, plan, lone, room, row)?;
+            Ok(())
+        }
+        Edges::More(rows) => change_rows(entries, plan, lone, room, rows),
+    }
+}
+
+// So it does, in no more memory than it needs.
+fn change_and_shrink(
+    alloc: Global,
+    entries: &Table,
+    plan: &[Links],
+    lone: &Lone,
+    room: &mut Room,
+    edges: &mut Edges,
+) -> Result<(), AllocError>
+    requires lone { AreLone (is_current (memory_of entries.now)) (slots_at plan.now) lone.now.none lone.now.stamps.items }
+    ensures { OnOk result (Refolded (is_current (memory_of entries.now)) (slots_at plan.now) (edges_in edges.old) (edges_in edges.new)) }
+{
+    change_edges(alloc, entries, plan, lone, room, edges)?;
+    edges.shrink();
     Ok(())
 }
 
@@ -296,7 +333,7 @@ fn change_list(
             *edges = new;
             Ok(())
         }
-        None => make_anew(alloc, entries, plan, lone, room, edges),
+        None => change_and_shrink(alloc, entries, plan, lone, room, edges),
     }
 }
 

@@ -20,10 +20,8 @@ pub struct Room {
 impl Room {
     /// Room for lists with edges to so many slots.
     pub fn new(alloc: Global, count: usize) -> Result<Room, AllocError> {
-        let mut places = Vec::with_capacity(alloc, count)?;
-        for _ in 0..count {
-            places.push(0)?;
-        }
+        let mut places = Vec::new(alloc);
+        places.resize(count, 0)?;
         Ok(Room {
             slots: Vec::new(alloc),
             places,

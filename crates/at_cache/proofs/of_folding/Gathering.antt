@@ -1,18 +1,17 @@
 -- What is gathered for a list, and the list that is made of it.
-use Rattle.std.proofs.Common.{◌≡◌, ◌⊎◌, inl, inr, ℕ, List, [], ◌∷◌, ◌++◌, Bool, true, false, true≢false, nat_eq, Option, None, Some, Contains, length, slice_get, refl, sym, ap, ◌∙◌, subst, eqb-true}
+use Rattle.std.proofs.Common.{◌≡◌, ◌⊎◌, inl, inr, ℕ, zero, suc, List, [], ◌∷◌, ◌++◌, Bool, true, false, true≢false, nat_eq, Option, None, Some, Contains, length, replicate, slice_get, take, refl, sym, ap, ◌∙◌, subst, arith, eqb-true}
 use Rattle.std.specs.List.{list_any}
 use Rattle.std.proofs.lemmas.Bool.{eq-eqb}
 use Rattle.std.proofs.lemmas.Option.{none-some, same_Some}
 use Rattle.std.proofs.lemmas.List.Elements.{Contains-append_cases, Contains-append_left, Contains-append_right}
 use Rattle.slab.proofs.SlabLemmas.{Contains-cons_cases}
 use Rattle.at_cache.specs.declared.edge.Edge.{Edge}
-use Rattle.at_cache.specs.Folding.{AreAlone, AreLone, Gathered, HasUser, IsLone, Refolded, Stays, Tells}
+use Rattle.at_cache.specs.Folding.{AreAlone, AreLone, Gathered, HasUser, Refolded, Stays, Tells}
 use Rattle.at_cache.specs.Info.{Info, Memory}
 use Rattle.at_cache.specs.Putting.{is_current}
 use Rattle.at_cache.proofs.Dooming.{head_of}
 use Rattle.at_cache.proofs.Ending.{any_of, some_of}
 use Rattle.at_cache.proofs.Listing.{current}
-use Rattle.at_cache.proofs.Lists.{get_push}
 use Rattle.at_cache.proofs.Taking.{none_in}
 
 -- a number is one of these, by a test and back
@@ -111,16 +110,38 @@ module _ (there : Edge → Bool) (into : ℕ → List ℕ) where
     | inr (told, only) ↦ (subst (λ n. there (record { slot = x.slot; stamp = n }) ≡ true) (eqb-true number x.stamp same) told, only)
   ]
 
-  -- the numbers of no slots, and of one more
-  pub lone_none : (none : ℕ) (numbers : List ℕ) → numbers ≡ [] → AreLone there into none numbers
-  lone_none none numbers empty s x found = absurd (none-some x (ap (λ xs. slice_get xs s) (sym empty) ∙ found))
-
-  pub lone_push : (none : ℕ) (numbers new : List ℕ) (slot number : ℕ) → slot ≡ length numbers → new ≡ numbers ++ number ∷ [] → IsLone there into none slot number
-      → AreLone there into none numbers → AreLone there into none new
-  lone_push none numbers new slot number next is one lone s x found = elim (get_push numbers number s x (ap (λ xs. slice_get xs s) (sym is) ∙ found)) [
-    | inl old ↦ lone s x old
-    | inr (last, same) ↦ subst (λ k. IsLone there into none k x) (next ∙ sym last) (subst (IsLone there into none slot) same one)
+  -- where another number stands than that for none, what is in the slot stays
+  pub lone_stays : (none : ℕ) (numbers : List ℕ) (slot number : ℕ) → AreLone there into none numbers → slice_get numbers slot ≡ Some number
+      → nat_eq number none ≡ false → Stays into slot
+  lone_stays none numbers slot number lone is differs = elim (lone slot number is) [
+    | inl nothing ↦ absurd (true≢false (sym (eq-eqb number none nothing) ∙ differs))
+    | inr (told, only) ↦ subst (λ xs. Contains xs slot) (sym only) (head_of slot [])
   ]
+
+  -- it has an edge with that number
+  pub lone_edge : (none : ℕ) (numbers : List ℕ) (slot number : ℕ) → AreLone there into none numbers → slice_get numbers slot ≡ Some number
+      → (number ≡ none → ⊥) → there (record { slot = slot; stamp = number }) ≡ true
+  lone_edge none numbers slot number lone is differs = elim (lone slot number is) [
+    | inl nothing ↦ absurd (differs nothing)
+    | inr (told, only) ↦ told
+  ]
+
+  -- numbers that stand for no entries
+  pub lone_fill : (none count left : ℕ) (old new : List ℕ) → old ≡ [] → new ≡ take count old ++ replicate left none → AreLone there into none new
+  lone_fill none count left old new empty is s x found = inl (filled left s (ap (λ (xs : List ℕ). slice_get xs s) (sym whole) ∙ found))
+    where
+      nothing : (n : ℕ) (xs : List ℕ) → xs ≡ [] → take n xs ≡ []
+      nothing zero xs h = refl
+      nothing (suc n) [] h = refl
+      nothing (suc n) (y ∷ ys) h = absurd (let long = ap length h in omega (arith, long))
+
+      whole : new ≡ replicate left none
+      whole = is ∙ ap (λ (xs : List ℕ). xs ++ replicate left none) (nothing count old empty)
+
+      filled : (n k : ℕ) → slice_get (replicate n none) k ≡ Some x → x ≡ none
+      filled zero k h = absurd (none-some x h)
+      filled (suc n) zero h = sym (same_Some none x h)
+      filled (suc n) (suc k) h = filled n k h
 
 -- a list whose edges all tell of such as stay is as it was
 pub refolded_alone : (m : Memory) (into : ℕ → List ℕ) (xs : List Edge) → AreAlone (is_current m) into xs → Refolded (is_current m) into xs xs

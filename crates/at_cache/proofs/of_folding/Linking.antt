@@ -5,7 +5,7 @@ use Rattle.std.proofs.lemmas.Option.{none-some, same_Some}
 use Rattle.std.proofs.lemmas.List.Elements.{Contains-append_cases, Contains-append_left, Contains-append_right, Contains-push, Contains-push_cases}
 use Rattle.smallvec.specs.SmallVec.{SmallVec}
 use Rattle.at_cache.specs.declared.edge.Edge.{Edge}
-use Rattle.at_cache.specs.Folding.{AreLinks, HasLinked, HasUsed, IsLeft, IsRelinked, Linked, LinkedTo, Refolded, Relinks, RelinksAt, Remains, RemovesAt, Stays, relinked, slots_at}
+use Rattle.at_cache.specs.Folding.{AreLinks, HasLinked, HasUsed, IsLeft, IsRelinked, Linked, LinkedTo, Refolded, Relinks, RelinksAt, Remains, RemovesAt, Stays, listed_at, relinked, slots_at}
 use Rattle.at_cache.specs.Info.{Info, Memory}
 use Rattle.at_cache.specs.Putting.{is_current, reused, users_at}
 use Rattle.at_cache.proofs.Dooming.{head_of}
@@ -94,6 +94,43 @@ module _ {into : ℕ → List ℕ} where
 
       off : (k : ℕ) → (k ≡ r → ⊥) → slots_at new k ≡ slots_at old k
       off k differs = ap list_of (ap (λ xs. slice_get xs k) is ∙ get_other old r k now differs)
+
+-- lists by places: empty ones, and another one at that of the target
+pub listed_none : (places : ℕ → Option ℕ) (lists : List (SmallVec ℕ)) → ((p : ℕ) → slots_at lists p ≡ []) → (s : ℕ) → listed_at places lists s ≡ []
+listed_none places lists none s = by (places s)
+  where
+    by : (o : Option ℕ) → (elim o as (λ _. List ℕ) [ None ↦ [] | Some p ↦ slots_at lists p ]) ≡ []
+    by None = refl
+    by (Some p) = none p
+
+pub listed_place : (places : ℕ → Option ℕ) (lists : List (SmallVec ℕ)) (s p : ℕ) → places s ≡ Some p → listed_at places lists s ≡ slots_at lists p
+listed_place places lists s p is = ap (λ (o : Option ℕ). elim o as (λ _. List ℕ) [ None ↦ [] | Some q ↦ slots_at lists q ]) is
+
+pub listed_to : {into : ℕ → List ℕ} (places : ℕ → Option ℕ) (old new : List (SmallVec ℕ)) (r p : ℕ) (links : List ℕ) → places r ≡ Some p
+    → ((k : ℕ) → places k ≡ Some p → k ≡ r) → LinkedTo into (p ∷ []) links (slots_at old) (slots_at new)
+    → LinkedTo into (r ∷ []) links (listed_at places old) (listed_at places new)
+listed_to {into} places old new r p links is one a = record {
+  kept = λ k x c. kept (places k) refl x c;
+  has = λ k x c d s.
+      let same : k ≡ r = only_one r k c in
+      subst (λ xs. Contains xs x) (sym (ap (listed_at places new) same ∙ listed_place places new r p is)) (a.has p x (head_of p []) d s);
+  from = λ k x c. from k (places k) refl x c;
+}
+  where
+    kept : (o : Option ℕ) → {k : ℕ} → places k ≡ o → (x : ℕ) → Contains (listed_at places old k) x → Contains (listed_at places new k) x
+    kept None {k} none x c = absurd (none_in x (subst (λ xs. Contains xs x) (ap (λ (o : Option ℕ). elim o as (λ _. List ℕ) [ None ↦ [] | Some q ↦ slots_at old q ]) none) c))
+    kept (Some q) {k} at x c =
+        subst (λ xs. Contains xs x) (sym (listed_place places new k q at)) (a.kept q x (subst (λ xs. Contains xs x) (listed_place places old k q at) c))
+
+    from : (k : ℕ) (o : Option ℕ) → places k ≡ o → (x : ℕ) → Contains (listed_at places new k) x
+        → Contains (listed_at places old k) x ⊎ (Contains (r ∷ []) k × Stays into x × Contains links x)
+    from k None none x c = absurd (none_in x (subst (λ xs. Contains xs x) (ap (λ (o : Option ℕ). elim o as (λ _. List ℕ) [ None ↦ [] | Some q ↦ slots_at new q ]) none) c))
+    from k (Some q) at x c = elim (a.from q x (subst (λ xs. Contains xs x) (listed_place places new k q at) c)) [
+      | inl d ↦ inl (subst (λ xs. Contains xs x) (sym (listed_place places old k q at)) d)
+      | inr (e, s, d) ↦
+          let same : k ≡ r = one k (at ∙ ap Some (only_one p q e)) in
+          inr (subst (Contains (r ∷ [])) (sym same) (head_of r []), s, d)
+    ]
 
 -- one empty list more
 pub none_pushed : (xs : List (SmallVec ℕ)) (new : List (SmallVec ℕ)) (v : SmallVec ℕ) → new ≡ xs ++ v ∷ [] → v.items ≡ [] → ((r : ℕ) → slots_at xs r ≡ []) → (r : ℕ) → slots_at new r ≡ []

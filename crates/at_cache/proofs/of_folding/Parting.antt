@@ -1,9 +1,11 @@
 -- What is kept of a list that is made anew, and the edges that are added.
-use Rattle.std.proofs.Common.{◌≡◌, ◌⊎◌, inl, inr, ℕ, ◌<◌, ◌+◌, List, [], ◌∷◌, ◌++◌, true, None, Contains, IsPermutation, get_or, take, length, sym, ap, ◌∙◌, subst, append_assoc}
-use Rattle.std.proofs.lemmas.List.{take_more}
-use Rattle.std.proofs.lemmas.List.Elements.{Contains-append_cases, Contains-append_left, Contains-append_right, Contains-push, Contains-push_cases}
-use Rattle.std.proofs.lemmas.List.Sorted.{Contains-permutation, IsPermutation-sym}
-use Rattle.std.proofs.lemmas.Option.{none-some}
+use Rattle.std.proofs.Common.{◌≡◌, ◌⊎◌, inl, inr, ℕ, ◌<◌, ◌≤◌, ◌+◌, ◌-◌, List, [], ◌∷◌, ◌++◌, true, None, Some, Contains, IsPermutation, get_or, slice_get, swap_remove, take, length, sym, ap, ◌∙◌, subst, arith}
+use Rattle.std.proofs.lemmas.Bool.{cases_eq, cases_lt}
+use Rattle.std.proofs.lemmas.List.{get_or_default, take_more}
+use Rattle.std.proofs.lemmas.List.Elements.{Contains-append_left, Contains-push, Contains-push_cases}
+use Rattle.std.proofs.lemmas.List.Sorted.{Contains-permutation, IsPermutation-swap_remove, IsPermutation-sym}
+use Rattle.std.proofs.lemmas.Option.{none-some, same_Some}
+use Rattle.slab.proofs.SlabLemmas.{Contains-cons, Contains-cons_cases}
 use Rattle.at_cache.specs.declared.edge.Edge.{Edge}
 use Rattle.at_cache.specs.declared.row.Row.{Row}
 use Rattle.at_cache.specs.Folding.{Added, AreAlone, Gathered, HasUser, Parted, Refolded}
@@ -11,63 +13,105 @@ use Rattle.at_cache.specs.Info.{Memory}
 use Rattle.at_cache.specs.Putting.{Lists, is_current}
 use Rattle.at_cache.specs.Rows.{edges_along, edges_of}
 use Rattle.at_cache.proofs.Dooming.{head_of}
+use Rattle.at_cache.proofs.Moving.{got, past, stayed}
+use Rattle.at_cache.proofs.RowLists.{along_from, along_has, along_to}
 use Rattle.at_cache.proofs.Taking.{none_in}
 use Rattle.at_cache.proofs.of_folding.Gathering.{only_one, told, told_same, user_of}
-use Rattle.at_cache.proofs.of_folding.Walking.{row_more}
 
 module _ (m : Memory) (into : ℕ → List ℕ) where
-  wider : (xs ys : List Edge) (r : ℕ) → HasUser (is_current m) into xs r → HasUser (is_current m) into (xs ++ ys) r
-  wider xs ys r = user_of (is_current m) into xs (xs ++ ys) r (λ x c. Contains-append_left xs ys x c)
+  -- Of some edges those are in the rows that stay by the rows before the place, and others; of what went the targets are gathered.
+  pub record PartedTo (start : List Edge) (rows : List Row) (place : ℕ) (slots : List ℕ) : Type 0 where
+    pub has : (x y : Edge) → Contains start x → is_current m x ≡ true → Contains (into x.slot) y.slot → is_current m y ≡ true
+        → Contains (edges_along rows) x ⊎ Contains slots y.slot
+    pub from : (x : Edge) → Contains (edges_along rows) x → Contains start x
+    pub alone : (k : ℕ) (r : Row) → k < place → slice_get rows k ≡ Some r → AreAlone (is_current m) into (edges_of r)
+    pub users : (r : ℕ) → Contains slots r → HasUser (is_current m) into start r
 
-  -- of no edges
-  pub parted_none : (slots : List ℕ) (kept : List Edge) → slots ≡ [] → kept ≡ [] → Parted m into [] slots kept
-  parted_none slots kept no_slots no_edges = record {
-    has = λ x y c is d k. absurd (none_in x c);
-    from = λ y c. absurd (none_in y (subst (λ es. Contains es y) no_edges c));
-    users = λ r c. absurd (none_in r (subst (λ rs. Contains rs r) no_slots c));
+  pub parted_start : (rows : List Row) (slots : List ℕ) → slots ≡ [] → PartedTo (edges_along rows) rows 0 slots
+  parted_start rows slots none = record {
+    has = λ x y c is d k. inl c;
+    from = λ x c. c;
+    alone = λ k r less. absurd (omega (arith, less));
+    users = λ r c. absurd (none_in r (subst (λ rs. Contains rs r) none c));
   }
 
-  -- more edges, which are kept
-  pub parted_kept : (edges more : List Edge) (slots : List ℕ) (kept new : List Edge) → new ≡ kept ++ more → AreAlone (is_current m) into more
-      → Parted m into edges slots kept → Parted m into (edges ++ more) slots new
-  parted_kept edges more slots kept new so alone p = record {
-    has = λ x y c is d k. elim (Contains-append_cases edges more x c) [
-      | inl e ↦ elim (p.has x y e is d k) [
-        | inl f ↦ inl (subst (λ es. Contains es y) (sym so) (Contains-append_left kept more y f))
-        | inr f ↦ inr f
+  -- the row at the place stays
+  pub parted_stays : (start : List Edge) (rows read : List Row) (place : ℕ) (d : Row) (slots : List ℕ) → place < length rows → read ≡ rows
+      → AreAlone (is_current m) into (edges_of (get_or read place d)) → PartedTo start rows place slots → PartedTo start rows (place + 1) slots
+  parted_stays start rows read place d slots less same here p = record {
+    has = p.has;
+    from = p.from;
+    alone = λ k r under is. elim (cases_eq k place) [
+      | inl one ↦
+          let it : get_or read place d ≡ r = ap (λ (rs : List Row). get_or rs place d) same ∙ same_Some _ r (sym (got rows place d less) ∙ ap (slice_get rows) (sym one) ∙ is) in
+          subst (λ (w : Row). AreAlone (is_current m) into (edges_of w)) it here
+      | inr differs ↦ p.alone k r (below k under differs) is
+    ];
+    users = p.users;
+  }
+    where
+      below : (k : ℕ) → k < place + 1 → (k ≡ place → ⊥) → k < place
+      below k under differs = elim (cases_lt k place) [ inl is ↦ is | inr over ↦ absurd (differs (omega (arith, under, over))) ]
+
+  -- it goes, and its targets are gathered
+  pub parted_goes : (start : List Edge) (rows read new : List Row) (place : ℕ) (r d : Row) (old slots : List ℕ) → place < length rows → read ≡ rows
+      → r ≡ get_or rows place r → new ≡ swap_remove rows place r → Gathered (is_current m) into (edges_of (get_or read place d)) old slots
+      → PartedTo start rows place old → PartedTo start new place slots
+  parted_goes start rows read new place r d old slots less same is swapped gathered p = record {
+    has = λ x y c there e k. elim (p.has x y c there e k) [
+      | inl f ↦
+          let (row, g, h) = along_from edges_of rows x f in
+          elim (Contains-cons_cases r row new (Contains-permutation rows (r ∷ new) row shuffled g)) [
+            | inl one ↦ inr (g_all.has x y.slot (subst (λ (w : Row). Contains (edges_of w) x) (sym one) h) there e)
+            | inr rest ↦ inl (along_to edges_of new row x rest h)
+          ]
+      | inr f ↦ inr (g_all.kept y.slot f)
+    ];
+    from = λ x c. p.from x (stands x c);
+    alone = λ k row under at. p.alone k row under (sym (left k under row at) ∙ at);
+    users = λ t c. elim (g_all.from t c) [
+      | inl before ↦ p.users t before
+      | inr u ↦ user_of (is_current m) into (edges_of r) start t (λ x e. p.from x (along_has rows place r x (got rows place r less ∙ ap Some (sym is)) e)) u
+    ];
+  }
+    where
+      shuffled : IsPermutation rows (r ∷ new)
+      shuffled = subst (λ ys. IsPermutation rows (r ∷ ys)) (sym swapped) (IsPermutation-swap_remove rows place r less is)
+
+      g_all : Gathered (is_current m) into (edges_of r) old slots
+      g_all = subst (λ (w : Row). Gathered (is_current m) into (edges_of w) old slots)
+          (ap (λ (rs : List Row). get_or rs place d) same ∙ sym (get_or_default rows place r d less) ∙ sym is) gathered
+
+      stands : (x : Edge) → Contains (edges_along new) x → Contains (edges_along rows) x
+      stands x c =
+          let (row, e, f) = along_from edges_of new x c in
+          along_to edges_of rows row x (Contains-permutation (r ∷ new) rows row (IsPermutation-sym rows (r ∷ new) shuffled) (Contains-cons r row new e)) f
+
+      left : (k : ℕ) → k < place → (row : Row) → slice_get new k ≡ Some row → slice_get new k ≡ slice_get rows k
+      left k under row at = elim (cases_lt k (length rows - 1)) [
+        | inl before ↦ ap (λ (rs : List Row). slice_get rs k) swapped ∙ stayed rows place r less k before (λ one. absurd (omega (arith, under, one)))
+        | inr behind ↦ absurd (none-some row (sym (ap (λ (rs : List Row). slice_get rs k) swapped ∙ past rows place r less k behind) ∙ at))
       ]
-      | inr e ↦
-          let same : y.slot ≡ x.slot = only_one x.slot y.slot (subst (λ rs. Contains rs y.slot) ((alone x e).1) d) in
-          inl (subst (λ es. Contains es y) (sym so) (Contains-append_right kept more y (subst (Contains more) (told_same m x y is k (sym same)) e)))
-    ];
-    from = λ y c. elim (Contains-append_cases kept more y (subst (λ es. Contains es y) so c)) [
-      | inl e ↦ let (is, u) = p.from y e in (is, wider edges more y.slot u)
-      | inr e ↦ let (is, only) = alone y e in (is, (y, Contains-append_right edges more y e, is, subst (λ rs. Contains rs y.slot) (sym only) (head_of y.slot [])))
-    ];
-    users = λ r c. wider edges more r (p.users r c);
-  }
 
-  -- more edges, whose targets are gathered
-  pub parted_gathered : (edges more : List Edge) (old new : List ℕ) (kept : List Edge) → Gathered (is_current m) into more old new
-      → Parted m into edges old kept → Parted m into (edges ++ more) new kept
-  parted_gathered edges more old new kept g p = record {
-    has = λ x y c is d k. elim (Contains-append_cases edges more x c) [
-      | inl e ↦ elim (p.has x y e is d k) [ inl f ↦ inl f | inr f ↦ inr (g.kept y.slot f) ]
-      | inr e ↦ inr (g.has x y.slot e is d)
+  -- it stands behind all rows
+  pub parted_end : (start : List Edge) (rows : List Row) (place : ℕ) (slots : List ℕ) → length rows ≤ place → PartedTo start rows place slots
+      → Parted m into start slots (edges_along rows)
+  parted_end start rows place slots all p = record {
+    has = λ x y c is d k. elim (p.has x y c is d k) [
+      | inl e ↦
+          let same : y.slot ≡ x.slot = only_one x.slot y.slot (subst (λ rs. Contains rs y.slot) ((each x e).1) d) in
+          inl (subst (Contains (edges_along rows)) (told_same m x y is k (sym same)) e)
+      | inr e ↦ inr e
     ];
-    from = λ y c. let (is, u) = p.from y c in (is, wider edges more y.slot u);
-    users = λ r c. elim (g.from r c) [
-      | inl d ↦ wider edges more r (p.users r d)
-      | inr u ↦ user_of (is_current m) into more (edges ++ more) r (λ x e. Contains-append_right edges more x e) u
-    ];
+    from = λ y c. let (is, only) = each y c in (is, (y, p.from y c, is, subst (λ rs. Contains rs y.slot) (sym only) (head_of y.slot [])));
+    users = p.users;
   }
-
-  -- one row more
-  pub parted_row : (edges : List Edge) (rows : List Row) (i : ℕ) (d : Row) (slots : List ℕ) (kept : List Edge) → i < length rows
-      → Parted m into ((edges ++ edges_along (take i rows)) ++ edges_of (get_or rows i d)) slots kept → Parted m into (edges ++ edges_along (take (i + 1) rows)) slots kept
-  parted_row edges rows i d slots kept less p =
-      subst (λ es. Parted m into es slots kept)
-      (append_assoc edges (edges_along (take i rows)) (edges_of (get_or rows i d)) ∙ ap (λ es. edges ++ es) (sym (row_more rows i d less))) p
+    where
+      each : (x : Edge) → Contains (edges_along rows) x → (is_current m x ≡ true) × (into x.slot ≡ x.slot ∷ [])
+      each x c =
+          let (r, d, e) = along_from edges_of rows x c in
+          let (k, less, at) = d in
+          p.alone k r (omega (arith, less, all)) (got rows k r less ∙ ap Some at) x e
 
   -- with edges to what is gathered that is the new list
   pub refolded_parted : (xs : List Edge) (slots sorted : List ℕ) (kept new : List Edge) → IsPermutation slots sorted → Parted m into xs slots kept

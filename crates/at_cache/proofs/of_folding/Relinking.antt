@@ -1,19 +1,17 @@
 -- The memory in which entries are linked anew, and those are gone that don't stay.
-use Rattle.std.proofs.Common.{◌≡◌, ◌⊎◌, inl, inr, ℕ, zero, suc, ◌<◌, ◌≤◌, ◌+◌, List, [], ◌∷◌, Bool, true, false, nat_eq, length, Option, None, Some, true≢false, is_some, IsSome, IfNone, OnSome, option_map, if◌then◌else◌, cond, Contains, slice_get, slice_index_or, refl, sym, ap, ◌∙◌, subst, arith, eqb-true}
+use Rattle.std.proofs.Common.{◌≡◌, ◌⊎◌, inl, inr, ℕ, zero, suc, ◌<◌, ◌≤◌, ◌+◌, List, [], ◌∷◌, Bool, true, false, nat_eq, length, Option, None, Some, true≢false, is_some, IsSome, IfNone, OnSome, option_map, if◌then◌else◌, cond, Contains, get_or, slice_get, slice_index_or, refl, sym, ap, ◌∙◌, subst, arith, eqb-true}
 use Rattle.std.proofs.lemmas.Bool.{cases_eq, cases_lt, eq-eqb}
 use Rattle.std.proofs.lemmas.Option.{none-some, same_Some}
 use Rattle.slab.specs.Slab.{Slab, get}
-use Rattle.smallvec.specs.SmallVec.{SmallVec}
 use Rattle.at_cache.specs.declared.edge.Edge.{Edge}
 use Rattle.at_cache.specs.declared.table.Table.{Table}
-use Rattle.at_cache.specs.Folding.{AreAlone, IsRelinked, Linked, Refolded, Relinks, RelinksAt, Remains, RemovesAt, Stays, relinked, slots_at}
+use Rattle.at_cache.specs.Folding.{AreAlone, AreOrdered, AreTaken, IsRelinked, Linked, Refolded, Relinks, RelinksAt, Remains, RemovesAt, Stays, relinked}
 use Rattle.at_cache.specs.Info.{Info, Memory, info, memory_of}
 use Rattle.at_cache.specs.Placed.{at}
 use Rattle.at_cache.specs.Putting.{is_current, reused, users_at, with_users}
-use Rattle.at_cache.proofs.Moving.{at_none, within}
+use Rattle.at_cache.proofs.Moving.{at_none, got, within}
 use Rattle.at_cache.proofs.Taking.{none_in}
 use Rattle.at_cache.proofs.of_folding.Gathering.{refolded_alone}
-use Rattle.at_cache.proofs.of_folding.Linking.{planned}
 
 -- what is written at one slot
 at_slot : (k s : ℕ) (a b : Option Info) → k ≡ s → (if nat_eq k s then a else b) ≡ a
@@ -122,37 +120,79 @@ module _ {into : ℕ → List ℕ} where
         subst (λ us. Refolded (is_current m) into us later) (were ∙ ap (λ (o : Option Info). elim o [ None ↦ [] | Some f ↦ f.users ]) is) (subst (λ t. Refolded t into users later) same lists),
       )
 
--- The entries in the first slots are linked anew.
-pub record RelinksBelow (into links : ℕ → List ℕ) (n : ℕ) (old new : Memory) : Type 0 where
-  pub done : (k : ℕ) → k < n → Stays into k → IsRelinked (is_current old) into (links k) (old k) (new k)
-  pub todo : (k : ℕ) → n ≤ k → new k ≡ old k
+-- The entries in the first ones of these slots are linked anew.
+pub record RelinksBelow (into links : ℕ → List ℕ) (slots : List ℕ) (n : ℕ) (old new : Memory) : Type 0 where
+  pub done : (i k : ℕ) → i < n → slice_get slots i ≡ Some k → Stays into k → IsRelinked (is_current old) into (links k) (old k) (new k)
+  pub todo : (k : ℕ) → ((i : ℕ) → i < n → slice_get slots i ≡ Some k → ⊥) → new k ≡ old k
   pub current : (x : Edge) → is_current new x ≡ is_current old x
 
-module _ {into links : ℕ → List ℕ} where
-  pub relinks_start : (m : Memory) → RelinksBelow into links 0 m m
-  relinks_start m = record { done = λ k less. absurd (omega (arith, less)); todo = λ k over. refl; current = λ x. refl }
+-- where edges tell of the same there are no other entries
+no_more : (old new : Memory) → ((x : Edge) → is_current new x ≡ is_current old x) → (k : ℕ) → old k ≡ None → new k ≡ None
+no_more old new current k none = by (new k) refl
+  where
+    by : (o : Option Info) → new k ≡ o → new k ≡ None
+    by None is = is
+    by (Some f) is =
+        let told : is_current new (record { slot = k; stamp = f.stamp }) ≡ true =
+        ap (λ o. elim o as (λ _. Bool) [ None ↦ false | Some e ↦ nat_eq e.stamp f.stamp ]) is ∙ eq-eqb f.stamp f.stamp refl in
+        let gone : is_current old (record { slot = k; stamp = f.stamp }) ≡ false =
+        ap (λ o. elim o as (λ _. Bool) [ None ↦ false | Some e ↦ nat_eq e.stamp f.stamp ]) none in
+        absurd (true≢false (sym told ∙ current (record { slot = k; stamp = f.stamp }) ∙ gone))
 
-  pub relinks_more : (n : ℕ) (m mid new : Memory) → RelinksBelow into links n m mid → RelinksAt into (links n) n mid new → RelinksBelow into links (n + 1) m new
-  relinks_more n m mid new a b = record {
-    done = λ k less stays. elim (cases_eq k n) [
-      | inl same ↦ subst (λ j. IsRelinked (is_current m) into (links j) (m j) (new j)) (sym same) (here (subst (Stays into) same stays))
-      | inr differs ↦ subst (IsRelinked (is_current m) into (links k) (m k)) (sym (b.others k differs)) (a.done k (below k less differs) stays)
+module _ {into links : ℕ → List ℕ} (slots : List ℕ) where
+  pub relinks_start : (m : Memory) → RelinksBelow into links slots 0 m m
+  relinks_start m = record { done = λ i k less. absurd (omega (arith, less)); todo = λ k none. refl; current = λ x. refl }
+
+  pub relinks_more : (places : ℕ → Option ℕ) (n d : ℕ) (m mid new : Memory) → n < length slots → AreOrdered places slots → RelinksBelow into links slots n m mid
+      → RelinksAt into (links (get_or slots n d)) (get_or slots n d) mid new → RelinksBelow into links slots (n + 1) m new
+  relinks_more places n d m mid new less ordered a b = record {
+    done = λ i k under is stays. elim (cases_eq i n) [
+      | inl same ↦
+          let one : k ≡ slot = same_Some k slot (sym is ∙ ap (slice_get slots) same ∙ found) in
+          subst (λ j. IsRelinked (is_current m) into (links j) (m j) (new j)) (sym one) (here (subst (Stays into) one stays))
+      | inr differs ↦
+          subst (IsRelinked (is_current m) into (links k) (m k)) (sym (b.others k (λ one. differs (once i n slot (is ∙ ap Some one) found))))
+          (a.done i k (below i under differs) is stays)
     ];
-    todo = λ k over. b.others k (λ same. absurd (omega (arith, over, same))) ∙ a.todo k (omega (arith, over));
+    todo = λ k none. b.others k (λ one. none n (omega arith) (found ∙ ap Some (sym one))) ∙ a.todo k (λ i under. none i (omega (arith, under)));
     current = λ x. b.current x ∙ a.current x;
   }
     where
+      slot : ℕ
+      slot = get_or slots n d
+
+      found : slice_get slots n ≡ Some slot
+      found = got slots n d less
+
       currents : is_current mid ≡ is_current m
       currents = λ i x. a.current x i
 
-      here : Stays into n → IsRelinked (is_current m) into (links n) (m n) (new n)
-      here stays = subst (λ t. IsRelinked t into (links n) (m n) (new n)) currents (subst (λ o. IsRelinked (is_current mid) into (links n) o (new n)) (a.todo n (omega arith)) (b.here stays))
+      once : (i j s : ℕ) → slice_get slots i ≡ Some s → slice_get slots j ≡ Some s → i ≡ j
+      once i j s x y = same_Some i j (sym (ordered i s x) ∙ ordered j s y)
+
+      new_one : (i : ℕ) → i < n → slice_get slots i ≡ Some slot → ⊥
+      new_one i under is = let same = once i n slot is found in absurd (omega (arith, under, same))
+
+      here : Stays into slot → IsRelinked (is_current m) into (links slot) (m slot) (new slot)
+      here stays = subst (λ t. IsRelinked t into (links slot) (m slot) (new slot)) currents
+          (subst (λ o. IsRelinked (is_current mid) into (links slot) o (new slot)) (a.todo slot new_one) (b.here stays))
 
       below : (k : ℕ) → k < n + 1 → (k ≡ n → ⊥) → k < n
-      below k less differs = elim (cases_lt k n) [ inl is ↦ is | inr over ↦ absurd (differs (omega (arith, less, over))) ]
+      below k under differs = elim (cases_lt k n) [ inl is ↦ is | inr over ↦ absurd (differs (omega (arith, under, over))) ]
 
-pub relinks_end : (plan : List (SmallVec ℕ)) (links : ℕ → List ℕ) (n : ℕ) (old new : Memory) → length plan ≤ n → RelinksBelow (slots_at plan) links n old new → Relinks (slots_at plan) links old new
-relinks_end plan links n old new all a k stays = let less = planned plan k k stays in a.done k (omega (arith, less, all)) stays
+  pub relinks_end : (n : ℕ) (old new : Memory) → length slots ≤ n → AreTaken old slots → RelinksBelow into links slots n old new → Relinks into links old new
+  relinks_end n old new all taken a k stays = by (old k) refl
+    where
+      by : (o : Option Info) → old k ≡ o → IsRelinked (is_current old) into (links k) (old k) (new k)
+      by None none = subst (λ o. IsRelinked (is_current old) into (links k) o (new k)) (sym none) (no_more old new a.current k none)
+      by (Some e) is = let (i, less, at) = taken k e is in a.done i k (omega (arith, less, all)) (got slots i k less ∙ ap Some at) stays
+
+  pub relinks_taken : (n : ℕ) (old new : Memory) → AreTaken old slots → RelinksBelow into links slots n old new → AreTaken new slots
+  relinks_taken n old new taken a s f there = by (old s) refl
+    where
+      by : (o : Option Info) → old s ≡ o → Contains slots s
+      by None none = absurd (none-some f (sym (no_more old new a.current s none) ∙ there))
+      by (Some e) is = taken s e is
 
 module _ {into : ℕ → List ℕ} where
   pub removes_nothing : (slot : ℕ) (m : Memory) → Stays into slot → RemovesAt into slot m m

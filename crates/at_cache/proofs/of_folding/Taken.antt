@@ -1,7 +1,7 @@
 -- The slots of all entries, and what is done to each of these.
 use Rattle.std.proofs.Common.{◌≡◌, ◌⊎◌, inl, inr, ℕ, ◌<◌, ◌≤◌, ◌+◌, List, [], ◌∷◌, ◌++◌, Option, None, Some, option_map, Contains, get_or, take, length, slice_get, refl, sym, ap, ◌∙◌, subst, arith}
 use Rattle.std.proofs.lemmas.Bool.{cases_eq, cases_lt}
-use Rattle.std.proofs.lemmas.List.{take_more}
+use Rattle.std.proofs.lemmas.List.{length_push, take_more}
 use Rattle.std.proofs.lemmas.List.Elements.{Contains-append_left, Contains-append_right, Contains-push_cases}
 use Rattle.std.proofs.lemmas.Option.{none-some, same_Some}
 use Rattle.slab.specs.Slab.{get}
@@ -11,15 +11,22 @@ use Rattle.at_cache.specs.declared.table.Table.{Table}
 use Rattle.at_cache.specs.Folding.{AreLinks, AreTaken, HasLinked, HasUsed, Remains, RemovesAt, Stays}
 use Rattle.at_cache.specs.Info.{Info, Memory, info, memory_of}
 use Rattle.at_cache.proofs.Dooming.{head_of}
+use Rattle.at_cache.proofs.Lists.{get_push}
 use Rattle.at_cache.proofs.Moving.{at_none, table_by, within}
 use Rattle.at_cache.proofs.Taking.{none_in}
 
--- the slots of the entries at the first places are among these
+-- these are the slots of the entries at the first places, in their order
 pub record TakenBelow (t : Table) (n : ℕ) (slots : List ℕ) : Type 0 where
   pub has : (s p : ℕ) → get t.places s ≡ Some p → p < n → Contains slots s
+  pub at : (j s : ℕ) → slice_get slots j ≡ Some s → get t.places s ≡ Some j
+  pub len : length slots ≡ n
 
-pub taken_none : (t : Table) (slots : List ℕ) → TakenBelow t 0 slots
-taken_none t slots = record { has = λ s p at less. absurd (omega (arith, less)) }
+pub taken_none : (t : Table) (slots : List ℕ) → slots ≡ [] → TakenBelow t 0 slots
+taken_none t slots none = record {
+  has = λ s p at less. absurd (omega (arith, less));
+  at = λ j s h. absurd (none-some s (ap (λ xs. slice_get xs j) (sym none) ∙ h));
+  len = ap length none;
+}
 
 pub taken_more : (t : Table) (n : ℕ) (slots new : List ℕ) (slot : ℕ) → TakenBelow t n slots
     → Some slot ≡ option_map (λ (e : Instance ℕ × Entry). e.1.slot) (slice_get t.entries.entries n) → new ≡ slots ++ slot ∷ [] → TakenBelow t (n + 1) new
@@ -32,10 +39,21 @@ taken_more t n slots new slot before is so = record {
         subst (λ xs. Contains xs s) (sym so) (Contains-append_right slots (slot ∷ []) s (subst (Contains (slot ∷ [])) one (head_of slot [])))
     | inr differs ↦ subst (λ xs. Contains xs s) (sym so) (Contains-append_left slots (slot ∷ []) s (before.has s p at (below p less differs)))
   ];
+  at = λ j s h. elim (get_push slots slot j s (ap (λ xs. slice_get xs j) (sym so) ∙ h)) [
+    | inl old ↦ before.at j s old
+    | inr (end, same) ↦ subst (λ k. get t.places s ≡ Some k) (sym (end ∙ before.len)) (subst (λ k. get t.places k ≡ Some n) same (last (slice_get t.entries.entries n) refl))
+  ];
+  len = ap length so ∙ length_push slots slot ∙ ap (λ k. k + 1) before.len;
 }
   where
     below : (p : ℕ) → p < n + 1 → (p ≡ n → ⊥) → p < n
     below p less differs = elim (cases_lt p n) [ inl is ↦ is | inr over ↦ absurd (differs (omega (arith, less, over))) ]
+
+    last : (o : Option (Instance ℕ × Entry)) → slice_get t.entries.entries n ≡ o → get t.places slot ≡ Some n
+    last None none = absurd (none-some slot (sym (is ∙ ap (option_map (λ (x : Instance ℕ × Entry). x.1.slot)) none)))
+    last (Some e) found =
+        let one : slot ≡ e.1.slot = same_Some slot e.1.slot (is ∙ ap (option_map (λ (x : Instance ℕ × Entry). x.1.slot)) found) in
+        ap (get t.places) one ∙ (table_by t.placed).to n e found
 
 pub taken_all : (t : Table) (n : ℕ) (slots : List ℕ) → length t.entries.entries ≤ n → TakenBelow t n slots → AreTaken (memory_of t) slots
 taken_all t n slots all below s e there = by (get t.places s) refl

@@ -1,5 +1,6 @@
 use Rattle.std.proofs.Common.{subst, take_all}
-use Rattle.at_cache.specs.Folding.{LinkedTo, slots_at}
+use Rattle.slab.specs.Slab.{get}
+use Rattle.at_cache.specs.Folding.{LinkedTo, listed_at, slots_at}
 use Rattle.at_cache.proofs.of_folding.Linking.{to_none}
 use Rattle.at_cache.proofs.of_folding.Walking.{to_more}
 use Rattle.at_cache.proofs.relinking.link_each.Goals as goal
@@ -11,5 +12,6 @@ pub loop-target-preserved : goal.loop-target-preserved
 loop-target-preserved c = to_more c.args.targets.now c.loop-target.target-index 0 _ _ _ c.loop-target-test.true c.loop-target.invariant c.in_ok-link_to.ensures
 
 pub returns : goal.returns
-returns c = subst (λ xs. LinkedTo (slots_at c.args.plan.now) xs c.args.links.now (slots_at c.args.lists.now.items) (slots_at c.loop-target.lists.items))
+returns c = subst (λ xs. LinkedTo (slots_at c.args.plan.now) xs c.args.links.now (listed_at (get c.args.entries.now.places) c.args.lists.now.items)
+    (listed_at (get c.args.entries.now.places) c.loop-target.lists.items))
     (take_all c.loop-target.target-index c.args.targets.now c.loop-target-test.false) c.loop-target.invariant

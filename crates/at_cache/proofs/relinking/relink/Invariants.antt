@@ -1,7 +1,9 @@
-use Rattle.at_cache.specs.Folding.{slots_at}
+use Rattle.slab.specs.Slab.{get}
+use Rattle.at_cache.specs.Folding.{listed_at, slots_at}
 use Rattle.at_cache.specs.Info.{memory_of}
 use Rattle.at_cache.proofs.of_folding.Relinking.{RelinksBelow}
 use Rattle.at_cache.proofs.relinking.relink.Given as goal
 
-abbrev pub invariant-loop-number : goal.invariant-loop-number
-invariant-loop-number l = RelinksBelow (slots_at l.plan) (slots_at l.links) l.number (memory_of l.initial.entries) (memory_of l.entries)
+abbrev pub invariant-loop-place : goal.invariant-loop-place
+invariant-loop-place l = RelinksBelow (slots_at l.plan) (listed_at (get l.initial.entries.places) l.links) l.taken l.place
+    (memory_of l.initial.entries) (memory_of l.entries)

@@ -1,4 +1,5 @@
 use Rattle.std.proofs.Common.{◌∙◌, ◌++◌, ap, sym}
+use Rattle.std.proofs.lemmas.Result.{on_ok_weaker}
 use Rattle.at_cache.specs.Folding.{slots_at}
 use Rattle.at_cache.specs.Info.{memory_of}
 use Rattle.at_cache.specs.Putting.{is_current}
@@ -14,6 +15,6 @@ pub returns-then-not-is_current : goal.returns-then-not-is_current
 returns-then-not-is_current c = gathered_stale _ _ c.args.edge _ (sym c.is_current.ensures ∙ c.if-not-is_current.true)
 
 pub returns : goal.returns
-returns c =
-    gathered_one _ _ c.args.edge _ _ (sym c.is_current.ensures ∙ c.if-not-is_current.false)
-    (c.in_ok-extend_from_slice.ensures.items ∙ ap (λ xs. c.args.slots.now.items ++ xs) c.slots_at.ensures)
+returns c = on_ok_weaker c.add_slots.result
+    (λ is. gathered_one _ _ c.args.edge _ _ (sym c.is_current.ensures ∙ c.if-not-is_current.false)
+    (is ∙ ap (λ xs. c.args.slots.now.items ++ xs) c.slots_at.ensures)) c.add_slots.ensures

@@ -1,17 +1,34 @@
-use Rattle.std.proofs.Common.{List, append-nil, subst, sym}
-use Rattle.at_cache.specs.declared.edge.Edge.{Edge}
-use Rattle.at_cache.specs.Folding.{Parted, slots_at}
+use Rattle.std.proofs.Common.{◌<◌, arith, length}
+use Rattle.at_cache.specs.Folding.{slots_at}
 use Rattle.at_cache.specs.Info.{memory_of}
-use Rattle.at_cache.specs.Rows.{edges_along}
+use Rattle.at_cache.specs.Putting.{is_current}
+use Rattle.at_cache.proofs.of_folding.Parting.{parted_end, parted_goes, parted_start, parted_stays}
 use Rattle.at_cache.proofs.rewriting.part.Goals as goal
 
-pub returns-in-Empty : goal.returns-in-Empty
-returns-in-Empty c done p =
-    rw c.in-Empty.is (subst (λ (es : List Edge). Parted (memory_of c.args.entries.now) (slots_at c.args.plan.now) es c.args.room.now.slots.items
-    (edges_along c.args.rows.now.items)) (sym (append-nil done)) p)
+pub loop-place-init : goal.loop-place-init
+loop-place-init c none = parted_start _ _ c.args.rows.now.items _ none
 
-pub returns-in-Few : goal.returns-in-Few
-returns-in-Few c = rw (c.in-Few.is, ← c.few.ensures) c.part_row.ensures
+pub loop-place-preserved-then-is_kept : goal.loop-place-preserved-then-is_kept
+loop-place-preserved-then-is_kept c none =
+    let l = c.loop-place in
+    let count = c.len.ensures.value in
+    let before = c.loop-place-test.true in
+    let less : l.place < length l.rows.items = omega (arith, count, before) in
+    rw c.is_kept.ensures.slots (parted_stays _ _ _ l.rows.items _ l.place _ _ less c.as_slice.ensures
+    (c.is_kept.ensures.alone (is_current (memory_of c.args.entries.now)) (slots_at c.args.plan.now) c.requires.lone c.if-is_kept.true) (l.invariant none))
 
-pub returns-in-More : goal.returns-in-More
-returns-in-More c = rw (c.in-More.is, ← c.deref.ensures, ← c.as_slice.ensures) c.part_rows.ensures
+pub loop-place-preserved : goal.loop-place-preserved
+loop-place-preserved c none =
+    let l = c.loop-place in
+    let count = c.len.ensures.value in
+    let before = c.loop-place-test.true in
+    let less : l.place < length l.rows.items = omega (arith, count, before) in
+    parted_goes _ _ _ l.rows.items _ _ l.place c.swap_remove.result _ _ _ less c.as_slice.ensures c.swap_remove.ensures.value c.swap_remove.ensures.items
+    (rw c.is_kept.ensures.slots at c.in_ok-gather_row.ensures) (l.invariant none)
+
+pub returns : goal.returns
+returns c none =
+    let l = c.loop-place in
+    let count = c.len.ensures.value in
+    let behind = c.loop-place-test.false in
+    parted_end _ _ _ l.rows.items l.place _ (omega (arith, count, behind)) (l.invariant none)
