@@ -15,7 +15,7 @@ returns-in-Some c = record {
       let is = c.in-Some.ensures.value ∙ get_or_from_slice_get c.args.self.now.items.items c.args.position p c.in-Some.posted.now there in
       let anew = subst (λ (x : Posted). IsBegunAnew (path c.args.there.now.store.now) x c.begin_anew.new.self) is c.begin_anew.ensures in
       record { again = c.begin_anew.new.self; anew = anew; items = refl }
-    );
+      );
   none = λ empty. absurd (not_some (sym empty ∙ slice_get-get_or c.args.self.now.items.items c.args.position c.in-Some.posted.now
       c.in-Some.ensures.item.3.0 ∙ sym (ap Some c.in-Some.ensures.value)));
 }
