@@ -57,14 +57,14 @@ fn looked_up(entries: &Table, instance: &Inst) -> Option<Slot>
     }
 }
 
-/// The slot of the instance's entry, which may be this one.
-pub fn slot_by(entries: &Table, instance: &Inst, near: Slot) -> Option<Slot>
+/// The slot of the instance's entry, which may stand at that place.
+pub fn slot_by(entries: &Table, instance: &Inst, place: usize) -> Option<Slot>
     ensures { result ≡ option_map (λ e. e.slot) (lookup (same_instance instance.now) entries.now.entries.entries) }
 {
-    if is_its(entries, instance, near) {
-        return Some(near);
+    match entries.get_near(instance, place) {
+        Some(entry) => Some(entry.slot),
+        None => None,
     }
-    looked_up(entries, instance)
 }
 
 // The slot of the instance's entry, which may be at that place of these, or at the next one.

@@ -136,6 +136,7 @@ fn do_end_with(rows: &[Row], edge: Edge) -> bool
 }
 
 /// One more edge of a list in a block: its last row has it, or another one.
+#[inline(always)]
 pub fn add_to_many(entries: &Table, rows: &mut Many, edge: Edge) -> Result<(), AllocError>
     ensures lists { Lists (memory_of entries.now) edge (edges_along rows.old.items) (edges_along rows.new.items) }
     ensures has { OnOk result (Contains (edges_along rows.new.items) edge) }
@@ -249,6 +250,7 @@ fn add_to_row(
 }
 
 /// One more edge of a list.
+#[inline(always)]
 pub fn add_edge(
     alloc: Global,
     entries: &Table,

@@ -40,12 +40,12 @@ fn is_traced(value: &Option<Value>, order: Order) -> bool
     }
 }
 
-/// The slot of the instance's entry, which may be this one, or that of the next one.
-pub fn slot_for(entries: &Table, inst: &Inst, near: Slot) -> Result<Slot, AllocError>
+/// The slot of the instance's entry, which may stand at that place, or that of the next one.
+pub fn slot_for(entries: &Table, inst: &Inst, place: usize) -> Result<Slot, AllocError>
     ensures slot { IfOk result (λ slot. IsSlotFor entries.now inst.now slot) }
     ensures its { IfOk result (λ slot. (e : Info) → memory_of entries.now slot ≡ Some e → e.instance ≡ inst.now) }
 {
-    match slot_by(entries, inst, near) {
+    match slot_by(entries, inst, place) {
         Some(slot) => Ok(slot),
         None => entries.next(),
     }

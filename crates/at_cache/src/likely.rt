@@ -1,0 +1,48 @@
+//! Where entries are likely to stand.
+
+use crate::edge::Slot;
+use at_body::Inst;
+use std::alloc::Global;
+
+// How many marks a node has. Its instances share them, by the positions of their attributes.
+const WIDTH: usize = 5;
+
+/// Where the entries of instances are likely to stand, so that most need no look-up by a hash. Nothing rests on it.
+#[derive(Drop)]
+pub struct Likely {
+    marks: Vec<Slot>,
+}
+
+// Which mark the instance has.
+fn position_of(instance: &Inst) -> usize {
+    let first = instance.node().index().wrapping_mul(WIDTH);
+    first.wrapping_add(instance.attribute().index() % WIDTH)
+}
+
+impl Likely {
+    /// Nothing is known of any.
+    pub fn new(alloc: Global) -> Likely {
+        Likely {
+            marks: Vec::new(alloc),
+        }
+    }
+
+    /// The place at which the entry of the instance is likely to stand.
+    pub fn place_of(&self, instance: &Inst) -> usize {
+        match self.marks.get(position_of(instance)) {
+            Some(mark) => *mark as usize,
+            None => 0,
+        }
+    }
+
+    /// The entry of the instance came into that slot, which mostly is its place, too. Where memory is wanting that isn't noted.
+    pub fn note(&mut self, instance: &Inst, slot: Slot) {
+        let position = position_of(instance);
+        if self.marks.len() <= position {
+            let _ = self.marks.resize(position.saturating_add(1), 0);
+        }
+        if let Some(mark) = self.marks.get_mut(position) {
+            *mark = slot;
+        }
+    }
+}
