@@ -36,11 +36,19 @@ impl Likely {
     }
 
     /// The entry of the instance came into that slot, which mostly is its place, too. Where memory is wanting that isn't noted.
+    #[inline(always)]
     pub fn note(&mut self, instance: &Inst, slot: Slot) {
         let position = position_of(instance);
-        if self.marks.len() <= position {
-            let _ = self.marks.resize(position.saturating_add(1), 0);
+        match self.marks.get_mut(position) {
+            Some(mark) => *mark = slot,
+            None => self.note_first(position, slot),
         }
+    }
+
+    // The same of a node that has no marks yet.
+    #[inline(never)]
+    fn note_first(&mut self, position: usize, slot: Slot) {
+        let _ = self.marks.resize(position.saturating_add(1), 0);
         if let Some(mark) = self.marks.get_mut(position) {
             *mark = slot;
         }
