@@ -3,7 +3,7 @@ use Rattle.std.proofs.Common.{◌≡◌, ◌⊎◌, inl, inr, ℕ, zero, suc, �
 use Rattle.std.specs.List.{flat_map}
 use Rattle.std.proofs.lemmas.Grind.{flat_map-append}
 use Rattle.std.proofs.lemmas.List.{get_or_default}
-use Rattle.std.proofs.lemmas.Option.{none-some, same_Some, slice_get_within, get_or_from_slice_get}
+use Rattle.std.proofs.lemmas.Option.{none-some, same_Some}
 use Rattle.std.proofs.lemmas.List.Elements.{Contains-append_cases, Contains-append_left, Contains-append_right, Contains-push}
 use Rattle.std.proofs.lemmas.List.Sorted.{Contains-permutation, IsPermutation-swap_remove, IsPermutation-sym}
 use Rattle.slab.proofs.SlabLemmas.{Contains-cons, Contains-cons_cases}
@@ -13,7 +13,7 @@ use Rattle.at_cache.specs.declared.row.Row.{Row}
 use Rattle.at_cache.specs.Edges.{edges_in}
 use Rattle.at_cache.specs.Info.{Info, Memory}
 use Rattle.at_cache.specs.Putting.{Keeps, Lists, is_current}
-use Rattle.at_cache.specs.Rows.{edges_along, edges_from, edges_of}
+use Rattle.at_cache.specs.Rows.{edges_along, edges_of}
 use Rattle.at_cache.proofs.Dooming.{head_of}
 use Rattle.at_cache.proofs.Listing.{current, listed_one}
 use Rattle.at_cache.proofs.Lists.{get_contains}
@@ -74,18 +74,6 @@ row_goes {m} {read} {mid} {new} i r d t inside same is trims none swapped =
     none_left : (xs : List Edge) → nat_eq (length xs) 0 ≡ true → xs ≡ []
     none_left [] h = refl
     none_left (x ∷ xs) h = absurd (let e = eqb-true (length (x ∷ xs)) 0 h in omega (arith, e))
-
--- the same of a row at a place
-pub row_leaves : {m : Memory} {read mid new : List Row} (i : ℕ) (r : Row) → read ≡ mid → r ≡ get_or mid i r
-    → (o : Row) × (slice_get read i ≡ Some o) × Keeps m (edges_of o) [] → new ≡ swap_remove mid i r
-    → Keeps m (edges_along mid) (edges_along new)
-unfolding edges_from
-row_leaves {m} {read} i r same is (o, at, stale) swapped =
-    row_goes i r o none (subst (λ rs. i < length rs) same (slice_get_within read i o at)) same is
-    (subst (λ w. Keeps m (edges_of w) []) (sym (get_or_from_slice_get read i o o at)) stale) refl swapped
-  where
-    none : Row
-    none = record { slot = 0; step = 0; count = 0; stamp = 0 }
 
 module _ {m : Memory} where
   keeps_before : (front : List Edge) {a b : List Edge} → Keeps m a b → Keeps m (front ++ a) (front ++ b)

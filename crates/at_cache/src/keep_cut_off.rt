@@ -250,6 +250,7 @@ impl Keeper for KeepCutOff {
             &mut self.readers,
             &mut self.index_read,
             Edge { slot, stamp },
+            &self.likely,
             &known,
             inst,
             value,

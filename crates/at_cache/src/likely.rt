@@ -5,7 +5,7 @@ use at_body::Inst;
 use std::alloc::Global;
 
 // How many marks a node has. Its instances share them, by the positions of their attributes.
-const WIDTH: usize = 5;
+const WIDTH: usize = 4;
 
 /// Where the entries of instances are likely to stand, so that most need no look-up by a hash. Nothing rests on it.
 #[derive(Drop)]
@@ -15,8 +15,9 @@ pub struct Likely {
 
 // Which mark the instance has.
 fn position_of(instance: &Inst) -> usize {
-    let first = instance.node().index().wrapping_mul(WIDTH);
-    first.wrapping_add(instance.attribute().index() % WIDTH)
+    let attribute = instance.attribute().index();
+    let mark = (attribute ^ attribute / WIDTH) % WIDTH;
+    instance.node().index().wrapping_mul(WIDTH).wrapping_add(mark)
 }
 
 impl Likely {

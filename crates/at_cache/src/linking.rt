@@ -88,29 +88,28 @@ fn outdated_at(entries: &Table, rows: &[Row], edge: Edge) -> Option<usize>
     None
 }
 
-// That edge goes from a list of few rows.
-fn drop_outdated(entries: &Table, rows: &mut Many, edge: Edge)
-    ensures { Keeps (memory_of entries.now) (edges_along rows.old.items) (edges_along rows.new.items) }
+// The edge comes in place of that one, where it is found in a list of few rows.
+fn replaces_outdated(entries: &Table, rows: &mut Many, edge: Edge) -> bool
+    ensures { MatchBool result (Lists (memory_of entries.now) edge (edges_along rows.old.items) (edges_along rows.new.items)
+        × Contains (edges_along rows.new.items) edge) (rows.new.items ≡ rows.old.items) }
 {
     if rows.len() > FEW {
-        return;
+        return false;
     }
-    if let Some(place) = outdated_at(entries, rows.as_slice(), edge) {
-        if place < rows.len() {
-            rows.swap_remove(place);
+    match outdated_at(entries, rows.as_slice(), edge) {
+        Some(place) => {
+            set_row(rows, place, Row::of(edge));
+            true
         }
+        None => false,
     }
 }
 
-// Makes room for one more row of a list that is full: it loses the edge that the entry had before, or all rows that tell of no entry,
-// and gets more room only where half of it or less is left then.
-fn make_room(entries: &Table, rows: &mut Many, edge: Edge) -> Result<(), AllocError>
+// Makes room for one more row of a list that is full: it loses those that tell of no entry first, and gets more room only where half
+// of it or less is left then.
+fn make_room(entries: &Table, rows: &mut Many) -> Result<(), AllocError>
     ensures { Keeps (memory_of entries.now) (edges_along rows.old.items) (edges_along rows.new.items) }
 {
-    drop_outdated(entries, rows, edge);
-    if rows.len() < rows.capacity() {
-        return Ok(());
-    }
     purge(entries, rows);
     let count = rows.len();
     if count >= rows.capacity() / 2 {
@@ -119,15 +118,26 @@ fn make_room(entries: &Table, rows: &mut Many, edge: Edge) -> Result<(), AllocEr
     Ok(())
 }
 
-// One more row of a list that is full.
+// One more row of a list that is full, once there is room for it.
+fn add_with_room(entries: &Table, rows: &mut Many, edge: Edge) -> Result<(), AllocError>
+    ensures lists { Lists (memory_of entries.now) edge (edges_along rows.old.items) (edges_along rows.new.items) }
+    ensures has { OnOk result (Contains (edges_along rows.new.items) edge) }
+{
+    make_room(entries, rows)?;
+    rows.push(Row::of(edge))?;
+    Ok(())
+}
+
+// One more edge of a list that is full.
 #[inline(never)]
 fn add_to_full(entries: &Table, rows: &mut Many, edge: Edge) -> Result<(), AllocError>
     ensures lists { Lists (memory_of entries.now) edge (edges_along rows.old.items) (edges_along rows.new.items) }
     ensures has { OnOk result (Contains (edges_along rows.new.items) edge) }
 {
-    make_room(entries, rows, edge)?;
-    rows.push(Row::of(edge))?;
-    Ok(())
+    if replaces_outdated(entries, rows, edge) {
+        return Ok(());
+    }
+    add_with_room(entries, rows, edge)
 }
 
 // One more row of a list in a block.

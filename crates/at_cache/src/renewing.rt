@@ -21,6 +21,7 @@ use crate::cutting::{doom_users, forget_all, take_from};
 use crate::edge::{Edge, Slot};
 use crate::entry::{Entry, Links};
 use crate::keeper::{Order, Put};
+use crate::likely::Likely;
 use crate::linking::{add_readers, add_users};
 use crate::putting::fresh;
 use crate::run::AllReaders;
@@ -133,6 +134,7 @@ pub fn enter_held(
     readers: &mut AllReaders,
     index_read: &mut Vec<Node>,
     edge: Edge,
+    likely: &Likely,
     known: &Option<Links>,
     inst: Inst,
     value: Option<Value>,
@@ -146,7 +148,7 @@ pub fn enter_held(
         (edges_to readers.old) cut.old (edges_to readers.new) cut.new result }
     ensures noted { AreNoted (edges_to readers.old) index_read.old.items → AreNoted (edges_to readers.new) index_read.new.items }
 {
-    let links = slots_again(alloc, &cut.entries, uses, known)?;
+    let links = slots_again(alloc, &cut.entries, likely, uses, known)?;
     make_standing(&mut cut.standings, edge.slot)?;
     add_readers(alloc, &cut.entries, readers, index_read, reads, edge)?;
     add_users(alloc, &mut cut.entries, links.as_slice(), edge)?;
