@@ -30,6 +30,16 @@ impl Reads {
         }
     }
 
+    /// None, with room for so many, where there is memory for that.
+    pub fn with_room(alloc: Global, count: usize) -> Self
+        ensures { result ≡ [] }
+    {
+        match Vec::with_capacity(alloc, count) {
+            Ok(items) => Reads { items },
+            Err(_) => Reads::new(alloc),
+        }
+    }
+
     /// Takes all out; their memory stays.
     pub fn clear(&mut self)
         ensures { self.new ≡ [] }

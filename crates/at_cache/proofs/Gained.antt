@@ -33,7 +33,7 @@ module _ {X : Type 0} where
   get_other (x ∷ xs) (suc k) (suc l) v differs = get_other xs k l v (λ same. differs (ap suc same))
 
 module _ {m : Memory} {x : Edge} where
-  lists_before : (front : List Edge) {a b : List Edge} → Lists m x a b → Lists m x (front ++ a) (front ++ b)
+  pub lists_before : (front : List Edge) {a b : List Edge} → Lists m x a b → Lists m x (front ++ a) (front ++ b)
   lists_before front {a} {b} h = record {
     keeps = λ y c e there same. elim (Contains-append_cases front a y c) [ inl d ↦ Contains-append_left front b y d | inr d ↦ Contains-append_right front b y (h.keeps y d e there same) ];
     only = λ y c. elim (Contains-append_cases front b y c) [
@@ -42,7 +42,7 @@ module _ {m : Memory} {x : Edge} where
     ];
   }
 
-  lists_behind : (rest : List Edge) {a b : List Edge} → Lists m x a b → Lists m x (a ++ rest) (b ++ rest)
+  pub lists_behind : (rest : List Edge) {a b : List Edge} → Lists m x a b → Lists m x (a ++ rest) (b ++ rest)
   lists_behind rest {a} {b} h = record {
     keeps = λ y c e there same. elim (Contains-append_cases a rest y c) [ inl d ↦ Contains-append_left b rest y (h.keeps y d e there same) | inr d ↦ Contains-append_right b rest y d ];
     only = λ y c. elim (Contains-append_cases b rest y c) [

@@ -25,6 +25,7 @@ pub mod Noted
 pub mod Forgotten
 pub mod RowEdges
 pub mod RowLists
+pub mod Replaced
 pub mod NoRows
 pub mod Came
 pub mod of_cut

@@ -1,5 +1,5 @@
 -- What stands in the way of keeping an entry again.
-use Rattle.std.specs.Prelude.{◌≡◌, ◌&&◌, ◌++◌, ◌∷◌, ℕ, List, Bool, true, false, None, Some, is_some, Contains}
+use Rattle.std.specs.Prelude.{◌≡◌, ◌&&◌, ◌||◌, ◌++◌, ◌∷◌, ℕ, List, Bool, true, false, None, Some, is_some, Contains}
 use Rattle.at_model.specs.Run.{Instance, Location}
 use Rattle.at_cache.specs.declared.edge.Edge.{Edge}
 use Rattle.at_cache.specs.declared.standing.Standing.{Standing}
@@ -13,12 +13,18 @@ abbrev pub is_valued : Table → List Standing → ℕ → Bool
 is_valued t standings s =
     (standing_of standings s).holds && elim (memory_of t s) [ None ↦ false | Some e ↦ is_some e.value ]
 
--- The slot is among these, and the entries in all before it are kept with a value.
+-- whether it is kept, and can be kept again or has a value
+abbrev pub is_known : Table → List Standing → ℕ → Bool
+is_known t standings s =
+    (standing_of standings s).holds
+    && ((standing_of standings s).traced || elim (memory_of t s) [ None ↦ false | Some e ↦ is_some e.value ])
+
+-- The slot is among these, and all before it are known so.
 pub record IsFirstOpen (t : Table) (standings : List Standing) (slots : List ℕ) (p : ℕ) : Type 0 where
   pub front : List ℕ
   pub back : List ℕ
   pub among : slots ≡ front ++ p ∷ back
-  pub before : (q : ℕ) → Contains front q → is_valued t standings q ≡ true
+  pub before : (q : ℕ) → Contains front q → is_known t standings q ≡ true
 
 -- wherever the instance of the entry comes next, so does the one in the slot p
 abbrev pub Follows : Table → List Standing → (lists : Location ℕ → List Edge) (puts : ℕ) → Info → (p : ℕ) → Type 0

@@ -10,6 +10,7 @@ ghost use Rattle.at_cache.specs.Theirs.{AreTheirs, HasSlot};
 
 use crate::edge::Slot;
 use crate::entry::Links;
+use crate::likely::Likely;
 use crate::putting::slots_of;
 use crate::table::Table;
 use at_body::Inst;
@@ -47,33 +48,29 @@ fn its_near(entries: &Table, instance: &Inst, known: &[Slot], place: usize) -> O
     its_at(entries, instance, known, place.saturating_add(1))
 }
 
-// The slot of the instance's entry.
-fn looked_up(entries: &Table, instance: &Inst) -> Option<Slot>
+/// The slot of the instance's entry, which may stand at that place.
+pub fn slot_by(entries: &Table, instance: &Inst, place: usize) -> Option<Slot>
     ensures { result ≡ option_map (λ e. e.slot) (lookup (same_instance instance.now) entries.now.entries.entries) }
 {
-    match entries.get(instance) {
+    match entries.get_near(instance, place) {
         Some(entry) => Some(entry.slot),
         None => None,
     }
 }
 
-/// The slot of the instance's entry, which may be this one.
-pub fn slot_by(entries: &Table, instance: &Inst, near: Slot) -> Option<Slot>
-    ensures { result ≡ option_map (λ e. e.slot) (lookup (same_instance instance.now) entries.now.entries.entries) }
-{
-    if is_its(entries, instance, near) {
-        return Some(near);
-    }
-    looked_up(entries, instance)
-}
-
 // The slot of the instance's entry, which may be at that place of these, or at the next one.
-fn slot_near(entries: &Table, instance: &Inst, known: &[Slot], place: usize) -> Option<Slot>
+fn slot_near(
+    entries: &Table,
+    likely: &Likely,
+    instance: &Inst,
+    known: &[Slot],
+    place: usize,
+) -> Option<Slot>
     ensures { result ≡ option_map (λ e. e.slot) (lookup (same_instance instance.now) entries.now.entries.entries) }
 {
     match its_near(entries, instance, known, place) {
         Some(slot) => Some(slot),
-        None => looked_up(entries, instance),
+        None => slot_by(entries, instance, likely.place_of(instance)),
     }
 }
 
@@ -93,6 +90,7 @@ fn next_place(known: &[Slot], place: usize, slot: Slot) -> usize {
 pub fn slots_again(
     alloc: Global,
     entries: &Table,
+    likely: &Likely,
     uses: &[Inst],
     known: &Option<Links>,
 ) -> Result<Links, AllocError>
@@ -101,7 +99,7 @@ pub fn slots_again(
     ensures theirs { IfOk result (λ slots. AreTheirs entries.now uses.now slots.items) }
 {
     match known {
-        Some(known) => slots_near(alloc, entries, uses, known.as_slice()),
+        Some(known) => slots_near(alloc, entries, likely, uses, known.as_slice()),
         None => slots_of(alloc, entries, uses),
     }
 }
@@ -110,6 +108,7 @@ pub fn slots_again(
 fn slots_near(
     alloc: Global,
     entries: &Table,
+    likely: &Likely,
     uses: &[Inst],
     known: &[Slot],
 ) -> Result<Links, AllocError>
@@ -120,7 +119,7 @@ fn slots_near(
     let mut slots = Links::with_capacity(alloc, uses.len())?;
     let mut place = 0_usize;
     for used in uses {
-        if let Some(slot) = slot_near(entries, used, known, place) {
+        if let Some(slot) = slot_near(entries, likely, used, known, place) {
             slots.push(slot)?;
             place = next_place(known, place, slot);
         }

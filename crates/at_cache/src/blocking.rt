@@ -1,20 +1,23 @@
 //! What stands in the way of keeping an entry again.
 
 ghost use Rattle.std.specs.Prelude.{◌≡◌, IfSome};
-ghost use Rattle.at_cache.specs.Blocking.{IsFirstOpen, LeadsTo, is_valued};
+ghost use Rattle.at_cache.specs.Blocking.{IsFirstOpen, LeadsTo, is_known};
 
 use crate::edge::Slot;
 use crate::settling::LEVELS;
 use crate::standing::{Standing, standing_at};
 use crate::table::Table;
 
-// Whether the entry in the slot is kept with a value.
+// Whether the entry in the slot is kept with a value. What can be kept again has one.
 fn is_kept(entries: &Table, standings: &[Standing], slot: Slot) -> bool
-    ensures { result ≡ is_valued entries.now standings.now slot }
+    ensures { result ≡ is_known entries.now standings.now slot }
 {
     let standing = standing_at(standings, slot);
     if !standing.holds {
         return false;
+    }
+    if standing.traced {
+        return true;
     }
     match entries.pair(slot) {
         Some((_, entry)) => entry.value.is_some(),

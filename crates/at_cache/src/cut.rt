@@ -73,11 +73,11 @@ impl Pass {
 }
 
 impl Cut {
-    /// The entry of the instance, where it is kept.
-    pub fn held(&self, instance: &Inst) -> Option<&Entry>
+    /// The entry of the instance, where it is kept; it may stand at that place.
+    pub fn held(&self, instance: &Inst, place: usize) -> Option<&Entry>
         ensures { option_copied result ≡ held_of self.now.standings.items (lookup (same_instance instance.now) self.now.entries.entries.entries) }
     {
-        let entry = self.entries.get(instance)?;
+        let entry = self.entries.get_near(instance, place)?;
         if standing_at(self.standings.as_slice(), entry.slot).holds {
             Some(entry)
         } else {
@@ -95,22 +95,22 @@ impl Cut {
         standing_at(self.standings.as_slice(), slot).traced
     }
 
-    /// Whether the instance has a trace; its entry may be in this slot.
-    pub fn has_trace(&self, instance: &Inst, near: Slot) -> bool
+    /// Whether the instance has a trace; its entry may stand at that place.
+    pub fn has_trace(&self, instance: &Inst, place: usize) -> bool
         ensures { (lists : Location ℕ → List Edge) → result ≡ false
             → (remembered lists self.now.entries self.now.standings.items).traced instance.now ≡ None }
     {
-        match slot_by(&self.entries, instance, near) {
+        match slot_by(&self.entries, instance, place) {
             Some(slot) => self.is_traced(slot),
             None => false,
         }
     }
 
-    /// Whether the entry of the instance is kept; it may be in this slot.
-    pub fn is_held(&self, instance: &Inst, near: Slot) -> bool
+    /// Whether the entry of the instance is kept; it may stand at that place.
+    pub fn is_held(&self, instance: &Inst, place: usize) -> bool
         ensures { result ≡ is_some (held_of self.now.standings.items (lookup (same_instance instance.now) self.now.entries.entries.entries)) }
     {
-        match slot_by(&self.entries, instance, near) {
+        match slot_by(&self.entries, instance, place) {
             Some(slot) => standing_at(self.standings.as_slice(), slot).holds,
             None => false,
         }

@@ -20,10 +20,12 @@ use crate::edge::{Edge, Slot};
 use crate::entry::Links;
 use crate::folding::fold;
 use crate::keeper::{Keeper, Order, Put};
+use crate::likely::Likely;
 use crate::renewing::{enter_held, outdate, slot_for};
 use crate::run::AllReaders;
 use crate::settling::{Counts, LEVELS, settle_at};
 use crate::shedding::{lose_traces, shed};
+use crate::standing::standing_at;
 use crate::table::Table;
 use at_body::{Inst, Value};
 use at_store::{Loc, Node, Places};
@@ -43,10 +45,7 @@ pub struct KeepCutOff {
     index_read: Vec<Node>,
     // How many numbers were given: by `put` one, or two where the instance has an entry, and one where an entry was kept again.
     puts: u64,
-    // Where the entry may be that is asked for next: the last one that was to be kept again. Nothing rests on it.
-    near: Slot,
-    // Where that may be that stood in its way, or itself. Nothing rests on it.
-    stuck: Slot,
+    likely: Likely,
     // Whether there may be something to be kept again: not before the first edit, unless memory was wanting.
     doubtful: bool,
     ghost indexed: { IsIndexed (edges_to readers) puts (held cut.standings.items (memory_of cut.entries)) },
@@ -66,8 +65,7 @@ impl Drop for KeepCutOff {
             readers: _,
             index_read: _,
             puts: _,
-            near: _,
-            stuck: _,
+            likely: _,
             doubtful: _,
         } = self;
     }
@@ -94,8 +92,7 @@ impl KeepCutOff {
             readers: AllReaders::new(alloc),
             index_read: Vec::new(alloc),
             puts: 0,
-            near: 0,
-            stuck: 0,
+            likely: Likely::new(alloc),
             doubtful: false,
         }
     }
@@ -104,7 +101,7 @@ impl KeepCutOff {
     fn slot_of(&self, inst: &Inst) -> Option<Slot>
         ensures { IfSome result (HasSlot self.now.cut.entries inst.now) }
     {
-        slot_by(&self.cut.entries, inst, self.near)
+        slot_by(&self.cut.entries, inst, self.likely.place_of(inst))
     }
 
     /// How many numbers were given.
@@ -141,8 +138,7 @@ impl KeepCutOff {
             readers,
             index_read,
             puts,
-            near,
-            stuck,
+            likely,
             doubtful: _,
         } = self;
         shed(&mut cut.entries, cut.standings.as_slice())?;
@@ -152,8 +148,7 @@ impl KeepCutOff {
             readers,
             index_read,
             puts,
-            near,
-            stuck,
+            likely,
             doubtful: true,
         })
     }
@@ -187,8 +182,7 @@ impl KeepCutOff {
             mut readers,
             index_read,
             puts,
-            near,
-            stuck,
+            likely,
             doubtful: _,
         } = self;
         fold(alloc, &mut cut.entries, &mut readers, plan)?;
@@ -199,8 +193,7 @@ impl KeepCutOff {
             readers,
             index_read,
             puts,
-            near,
-            stuck,
+            likely,
             doubtful: true,
         })
     }
@@ -223,12 +216,12 @@ impl Keeper for KeepCutOff {
     ghost kept_last = { λ k i v kept. last_is (edges_to k.readers) k.cut.entries k.cut.standings.items k.puts i v kept };
 
     fn get(&self, inst: &Inst) -> Option<&Value> {
-        let entry = self.cut.held(inst)?;
+        let entry = self.cut.held(inst, self.likely.place_of(inst))?;
         entry.value.as_ref()
     }
 
     fn stands(&self, inst: &Inst) -> bool {
-        self.cut.is_held(inst, self.stuck)
+        self.cut.is_held(inst, self.likely.place_of(inst))
     }
 
     fn put(
@@ -239,8 +232,9 @@ impl Keeper for KeepCutOff {
         uses: &[Inst],
         order: Order,
     ) -> Result<Put, AllocError> {
-        let stuck = self.stuck;
-        let slot = slot_for(&self.cut.entries, &inst, stuck)?;
+        let place = self.likely.place_of(&inst);
+        let slot = slot_for(&self.cut.entries, &inst, place)?;
+        self.likely.note(&inst, slot);
         // Where memory is wanting on the way, that isn't sure any more.
         let doubtful = self.doubtful;
         self.doubtful = true;
@@ -256,6 +250,7 @@ impl Keeper for KeepCutOff {
             &mut self.readers,
             &mut self.index_read,
             Edge { slot, stamp },
+            &self.likely,
             &known,
             inst,
             value,
@@ -271,7 +266,7 @@ impl Keeper for KeepCutOff {
         if !self.doubtful {
             return false;
         }
-        self.cut.has_trace(inst, self.near)
+        self.cut.has_trace(inst, self.likely.place_of(inst))
     }
 
     fn settle(&mut self, inst: &Inst, work: u64) -> u64 {
@@ -281,10 +276,13 @@ impl Keeper for KeepCutOff {
         let Some(slot) = self.slot_of(inst) else {
             return work;
         };
+        self.likely.note(inst, slot);
+        if !standing_at(self.cut.standings.as_slice(), slot).traced {
+            return work;
+        }
         let mut counts = Counts {
             puts: self.puts,
             work,
-            stuck: slot,
         };
         settle_at(
             &self.cut.entries,
@@ -293,8 +291,6 @@ impl Keeper for KeepCutOff {
             slot,
             LEVELS,
         );
-        self.near = slot;
-        self.stuck = counts.stuck;
         self.puts = counts.puts;
         counts.work
     }

@@ -46,6 +46,7 @@ mod keep_none;
 mod keep_recorded;
 mod keep_until_edit;
 mod keeper;
+mod likely;
 mod linking;
 mod lone;
 mod mark;

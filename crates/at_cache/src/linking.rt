@@ -33,6 +33,9 @@ use std::alloc::{AllocError, Global};
 // So often what is left of a fold is looked for in a run.
 const PARTS: usize = 3;
 
+// In a list of more rows an edge isn't looked for.
+const FEW: usize = 8;
+
 // The row without the edges at its front that tell of no entry.
 fn trimmed(entries: &Table, row: Row) -> Row
     ensures { Keeps (memory_of entries.now) (edges_of row) (edges_of result) }
@@ -73,6 +76,35 @@ fn purge(entries: &Table, rows: &mut Many)
     }
 }
 
+// Where among these the edge is, alone in a row, that the entry had before it is put anew.
+fn outdated_at(entries: &Table, rows: &[Row], edge: Edge) -> Option<usize>
+    ensures { IfSome result (λ k. (r : Row) × (slice_get rows.now k ≡ Some r) × Keeps (memory_of entries.now) (edges_of r) []) }
+{
+    for place in 0..rows.len() {
+        if is_outdated(entries, rows[place], edge) {
+            return Some(place);
+        }
+    }
+    None
+}
+
+// The edge comes in place of that one, where it is found in a list of few rows.
+fn replaces_outdated(entries: &Table, rows: &mut Many, edge: Edge) -> bool
+    ensures { MatchBool result (Lists (memory_of entries.now) edge (edges_along rows.old.items) (edges_along rows.new.items)
+        × Contains (edges_along rows.new.items) edge) (rows.new.items ≡ rows.old.items) }
+{
+    if rows.len() > FEW {
+        return false;
+    }
+    match outdated_at(entries, rows.as_slice(), edge) {
+        Some(place) => {
+            set_row(rows, place, Row::of(edge));
+            true
+        }
+        None => false,
+    }
+}
+
 // Makes room for one more row of a list that is full: it loses those that tell of no entry first, and gets more room only where half
 // of it or less is left then.
 fn make_room(entries: &Table, rows: &mut Many) -> Result<(), AllocError>
@@ -86,15 +118,26 @@ fn make_room(entries: &Table, rows: &mut Many) -> Result<(), AllocError>
     Ok(())
 }
 
-// One more row of a list that is full.
-#[inline(never)]
-fn add_to_full(entries: &Table, rows: &mut Many, edge: Edge) -> Result<(), AllocError>
+// One more row of a list that is full, once there is room for it.
+fn add_with_room(entries: &Table, rows: &mut Many, edge: Edge) -> Result<(), AllocError>
     ensures lists { Lists (memory_of entries.now) edge (edges_along rows.old.items) (edges_along rows.new.items) }
     ensures has { OnOk result (Contains (edges_along rows.new.items) edge) }
 {
     make_room(entries, rows)?;
     rows.push(Row::of(edge))?;
     Ok(())
+}
+
+// One more edge of a list that is full.
+#[inline(never)]
+fn add_to_full(entries: &Table, rows: &mut Many, edge: Edge) -> Result<(), AllocError>
+    ensures lists { Lists (memory_of entries.now) edge (edges_along rows.old.items) (edges_along rows.new.items) }
+    ensures has { OnOk result (Contains (edges_along rows.new.items) edge) }
+{
+    if replaces_outdated(entries, rows, edge) {
+        return Ok(());
+    }
+    add_with_room(entries, rows, edge)
 }
 
 // One more row of a list in a block.
@@ -135,11 +178,23 @@ fn do_end_with(rows: &[Row], edge: Edge) -> bool
     }
 }
 
+// Whether the edge neither lies behind the last of these rows nor is its last one, as is seen at once.
+fn is_apart(rows: &[Row], edge: Edge) -> bool {
+    match rows.last() {
+        Some(row) => row.is_apart(edge),
+        None => true,
+    }
+}
+
 /// One more edge of a list in a block: its last row has it, or another one.
+#[inline(always)]
 pub fn add_to_many(entries: &Table, rows: &mut Many, edge: Edge) -> Result<(), AllocError>
     ensures lists { Lists (memory_of entries.now) edge (edges_along rows.old.items) (edges_along rows.new.items) }
     ensures has { OnOk result (Contains (edges_along rows.new.items) edge) }
 {
+    if is_apart(rows.as_slice(), edge) {
+        return add_row(entries, rows, edge);
+    }
     if extends_last(rows, edge) {
         return Ok(());
     }
@@ -249,6 +304,7 @@ fn add_to_row(
 }
 
 /// One more edge of a list.
+#[inline(always)]
 pub fn add_edge(
     alloc: Global,
     entries: &Table,

@@ -21,6 +21,7 @@ use crate::cutting::{doom_users, forget_all, take_from};
 use crate::edge::{Edge, Slot};
 use crate::entry::{Entry, Links};
 use crate::keeper::{Order, Put};
+use crate::likely::Likely;
 use crate::linking::{add_readers, add_users};
 use crate::putting::fresh;
 use crate::run::AllReaders;
@@ -40,12 +41,12 @@ fn is_traced(value: &Option<Value>, order: Order) -> bool
     }
 }
 
-/// The slot of the instance's entry, which may be this one, or that of the next one.
-pub fn slot_for(entries: &Table, inst: &Inst, near: Slot) -> Result<Slot, AllocError>
+/// The slot of the instance's entry, which may stand at that place, or that of the next one.
+pub fn slot_for(entries: &Table, inst: &Inst, place: usize) -> Result<Slot, AllocError>
     ensures slot { IfOk result (λ slot. IsSlotFor entries.now inst.now slot) }
     ensures its { IfOk result (λ slot. (e : Info) → memory_of entries.now slot ≡ Some e → e.instance ≡ inst.now) }
 {
-    match slot_by(entries, inst, near) {
+    match slot_by(entries, inst, place) {
         Some(slot) => Ok(slot),
         None => entries.next(),
     }
@@ -133,6 +134,7 @@ pub fn enter_held(
     readers: &mut AllReaders,
     index_read: &mut Vec<Node>,
     edge: Edge,
+    likely: &Likely,
     known: &Option<Links>,
     inst: Inst,
     value: Option<Value>,
@@ -146,7 +148,7 @@ pub fn enter_held(
         (edges_to readers.old) cut.old (edges_to readers.new) cut.new result }
     ensures noted { AreNoted (edges_to readers.old) index_read.old.items → AreNoted (edges_to readers.new) index_read.new.items }
 {
-    let links = slots_again(alloc, &cut.entries, uses, known)?;
+    let links = slots_again(alloc, &cut.entries, likely, uses, known)?;
     make_standing(&mut cut.standings, edge.slot)?;
     add_readers(alloc, &cut.entries, readers, index_read, reads, edge)?;
     add_users(alloc, &mut cut.entries, links.as_slice(), edge)?;

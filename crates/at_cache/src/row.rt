@@ -140,6 +140,11 @@ impl Row {
         })
     }
 
+    /// Whether the edge can't be one of a row that begins like this one: its slot is further from the first one's than its number, or less far.
+    pub fn is_apart(&self, edge: Edge) -> bool {
+        u64::from(edge.slot.wrapping_sub(self.slot)) != edge.stamp.wrapping_sub(self.stamp)
+    }
+
     /// Whether its last edge is that one.
     pub fn ends_with(&self, edge: Edge) -> bool
         ensures { IsTrue result → Contains (edges_of self.now) edge }

@@ -19,8 +19,6 @@ pub const LEVELS: usize = 400;
 pub struct Counts {
     pub puts: u64,
     pub work: u64,
-    /// Where the last entry is that couldn't be kept again by itself. Nothing rests on it.
-    pub stuck: Slot,
 }
 
 /// Whether the entry in the slot is kept with a value, once all that can be kept again is, of what it used, and so on, and of itself. What lies
@@ -63,7 +61,6 @@ fn settle_below(
         return entry.value.is_some();
     }
     if !standing.traced || levels == 0 {
-        counts.stuck = slot;
         return false;
     }
     if !settle_all(

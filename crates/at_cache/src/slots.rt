@@ -82,7 +82,7 @@ impl Table {
                 return Some(pair.1);
             }
         }
-        self.entries.get(instance)
+        self.get(instance)
     }
 
     /// The entry in the slot.

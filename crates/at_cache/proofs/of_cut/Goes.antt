@@ -52,15 +52,6 @@ module _ (lists : Location ℕ → List Edge) (t : Table) where
     settles = λ m are. settles_none m i (kept_held lists t st c.puts) c.work whole.few;
   }
 
-  -- wherever it is stuck
-  pub goes_stuck : (i : Instance ℕ) (st : List Standing) (c : Counts) (s : ℕ) → IsWhole lists t st c
-      → GoesOn lists t i st c st (record c { stuck = s })
-  goes_stuck i st c s whole = record {
-    whole = record { indexed = whole.indexed; tied = whole.tied; valued = whole.valued; few = whole.few };
-    traced = λ k. refl;
-    settles = λ m are. settles_none m i (kept_held lists t st c.puts) c.work whole.few;
-  }
-
   module _ (i : Instance ℕ) (a b c : List Standing) (x y z : Counts) where
     pub goes_then : GoesOn lists t i a x b y → GoesOn lists t i b y c z → GoesOn lists t i a x c z
     goes_then first second = record {

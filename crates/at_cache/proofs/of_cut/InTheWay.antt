@@ -1,9 +1,9 @@
 -- How it is found what stands in the way of keeping an entry again.
-use Rattle.std.proofs.Common.{◌≡◌, inl, inr, ◌<◌, ◌+◌, ◌∷◌, [], ℕ, List, length, get_or, take, Bool, true, false, not, ◌&&◌, Option, Some, None, IsSome, is_some, option_map, nat_eq, IfSome, Contains, refl, sym, ap, ◌∙◌, subst, true≢false}
+use Rattle.std.proofs.Common.{◌≡◌, inl, inr, ◌<◌, ◌+◌, ◌∷◌, [], ℕ, List, length, get_or, take, Bool, true, false, not, ◌&&◌, ◌||◌, Option, Some, None, IsSome, is_some, option_map, nat_eq, IfSome, Contains, refl, sym, ap, ◌∙◌, subst, true≢false}
 use Rattle.std.proofs.lemmas.Bool.{and_parts, not-false, not-true}
 use Rattle.std.proofs.lemmas.Option.{same_Some}
 use Rattle.std.proofs.lemmas.List.{take_more}
-use Rattle.std.proofs.lemmas.List.Elements.{Contains-append_cases, Contains-append_right}
+use Rattle.std.proofs.lemmas.List.Elements.{Contains-append_cases, Contains-append_left, Contains-append_right}
 use Rattle.slab.proofs.SlabLemmas.{Contains-cons_cases}
 use Rattle.std.specs.List.{list_any}
 use Rattle.std.specs.Map.{lookup}
@@ -15,7 +15,7 @@ use Rattle.at_cache.specs.declared.edge.Edge.{Edge}
 use Rattle.at_cache.specs.declared.entry.Entry.{Entry}
 use Rattle.at_cache.specs.declared.standing.Standing.{Standing}
 use Rattle.at_cache.specs.declared.table.Table.{Table}
-use Rattle.at_cache.specs.Blocking.{Follows, IsFirstOpen, LeadsTo, is_valued}
+use Rattle.at_cache.specs.Blocking.{Follows, IsFirstOpen, LeadsTo, is_known, is_valued}
 use Rattle.at_cache.specs.Info.{Info, Memory, info, memory_of}
 use Rattle.at_cache.specs.Kept.{value_at}
 use Rattle.at_cache.specs.Placed.{at}
@@ -72,41 +72,61 @@ module _ (t : Table) (st : List Standing) where
         | inr rest ↦ all_valued lists puts ps (λ q c. all q (Contains-append_right (p ∷ []) ps q c)) u rest
       ]
 
-  pub not_valued : (s : ℕ) (x : Standing) → x ≡ standing_of st s → not x.holds ≡ true → false ≡ is_valued t st s
-  not_valued s x is off =
-      let holds = sym (ap (λ (y : Standing). y.holds) is) ∙ not-true x.holds off in
-      sym (ap (λ b. b && valued_in (m s)) holds)
+  -- what can be kept again has a value
+  is_so : AreValued st m → (q : ℕ) (f : Info) → m q ≡ Some f → is_known t st q ≡ true → is_valued t st q ≡ true
+  is_so valued q f there known =
+      let (holds, some) = and_parts _ _ known in
+      let has = by (standing_of st q).traced refl some in
+      λ i. holds i && has i
+    where
+      by : (b : Bool) → (standing_of st q).traced ≡ b → (b || valued_in (m q)) ≡ true → valued_in (m q) ≡ true
+      by true on h = ap valued_in there ∙ valued q f there on
+      by false off h = h
 
-  valued_by : (s : ℕ) (x : Standing) (o : Option (Instance ℕ × Entry)) → x ≡ standing_of st s → not x.holds ≡ false
-      → o ≡ at t.entries.entries (get t.places) s → is_valued t st s ≡ valued_in (option_map info o)
-  valued_by s x o is on found =
-      ap (λ b. b && valued_in (m s)) (sym (ap (λ (y : Standing). y.holds) is) ∙ not-false x.holds on)
+  pub not_known : (s : ℕ) (x : Standing) → x ≡ standing_of st s → not x.holds ≡ true → false ≡ is_known t st s
+  not_known s x is off =
+      let holds = sym (ap (λ (y : Standing). y.holds) is) ∙ not-true x.holds off in
+      sym (ap (λ b. b && ((standing_of st s).traced || valued_in (m s))) holds)
+
+  pub traced_known : (s : ℕ) (x : Standing) → x ≡ standing_of st s → not x.holds ≡ false → x.traced ≡ true
+      → true ≡ is_known t st s
+  traced_known s x is on traced =
+      let holds = sym (ap (λ (y : Standing). y.holds) is) ∙ not-false x.holds on in
+      let again = sym (ap (λ (y : Standing). y.traced) is) ∙ traced in
+      sym (λ i. holds i && (again i || valued_in (m s)))
+
+  known_by : (s : ℕ) (x : Standing) (o : Option (Instance ℕ × Entry)) → x ≡ standing_of st s → not x.holds ≡ false
+      → x.traced ≡ false → o ≡ at t.entries.entries (get t.places) s → is_known t st s ≡ valued_in (option_map info o)
+  known_by s x o is on traced found =
+      let holds = sym (ap (λ (y : Standing). y.holds) is) ∙ not-false x.holds on in
+      let never = sym (ap (λ (y : Standing). y.traced) is) ∙ traced in
+      (λ i. holds i && (never i || valued_in (m s)))
       ∙ ap (λ (o : Option (Instance ℕ × Entry)). valued_in (option_map info o)) (sym found)
 
-  pub some_valued : (s : ℕ) (x : Standing) (e : Instance ℕ × Entry) → x ≡ standing_of st s → not x.holds ≡ false
-      → Found s e → is_some e.1.value ≡ is_valued t st s
-  some_valued s x e is on found = sym (valued_by s x (Some e) is on found ∙ has_shown value_view e.1.value)
+  pub some_known : (s : ℕ) (x : Standing) (e : Instance ℕ × Entry) → x ≡ standing_of st s → not x.holds ≡ false
+      → x.traced ≡ false → Found s e → is_some e.1.value ≡ is_known t st s
+  some_known s x e is on traced found = sym (known_by s x (Some e) is on traced found ∙ has_shown value_view e.1.value)
 
-  pub none_valued : (s : ℕ) (x : Standing) → x ≡ standing_of st s → not x.holds ≡ false
-      → None ≡ at t.entries.entries (get t.places) s → false ≡ is_valued t st s
-  none_valued s x is on found = sym (valued_by s x None is on found)
+  pub none_known : (s : ℕ) (x : Standing) → x ≡ standing_of st s → not x.holds ≡ false → x.traced ≡ false
+      → None ≡ at t.entries.entries (get t.places) s → false ≡ is_known t st s
+  none_known s x is on traced found = sym (known_by s x None is on traced found)
 
   -- the slot at a place, behind others
   module _ (ps : List ℕ) (n z : ℕ) (less : n < length ps)
-      (all : (q : ℕ) → Contains (take n ps) q → is_valued t st q ≡ true) where
+      (all : (q : ℕ) → Contains (take n ps) q → is_known t st q ≡ true) where
     pub open_at : IsFirstOpen t st ps (get_or ps n z)
     open_at =
         let (back, among) = before_place ps n z less in
         record { front = take n ps; back = back; among = among; before = all }
 
-    pub one_past : is_valued t st (get_or ps n z) ≡ true
-        → (q : ℕ) → Contains (take (n + 1) ps) q → is_valued t st q ≡ true
+    pub one_past : is_known t st (get_or ps n z) ≡ true
+        → (q : ℕ) → Contains (take (n + 1) ps) q → is_known t st q ≡ true
     one_past it q c =
         let among = subst (λ xs. Contains xs q) (take_more ps n z less) c in
         elim (Contains-append_cases (take n ps) (get_or ps n z ∷ []) q among) [
           | inl before ↦ all q before
           | inr here ↦ elim (Contains-cons_cases (get_or ps n z) q [] here) [
-            | inl same ↦ subst (λ k. is_valued t st k ≡ true) same it
+            | inl same ↦ subst (λ k. is_known t st k ≡ true) same it
             | inr none ↦ absurd (none_in q none)
           ]
         ]
@@ -122,6 +142,13 @@ module _ (t : Table) (st : List Standing) where
           let behind = Contains-append_right first.front (p ∷ first.back) p (head_of p first.back) in
           is_among e.links p (subst (λ ps. Contains ps p) (sym first.among) behind)
 
+      so : (o : ℕ) → Contains first.front o → is_known t st o ≡ true → is_valued t st o ≡ true
+      so o c =
+          let used = Contains-append_left first.front (p ∷ first.back) o c in
+          let is = is_among e.links o (subst (λ ps. Contains ps o) (sym first.among) used) in
+          let (f, in_o, listed) = tied_there m s e o (tied.used s e there o is) in
+          is_so valued o f in_o
+
       follows : Follows t st lists puts e p
       follows =
           let (f, in_p, listed) = tied_there m s e p (tied.used s e there p among) in
@@ -131,7 +158,7 @@ module _ (t : Table) (st : List Standing) where
             λ q next. below e.instance f.instance (trace_of lists m s e v) (instances_in m first.front)
                 (instances_in m first.back) next (trace_slot lists t st s e v there traced has)
                 (ap (instances_in m) first.among ∙ instances_at lists t first.front first.back p f in_p)
-                (all_valued lists puts first.front first.before),
+                (all_valued lists puts first.front (λ o c. so o c (first.before o c))),
           )
 
   -- the same of what is found in the slot

@@ -1,6 +1,6 @@
 //! The recursion of an evaluation in one go: over the parts of expressions, and through the instances that they demand.
 
-ghost use Rattle.std.specs.Prelude.{◌≡◌, ◌≤◌, IfOk, IfSome, OnOk, IsTrue, drop, false, length, map, take, true};
+ghost use Rattle.std.specs.Prelude.{◌≡◌, ◌≤◌, [], IfOk, IfSome, OnOk, IsTrue, drop, false, length, map, take, true};
 ghost use Rattle.at_model.specs.of_fixpoints.Fixpoints.{HasValue};
 ghost use Rattle.at_store.specs.Shown.{contents};
 ghost use Rattle.at_rules.specs.Bodies.{bodies_view, body_view};
@@ -27,10 +27,14 @@ use at_body::{Arguments, Binary, Fold, Inst, Reads, Unary, Value, come_to};
 use at_cache::Keeper;
 use at_rules::{AttrId, Body};
 use at_store::{Loc, Node};
-use std::alloc::AllocError;
+use std::alloc::{AllocError, Global};
 
 // How many instances are evaluated at most, one behind the other, so that one which used them may be kept again.
 const IN_THE_WAY: usize = 16;
+
+// A fresh level has room for so many locations and instances.
+const READS: usize = 32;
+const USES: usize = 8;
 
 // A level is used again where its evaluation looked at no more locations than that.
 const SPARED: usize = 1024;
@@ -88,10 +92,7 @@ impl Direct {
     {
         match self.spare.pop() {
             Some(level) if level.reads.len() <= SPARED => emptied(level),
-            _ => Level {
-                reads: Reads::new(self.alloc),
-                uses: Vec::new(self.alloc),
-            },
+            _ => fresh_level(self.alloc),
         }
     }
 
@@ -713,7 +714,27 @@ fn plain_element(
     )
 }
 
-// A level with nothing in it.
+// A level with nothing in it, and room for what most evaluations look at.
+fn fresh_level(alloc: Global) -> Level
+    ensures { IsEmptied result }
+{
+    Level {
+        reads: Reads::with_room(alloc, READS),
+        uses: room_for_uses(alloc),
+    }
+}
+
+// No instances, with room for what most evaluations take, where there is memory for that.
+fn room_for_uses(alloc: Global) -> Vec<Inst>
+    ensures { result.items ≡ [] }
+{
+    match Vec::with_capacity(alloc, USES) {
+        Ok(uses) => uses,
+        Err(_) => Vec::new(alloc),
+    }
+}
+
+// The level with nothing in it.
 fn emptied(level: Level) -> Level
     ensures { IsEmptied result }
 {

@@ -111,6 +111,7 @@ impl Direct {
     }
 
     // The kept value of a lazy instance, or the one that is remembered of another one.
+    #[inline(always)]
     fn value_of<K: Keeper>(
         &self,
         keeper: &K,

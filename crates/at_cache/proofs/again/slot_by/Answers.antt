@@ -1,5 +1,9 @@
-use Rattle.at_cache.proofs.of_cut.Slotted.{slot_is}
+use Rattle.std.proofs.Common.{ap, option_map}
+use Rattle.at_cache.specs.declared.entry.Entry.{Entry}
 use Rattle.at_cache.proofs.again.slot_by.Goals as goal
 
-pub returns-then-is_its : goal.returns-then-is_its
-returns-then-is_its c = slot_is c.args.entries.now c.args.instance.now _ (c.is_its.ensures c.if-is_its.true)
+pub returns-in-Some : goal.returns-in-Some
+returns-in-Some c = ap (option_map (λ (e : Entry). e.slot)) c.in-Some.ensures.value
+
+pub returns-in-None : goal.returns-in-None
+returns-in-None c = ap (option_map (λ (e : Entry). e.slot)) c.in-None.ensures.value

@@ -6,7 +6,7 @@ use Rattle.at_cache.specs.Info.{Info, memory_of}
 use Rattle.at_cache.specs.Putting.{AreTaken}
 use Rattle.at_cache.specs.Standings.{instances_in, kept_held, trace_of}
 use Rattle.at_cache.specs.Traced.{AreAllKept}
-use Rattle.at_cache.proofs.of_cut.Goes.{goes_at, goes_none, goes_stuck, goes_then, has_shown, is_on, is_pair, links_taken, trace_slot, value_kept, value_slot}
+use Rattle.at_cache.proofs.of_cut.Goes.{goes_at, goes_none, goes_then, has_shown, is_on, is_pair, links_taken, trace_slot, value_kept, value_slot}
 use Rattle.at_cache.proofs.Taking.{none_in}
 use Rattle.at_cache.proofs.settling.+settling.Goals as goal
 
@@ -52,7 +52,7 @@ settle_below-returns-then-standing t c lists whole e there = (
 
 pub settle_below-returns-then-not-standing : goal.settle_below-returns-then-not-standing
 settle_below-returns-then-not-standing t c lists whole e there =
-    (goes_stuck lists c.args.entries.now e.instance _ _ c.args.slot whole, λ h. absurd (true≢false (sym h)))
+    (goes_none lists c.args.entries.now e.instance _ _ whole, λ h. absurd (true≢false (sym h)))
 
 pub settle_below-returns-then-not-settle_all : goal.settle_below-returns-then-not-settle_all
 settle_below-returns-then-not-settle_all t c lists whole e there =

@@ -24,7 +24,7 @@ pub returns : goal.returns
 returns c lists whole can e there =
     let (goes, kept) = goes_itself lists c.args._entries.now c.args.slot c.args.standings.now.items
     c.set_standing.new.standings.items c.args.counts.now
-    (record { puts = c.args.counts.now.puts + 1; work = c.saturating_add-counts.result; stuck = c.args.counts.now.stuck }) e there whole can
+    (record { puts = c.args.counts.now.puts + 1; work = c.saturating_add-counts.result }) e there whole can
     (ap (λ (z : Standing). z.holds) (sym (rw c.as_slice.ensures.value at c.standing_at-standing.ensures)) ∙ c.if-standing.false)
     (λ k. ap (λ ss. standing_of ss k) c.set_standing.ensures ∙ set_is c.args.standings.now.items c.args.slot _
     (standing_in c.args.standings.now.items c.args.slot can.0) k) refl

@@ -9,14 +9,17 @@ use Rattle.at_cache.proofs.keep_cut_off.KeepCutOffKeeper.settle.Goals as goal
 pub returns-then-not-self-clause-settled : goal.returns-then-not-self-clause-settled
 returns-then-not-self-clause-settled c = settles_nothing _ _ _ _ c.args.work c.ranges.work.fits
 
+pub returns-then-not-standing_at-clause-settled : goal.returns-then-not-standing_at-clause-settled
+returns-then-not-standing_at-clause-settled c = settles_nothing _ _ _ _ c.args.work c.ranges.work.fits
+
 pub returns-in_default-clause-settled : goal.returns-in_default-clause-settled
 returns-in_default-clause-settled c = settles_nothing _ _ _ _ c.args.work c.ranges.work.fits
 
-pub invariant_of-self : goal.invariant_of-self
-invariant_of-self c =
+pub invariant_of-self-2 : goal.invariant_of-self-2
+invariant_of-self-2 c =
     let k = c.args.self.now in
     let lists = edges_to k.readers in
-    let whole : IsWhole lists k.cut.entries k.cut.standings.items (record { puts = k.puts; work = c.args.work; stuck = c.in-Some.slot })
+    let whole : IsWhole lists k.cut.entries k.cut.standings.items (record { puts = k.puts; work = c.args.work })
     = record { indexed = k.indexed; tied = k.tied; valued = k.valued; few = c.ranges.work.fits } in
     let goes = goes_from lists k.cut.entries c.args.inst.now _ c.in-Some.ensures _ _ _ _ _ (c.settle_at.ensures lists whole) in
     record {
@@ -31,7 +34,7 @@ pub returns-clause-settled : goal.returns-clause-settled
 returns-clause-settled c =
     let k = c.args.self.now in
     let lists = edges_to k.readers in
-    let whole : IsWhole lists k.cut.entries k.cut.standings.items (record { puts = k.puts; work = c.args.work; stuck = c.in-Some.slot })
+    let whole : IsWhole lists k.cut.entries k.cut.standings.items (record { puts = k.puts; work = c.args.work })
     = record { indexed = k.indexed; tied = k.tied; valued = k.valued; few = c.ranges.work.fits } in
     settled_from lists k.cut.entries c.args.inst.now _ c.in-Some.ensures _ _ _ _ _ (c.settle_at.ensures lists whole)
 
@@ -39,12 +42,15 @@ pub returns-clause-stay : goal.returns-clause-stay
 returns-clause-stay c =
     let k = c.args.self.now in
     let lists = edges_to k.readers in
-    let whole : IsWhole lists k.cut.entries k.cut.standings.items (record { puts = k.puts; work = c.args.work; stuck = c.in-Some.slot })
+    let whole : IsWhole lists k.cut.entries k.cut.standings.items (record { puts = k.puts; work = c.args.work })
     = record { indexed = k.indexed; tied = k.tied; valued = k.valued; few = c.ranges.work.fits } in
     stay_from lists k.cut.entries c.args.inst.now _ c.in-Some.ensures _ _ _ _ _ (c.settle_at.ensures lists whole)
 
 pub returns-then-not-self-clause-alike : goal.returns-then-not-self-clause-alike
 returns-then-not-self-clause-alike c = alike_itself _
+
+pub returns-then-not-standing_at-clause-alike : goal.returns-then-not-standing_at-clause-alike
+returns-then-not-standing_at-clause-alike c = alike_itself _
 
 pub returns-in_default-clause-alike : goal.returns-in_default-clause-alike
 returns-in_default-clause-alike c = alike_itself _
@@ -53,6 +59,6 @@ pub returns-clause-alike : goal.returns-clause-alike
 returns-clause-alike c =
     let k = c.args.self.now in
     let lists = edges_to k.readers in
-    let whole : IsWhole lists k.cut.entries k.cut.standings.items (record { puts = k.puts; work = c.args.work; stuck = c.in-Some.slot })
+    let whole : IsWhole lists k.cut.entries k.cut.standings.items (record { puts = k.puts; work = c.args.work })
     = record { indexed = k.indexed; tied = k.tied; valued = k.valued; few = c.ranges.work.fits } in
     alike_from lists k.cut.entries c.args.inst.now _ c.in-Some.ensures _ _ _ _ _ (c.settle_at.ensures lists whole)

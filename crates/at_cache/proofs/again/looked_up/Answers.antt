@@ -1,9 +1,0 @@
-use Rattle.std.proofs.Common.{ap, option_map}
-use Rattle.at_cache.specs.declared.entry.Entry.{Entry}
-use Rattle.at_cache.proofs.again.looked_up.Goals as goal
-
-pub returns-in-Some : goal.returns-in-Some
-returns-in-Some c = ap (option_map (λ (e : Entry). e.slot)) c.in-Some.ensures.value
-
-pub returns-in-None : goal.returns-in-None
-returns-in-None c = ap (option_map (λ (e : Entry). e.slot)) c.in-None.ensures.value
