@@ -32,8 +32,7 @@ pub row_comes : {m : Memory} {read mid new : List Row} (i : ℕ) (t : Row) (x : 
     → Lists m x (edges_along mid) (edges_along new) × Contains (edges_along new) x
 row_comes {m} {read} {mid} {new} i t x same (o, at, stale) one so =
     let at_mid : slice_get mid i ≡ Some o = ap (λ rs. slice_get rs i) (sym same) ∙ at in
-    let at_new : slice_get new i ≡ Some t = ap (λ rs. slice_get rs i) so ∙ get_same mid i t o at_mid in
-    (
+    let at_new : slice_get new i ≡ Some t = ap (λ rs. slice_get rs i) so ∙ get_same mid i t o at_mid in (
       subst (λ rs. Lists m x (edges_along mid) (edges_along rs)) (sym so) (one_else mid i o t at_mid (listed_one stale one)),
       along_has new i t x at_new (subst (λ ys. Contains ys x) (sym one) (head_of x [])),
     )

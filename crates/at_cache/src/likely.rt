@@ -17,7 +17,11 @@ pub struct Likely {
 fn position_of(instance: &Inst) -> usize {
     let attribute = instance.attribute().index();
     let mark = (attribute ^ attribute / WIDTH) % WIDTH;
-    instance.node().index().wrapping_mul(WIDTH).wrapping_add(mark)
+    instance
+        .node()
+        .index()
+        .wrapping_mul(WIDTH)
+        .wrapping_add(mark)
 }
 
 impl Likely {

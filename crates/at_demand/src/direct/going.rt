@@ -34,6 +34,7 @@ const IN_THE_WAY: usize = 16;
 
 // A fresh level has room for so many locations and instances.
 const READS: usize = 32;
+
 const USES: usize = 8;
 
 // A level is used again where its evaluation looked at no more locations than that.
