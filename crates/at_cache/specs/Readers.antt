@@ -1,5 +1,6 @@
 -- Who read which location.
-use Rattle.std.specs.Prelude.{◌≡◌, ◌<◌, ◌&&◌, ◌||◌, ◌⊎◌, ℕ, Bool, true, false, List, [], None, Some, Contains, if◌then◌else◌, length, slice_get}
+use Rattle.std.specs.Prelude.{◌≡◌, ◌<◌, ◌+◌, ◌*◌, ◌&&◌, ◌⊎◌, ℕ, Bool, true, false, List, [], Option, None, Some, Contains, if◌then◌else◌, length, nat_eq, slice_get}
+use Rattle.std.specs.Int.{bit_at}
 use Rattle.std.specs.List.{flat_map}
 use Rattle.smallvec.specs.SmallVec.{SmallVec}
 use Rattle.at_model.specs.Run.{Location, Is, Tok, Slot, Up, Idx}
@@ -10,31 +11,36 @@ use Rattle.at_cache.specs.declared.facet.Readers.{Readers}
 use Rattle.at_cache.specs.Edges.{edges_in}
 use Rattle.at_cache.specs.Kept.{node_at, same_location}
 
--- the own location of a facet of the node
-abbrev pub facet_at : ℕ → Facet → Location ℕ
-facet_at node facet.Is = Is node
-facet_at node (facet.Tok part) = Tok node part
-facet_at node (facet.Slot part) = Slot node part
-facet_at node facet.Up = Up node
-facet_at node facet.Idx = Idx node
-facet_at node (facet.ClassAndTok part) = Tok node part
-facet_at node (facet.ClassAndSlot part) = Slot node part
-facet_at node facet.ClassAndUp = Up node
+-- whether the number is in the set
+abbrev pub has : (set number : ℕ) → Bool
+has set number = nat_eq (bit_at set number) 1
 
--- whether it stands for the class of the node, too
-abbrev pub has_class : Facet → Bool
-has_class facet.Is = false
-has_class (facet.Tok part) = false
-has_class (facet.Slot part) = false
-has_class facet.Up = false
-has_class facet.Idx = false
-has_class (facet.ClassAndTok part) = true
-has_class (facet.ClassAndSlot part) = true
-has_class facet.ClassAndUp = true
+-- The number of a location among those of its node: 0 of the class, 1 of the parent, and then in turn those of tokens and of components.
+-- An index has none.
+abbrev pub number_of : Location ℕ → Option ℕ
+number_of (Is n) = Some 0
+number_of (Up n) = Some 1
+number_of (Tok n part) = Some (2 * part + 2)
+number_of (Slot n part) = Some (2 * part + 3)
+number_of (Idx n) = None
+
+-- whether the number of the location is in the set
+abbrev pub is_near : ℕ → Location ℕ → Bool
+is_near set l = elim (number_of l) [ None ↦ false | Some number ↦ has set number ]
 
 -- whether the facet of the node stands for the location
 abbrev pub stands_for : ℕ → Facet → Location ℕ → Bool
-stands_for node f l = same_location l (facet_at node f) || (has_class f && same_location l (Is node))
+stands_for node (facet.Near set) l = is_near set l && nat_eq (node_at l) node
+stands_for node (facet.Tok part) l = same_location l (Tok node part)
+stands_for node (facet.Slot part) l = same_location l (Slot node part)
+stands_for node facet.Idx l = same_location l (Idx node)
+
+-- whether it is the index
+abbrev pub is_of_index : Facet → Bool
+is_of_index (facet.Near set) = false
+is_of_index (facet.Tok part) = false
+is_of_index (facet.Slot part) = false
+is_of_index facet.Idx = true
 
 -- The facet of the node stands for those at the front of the locations, of which these are left.
 pub record IsFirst (locations : List (Location ℕ)) (node : ℕ) (f : Facet) (left : List (Location ℕ)) : Type 0 where

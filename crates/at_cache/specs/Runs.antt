@@ -11,7 +11,7 @@ use Rattle.at_cache.specs.Asking.{is_index}
 use Rattle.at_cache.specs.Info.{Memory}
 use Rattle.at_cache.specs.Kept.{node_at}
 use Rattle.at_cache.specs.Putting.{is_current}
-use Rattle.at_cache.specs.Readers.{facet_at, stands_for}
+use Rattle.at_cache.specs.Readers.{is_of_index, stands_for}
 
 -- whether a place is behind the one, and the other one or before it
 abbrev pub lies : (behind last : ℕ) → ℕ → Bool
@@ -92,7 +92,7 @@ pub record SitsAt (seats : List Seat) (run place node : ℕ) (f : Facet) : Type 
   pub inside : seat.run ≡ run
   pub at : seat.place ≡ place
   pub facet : seat.facet ≡ f
-  pub own : (n : ℕ) → is_index (facet_at n f) ≡ false
+  pub own : is_of_index f ≡ false
 
 -- That part of the run has those at the front of the locations, of which these are left.
 pub record Follows (seats : List Seat) (run behind last : ℕ) (locations left : List (Location ℕ)) : Type 0 where

@@ -1,9 +1,10 @@
 -- How many locations the entries read.
-use Rattle.std.specs.Prelude.{◌+◌, ◌*◌, ℕ, List, if◌then◌else◌}
+use Rattle.std.specs.Prelude.{◌+◌, ◌*◌, ℕ, List, count_ones, if◌then◌else◌}
 use Rattle.std.specs.List.{sum_by}
 use Rattle.smallvec.specs.SmallVec.{SmallVec}
 use Rattle.at_cache.specs.declared.edge.Edge.{Edge}
 use Rattle.at_cache.specs.declared.facet.Facet.{Facet}
+use Rattle.at_cache.specs.declared.facet.Facet.TheVariants as facet
 use Rattle.at_cache.specs.declared.facet.Readers.{Readers}
 use Rattle.at_cache.specs.declared.run.AllReaders.{AllReaders}
 use Rattle.at_cache.specs.declared.run.Run.{Run}
@@ -12,7 +13,6 @@ use Rattle.at_cache.specs.Edges.{edges_in}
 use Rattle.at_cache.specs.Runs.{edges_on}
 use Rattle.at_cache.specs.Info.{Memory}
 use Rattle.at_cache.specs.Putting.{is_current}
-use Rattle.at_cache.specs.Readers.{has_class}
 
 -- the number of edges that tell of an entry that is there
 abbrev pub current_of : Memory → List Edge → ℕ
@@ -20,7 +20,10 @@ current_of m edges = sum_by (λ x. if is_current m x then 1 else 0) edges
 
 -- how many locations a facet stands for
 abbrev pub width : Facet → ℕ
-width f = if has_class f then 2 else 1
+width (facet.Near set) = count_ones set
+width (facet.Tok part) = 1
+width (facet.Slot part) = 1
+width facet.Idx = 1
 
 -- the number of those of what is looked at of one node
 abbrev pub held_of : Memory → List Readers → ℕ

@@ -1,6 +1,6 @@
 //! Edges of the index.
 
-ghost use Rattle.std.specs.Prelude.{◌≡◌, ◌∷◌, [], IfOk, IfSome, length, nat_eq};
+ghost use Rattle.std.specs.Prelude.{◌≡◌, ◌∷◌, [], IfOk, IfSome, IsTrue, length, nat_eq};
 ghost use Rattle.at_cache.specs.Edges.{edges_in};
 ghost use Rattle.at_cache.specs.Recorded.{same_edge};
 ghost use Rattle.at_cache.specs.Rows.{edges_along, edges_of};
@@ -54,6 +54,21 @@ impl Drop for Edges {
             Edges::More(_list) => {}
         }
     }
+}
+
+// Whether both are the same rows.
+fn are_same(rows: &[Row], others: &[Row]) -> bool
+    ensures { IsTrue result → rows.now ≡ others.now }
+{
+    if rows.len() != others.len() {
+        return false;
+    }
+    for place in 0..rows.len() {
+        if rows[place] != others[place] {
+            return false;
+        }
+    }
+    true
 }
 
 // Whether the rows have no edge.
@@ -159,6 +174,19 @@ impl Edges {
         match self.few() {
             Some(edges) => *self = edges,
             None => self.shrink_block(),
+        }
+    }
+
+    /// Whether these are the others, in the same rows.
+    pub fn are(&self, others: &Edges) -> bool
+        ensures { IsTrue result → edges_in self.now ≡ edges_in others.now }
+    {
+        match (self, others) {
+            (Edges::Few(count, step, slot, stamp), Edges::Few(more, other, place, number)) => {
+                count == more && step == other && slot == place && stamp == number
+            }
+            (Edges::More(rows), Edges::More(others)) => are_same(rows.as_slice(), others.as_slice()),
+            _ => false,
         }
     }
 

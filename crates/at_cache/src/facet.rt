@@ -1,33 +1,31 @@
 //! What is looked at of nodes, and by which entries.
 
-ghost use Rattle.std.specs.Prelude.{◌≡◌, ℕ, IfOk, IfSome, true, false};
+ghost use Rattle.std.specs.Prelude.{◌≡◌, ◌||◌, ℕ, IfOk, IfSome, MatchBool, Some, true, false};
+ghost use Rattle.at_model.specs.Run.{Location, Slot, Tok};
 ghost use Rattle.at_store.specs.Located.{loc_view};
-ghost use Rattle.at_cache.specs.Asking.{is_index};
-ghost use Rattle.at_cache.specs.Kept.{node_at};
-ghost use Rattle.at_cache.specs.Readers.{facet_at, has_class};
+ghost use Rattle.at_cache.specs.declared.facet.Facet.TheVariants as facet;
+ghost use Rattle.at_cache.specs.Kept.{Answers, node_at, same_location};
+ghost use Rattle.at_cache.specs.Readers.{is_of_index, number_of, stands_for};
+ghost use Rattle.at_cache.specs.Stored.{width};
 
 use crate::edge::Edges;
 use at_store::{Loc, Node};
 use smallvec::SmallVec;
 use std::alloc::AllocError;
 
-/// What one can look at of a node: a location without its node, in eight bytes; or two, where one is the node's class. Of most nodes that is
-/// looked at with what is looked at next, so one edge tells of both.
+/// What is looked at of a node, in eight bytes: mostly a set of its locations, by their numbers, so that one edge tells of all that an entry
+/// read of the node; or a token or a component whose number is too great for that, or the index.
 #[derive(Clone, Copy, PartialEq, Eq)]
 pub enum Facet {
-    Is,
+    Near(u32),
     Tok(u32),
     Slot(u32),
-    Up,
     Idx,
-    ClassAndTok(u32),
-    ClassAndSlot(u32),
-    ClassAndUp,
 }
 
 impl Default for Facet {
     fn default() -> Facet {
-        Facet::Is
+        Facet::Near(0)
     }
 }
 
@@ -38,8 +36,20 @@ pub struct Readers {
     pub edges: Edges,
 }
 
-/// What is looked at of a node. Of most nodes that is no more than four facets: these stand inline.
-pub type Facets = SmallVec<Readers, 4>;
+/// What is looked at of a node. Of most nodes that is no more than two facets: these stand inline.
+pub type Facets = SmallVec<Readers, 2>;
+
+/// How many stand there.
+pub const INLINE: usize = 2;
+
+// So many numbers a set may have, and so many tokens and components have one of these.
+const NUMBERS: u32 = 32;
+const NEAR: usize = 15;
+
+// The sets of the class, of the parent, and of all tokens.
+const CLASS: u32 = 1;
+const PARENT: u32 = 2;
+const TOKENS: u32 = 0x5555_5554;
 
 /// The number in four bytes; want of memory where it is too great for that.
 pub fn small(number: usize) -> Result<u32, AllocError>
@@ -51,91 +61,132 @@ pub fn small(number: usize) -> Result<u32, AllocError>
     Ok(number as u32)
 }
 
+// The token alone: in a set where its number isn't too great; want of memory where it is too great for a facet.
+fn token(part: usize) -> Result<Facet, AllocError>
+    ensures { (n : ℕ) (l : Location ℕ) → IfOk result (λ facet. stands_for n facet l ≡ same_location l (Tok n part)) }
+{
+    if part < NEAR {
+        return Ok(Facet::Near(1 << (2 * part + 2)));
+    }
+    Ok(Facet::Tok(small(part)?))
+}
+
+// The same of the component.
+fn component(part: usize) -> Result<Facet, AllocError>
+    ensures { (n : ℕ) (l : Location ℕ) → IfOk result (λ facet. stands_for n facet l ≡ same_location l (Slot n part)) }
+{
+    if part < NEAR {
+        return Ok(Facet::Near(1 << (2 * part + 3)));
+    }
+    Ok(Facet::Slot(small(part)?))
+}
+
 impl Facet {
     /// The location without its node; want of memory where its part is too great a number for a facet.
+    #[inline(always)]
     pub fn of(location: Loc) -> Result<Facet, AllocError>
-        ensures { IfOk result (λ facet. (has_class facet ≡ false) × (facet_at (node_at (loc_view location)) facet ≡ loc_view location)) }
+        ensures { (l : Location ℕ) → IfOk result (λ facet. stands_for (node_at (loc_view location)) facet l ≡ same_location l (loc_view location)) }
     {
         match location {
-            Loc::Is(_) => Ok(Facet::Is),
-            Loc::Tok(_, part) => Ok(Facet::Tok(small(part)?)),
-            Loc::Slot(_, part) => Ok(Facet::Slot(small(part)?)),
-            Loc::Up(_) => Ok(Facet::Up),
+            Loc::Is(_) => Ok(Facet::Near(CLASS)),
+            Loc::Up(_) => Ok(Facet::Near(PARENT)),
+            Loc::Tok(_, part) => token(part),
+            Loc::Slot(_, part) => component(part),
             Loc::Idx(_) => Ok(Facet::Idx),
         }
     }
 
-    /// The one facet of the node's class and of the location, where there is one; want of memory where its part is too great a number for
-    /// a facet.
-    pub fn of_both(node: Node, location: Loc) -> Result<Option<Facet>, AllocError>
-        ensures { IfOk result (λ both. IfSome both (λ facet. (has_class facet ≡ true) × (facet_at node facet ≡ loc_view location))) }
+    /// The one facet of what both stand for, where there is one.
+    pub fn with(self, other: Facet) -> Option<Facet>
+        ensures both { IfSome result (λ facet. (n : ℕ) (l : Location ℕ) → stands_for n facet l ≡ (stands_for n self l || stands_for n other l)) }
+        ensures near { IfSome result (λ facet. is_of_index facet ≡ false) }
     {
-        if location.node() != node {
-            return Ok(None);
-        }
-        match location {
-            Loc::Is(_) => Ok(None),
-            Loc::Tok(_, part) => Ok(Some(Facet::ClassAndTok(small(part)?))),
-            Loc::Slot(_, part) => Ok(Some(Facet::ClassAndSlot(small(part)?))),
-            Loc::Up(_) => Ok(Some(Facet::ClassAndUp)),
-            Loc::Idx(_) => Ok(None),
+        match (self, other) {
+            (Facet::Near(some), Facet::Near(more)) => Some(Facet::Near(some | more)),
+            _ => None,
         }
     }
 
-    /// Whether it stands for the node's class beside its own location.
-    pub fn has_class(self) -> bool
-        ensures { result ≡ has_class self }
+    /// How many locations it stands for.
+    pub fn width(self) -> usize
+        ensures { result ≡ width self }
     {
         match self {
-            Facet::Is => false,
-            Facet::Tok(_) => false,
-            Facet::Slot(_) => false,
-            Facet::Up => false,
-            Facet::Idx => false,
-            Facet::ClassAndTok(_) => true,
-            Facet::ClassAndSlot(_) => true,
-            Facet::ClassAndUp => true,
-        }
-    }
-
-    /// Its own location, of that node.
-    pub fn at(self, node: Node) -> Loc
-        ensures { loc_view result ≡ facet_at node self }
-    {
-        match self {
-            Facet::Is => Loc::Is(node),
-            Facet::Tok(part) => Loc::Tok(node, part as usize),
-            Facet::Slot(part) => Loc::Slot(node, part as usize),
-            Facet::Up => Loc::Up(node),
-            Facet::Idx => Loc::Idx(node),
-            Facet::ClassAndTok(part) => Loc::Tok(node, part as usize),
-            Facet::ClassAndSlot(part) => Loc::Slot(node, part as usize),
-            Facet::ClassAndUp => Loc::Up(node),
+            Facet::Near(set) => set.count_ones() as usize,
+            Facet::Tok(_) => 1,
+            Facet::Slot(_) => 1,
+            Facet::Idx => 1,
         }
     }
 
     /// Whether it is the index.
     pub fn is_index(self) -> bool
-        ensures { (n : ℕ) → result ≡ is_index (facet_at n self) }
+        ensures { result ≡ is_of_index self }
     {
         match self {
-            Facet::Is => false,
+            Facet::Near(_) => false,
             Facet::Tok(_) => false,
             Facet::Slot(_) => false,
-            Facet::Up => false,
             Facet::Idx => true,
-            Facet::ClassAndTok(_) => false,
-            Facet::ClassAndSlot(_) => false,
-            Facet::ClassAndUp => false,
         }
     }
 
-    /// Whether a fold looks so at an element: at its class, or at that and a token.
+    /// Whether a fold looks so at an element: at its class, or at that and tokens.
     pub fn is_of_element(self) -> bool {
         match self {
-            Facet::Is => true,
-            Facet::ClassAndTok(_) => true,
+            Facet::Near(set) => set & CLASS == CLASS && set & !(CLASS | TOKENS) == 0,
             _ => false,
         }
     }
+
+    /// Whether one of its locations, of that node, is touched.
+    pub fn is_touched<F: Fn(Loc) -> bool>(self, node: Node, touched: &F) -> bool
+        requires { F.IsAlwaysCallable touched.now }
+        ensures { MatchBool result ((l : Location ℕ) × (stands_for node self l ≡ true) × Answers (F.post touched.now) l true)
+            ((l : Location ℕ) → stands_for node self l ≡ true → Answers (F.post touched.now) l false) }
+    {
+        match self {
+            Facet::Near(set) => is_any_touched(node, set, touched),
+            Facet::Tok(part) => touched(Loc::Tok(node, part as usize)),
+            Facet::Slot(part) => touched(Loc::Slot(node, part as usize)),
+            Facet::Idx => touched(Loc::Idx(node)),
+        }
+    }
+}
+
+// The location of the node with that number.
+fn location_at(node: Node, number: u32) -> Loc
+    ensures number { number_of (loc_view result) ≡ Some number }
+    ensures node { node_at (loc_view result) ≡ node }
+{
+    if number == 0 {
+        return Loc::Is(node);
+    }
+    if number == 1 {
+        return Loc::Up(node);
+    }
+    let part = (number / 2 - 1) as usize;
+    if number % 2 == 0 {
+        Loc::Tok(node, part)
+    } else {
+        Loc::Slot(node, part)
+    }
+}
+
+// Whether a location of the node whose number is in the set is touched.
+fn is_any_touched<F: Fn(Loc) -> bool>(node: Node, set: u32, touched: &F) -> bool
+    requires { F.IsAlwaysCallable touched.now }
+    ensures { MatchBool result ((l : Location ℕ) × (stands_for node (facet.Near set) l ≡ true) × Answers (F.post touched.now) l true)
+        ((l : Location ℕ) → stands_for node (facet.Near set) l ≡ true → Answers (F.post touched.now) l false) }
+{
+    for number in 0..NUMBERS {
+        let rest = set >> number;
+        if rest == 0 {
+            return false;
+        }
+        if rest & 1 == 1 && touched(location_at(node, number)) {
+            return true;
+        }
+    }
+    false
 }

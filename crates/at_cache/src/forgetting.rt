@@ -1,14 +1,14 @@
 //! What stands for a touched location is taken out.
 
 ghost use Rattle.std.specs.Prelude.{◌≡◌, ◌<◌, ◌≤◌, ◌⊎◌, ◌++◌, ◌^◌, ℕ, List, [], Option, None, Some, MatchBool, length, true, false};
-ghost use Rattle.at_model.specs.Run.{Is, Location};
+ghost use Rattle.at_model.specs.Run.{Location};
 ghost use Rattle.at_cache.specs.declared.edge.Edge.{Edge};
 ghost use Rattle.at_cache.specs.Edges.{edges_in};
 ghost use Rattle.at_cache.specs.Rows.{edges_along, edges_of};
 ghost use Rattle.at_cache.specs.Info.{Memory, memory_of, table_len};
 ghost use Rattle.at_cache.specs.Flushing.{Begins, IsIdle, Work, dooms, first_after};
 ghost use Rattle.at_cache.specs.Asking.{GoesOn, looks_at, sees};
-ghost use Rattle.at_cache.specs.Readers.{edges_among, edges_at, has_class, stands_for};
+ghost use Rattle.at_cache.specs.Readers.{edges_among, edges_at, stands_for};
 ghost use Rattle.at_cache.specs.Finding.{edges_to};
 ghost use Rattle.at_cache.specs.Runs.{edges_on, edges_over, edges_past};
 ghost use Rattle.at_cache.specs.Recorded.{IsIndexed, kept_in};
@@ -81,31 +81,13 @@ pub fn doom_listed<W: Marked>(entries: &mut W, first: Option<Slot>, edges: &Edge
     }
 }
 
-// Whether the facet has the class of the node, and that is touched.
-fn has_touched_class<F: Fn(Loc) -> bool>(node: Node, facet: Facet, touched: &F) -> bool
-    requires { F.IsAlwaysCallable touched.now }
-    ensures { MatchBool result ((has_class facet ≡ true) × Answers (F.post touched.now) (Is node) true)
-        (has_class facet ≡ true → Answers (F.post touched.now) (Is node) false) }
-{
-    if !facet.has_class() {
-        return false;
-    }
-    touched(Loc::Is(node))
-}
-
 // Whether the facet of the node is in the scope, and what it stands for is touched.
 fn is_touched<F: Fn(Loc) -> bool>(node: Node, facet: Facet, scope: Scope, touched: &F) -> bool
     requires { F.IsAlwaysCallable touched.now }
     ensures { MatchBool result ((l : Location ℕ) × (stands_for node facet l ≡ true) × Answers (F.post touched.now) l true)
         ((l : Location ℕ) → stands_for node facet l ≡ true → looks_at scope l ≡ true → Answers (F.post touched.now) l false) }
 {
-    if !scope.has(facet) {
-        return false;
-    }
-    if has_touched_class(node, facet, touched) {
-        return true;
-    }
-    touched(facet.at(node))
+    scope.has(facet) && facet.is_touched(node, touched)
 }
 
 // What reads a touched location in the scope of the node goes: the first one that goes.

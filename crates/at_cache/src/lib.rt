@@ -6,7 +6,7 @@
 //! many locations, `Finding` both, `Recorded` what an entry stands for and how
 //! it is found (`IsIndexed`), `Keeping` what the keeper keeps, `Placed` where entries stand, `Putting` one more, `Flushing` a flush under way and
 //! `Asking` where one begins, `Slots` single writes, `Attributes` of which attributes entries came, `Stored` how many locations are
-//! read. `Folding` is what becomes of entries that are folded into those that used them, `Rerunning` of edges of runs that tell of such. `UntilEdit` is the keeper that forgets all at an
+//! read. `Folding` is what becomes of entries that are folded into those that used them, `Rerunning` of edges of runs that tell of such, `Joining` of lists that came to be the same. `UntilEdit` is the keeper that forgets all at an
 //! edit. Of the one that keeps again what didn't change, `Traced` is what it remembers, `Standings` what is kept
 //! and traced of the entries in memory, `Marking` a pass over them at an edit, `Renewing` and `Theirs` a put over one,
 //! `Settling` what is kept again, `Blocking` what stands in its way, and `Shedding` what leaves memory beyond a bound.
@@ -15,7 +15,8 @@
 //! `row.rt` and `linking.rt` the edges; `run.rt` has runs, of which one edge tells of many locations: `seating.rt` makes them, and
 //! `stretch.rt` adds to them; `putting.rt` is `put`, `forgetting.rt` a flush, `places.rt` one by places.
 //! `keep_at_most.rt` is a keeper over it, with a bound: beyond it entries are folded (`folding.rt`) by a plan that is chosen (`choosing.rt`)
-//! and tested (`checking.rt`); `lone.rt` tells which lists stay, `rewriting.rt` has their edges, `rerunning.rt` those of runs, `relinking.rt` the entries.
+//! and tested (`checking.rt`); `lone.rt` tells which lists stay, `rewriting.rt` has their edges, `rerunning.rt` those of runs, `relinking.rt` the entries,
+//! and `joining.rt` makes one list of those of a node that came to have the same edges.
 //! `keep_cut_off.rt` is one whose entries stay in memory: `cut.rt` and `standing.rt` have them,
 //! `cutting.rt` is its flush over what `forgetting.rt` marks (`marked.rt`), `renewing.rt` its `put`, `settling.rt`
 //! and `blocking.rt` what a question keeps again. `keep_cut_off_at_most.rt` is that one with a bound: beyond it what isn't kept goes (`shedding.rt`),
@@ -39,6 +40,7 @@ mod facet;
 mod facets;
 mod folding;
 mod forgetting;
+mod joining;
 mod keep_at_most;
 mod keep_cut_off;
 mod keep_cut_off_at_most;

@@ -7,7 +7,7 @@ ghost use Rattle.at_store.specs.Located.{loc_view};
 ghost use Rattle.at_cache.specs.declared.edge.Edge.{Edge};
 ghost use Rattle.at_cache.specs.Asking.{AreNoted};
 ghost use Rattle.at_cache.specs.Edges.{edges_in};
-ghost use Rattle.at_cache.specs.Readers.{edges_among, edges_at, facet_at};
+ghost use Rattle.at_cache.specs.Readers.{edges_among, edges_at, is_of_index};
 
 use crate::facet::{Facets, Readers};
 use at_store::{Loc, Node};
@@ -15,7 +15,7 @@ use std::alloc::AllocError;
 
 // Whether an entry was found from the facet, which is the index.
 fn is_read_index(reader: &Readers) -> bool
-    ensures { IsTrue result → (x : Edge) × Contains (edges_in reader.now.edges) x × ((n : ℕ) → facet_at n reader.now.facet ≡ Idx n) }
+    ensures { IsTrue result → (x : Edge) × Contains (edges_in reader.now.edges) x × (is_of_index reader.now.facet ≡ true) }
 {
     if !reader.facet.is_index() {
         return false;

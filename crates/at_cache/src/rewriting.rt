@@ -15,6 +15,7 @@ use crate::edge::{Edge, Edges, Many, Slot};
 use crate::entry::Links;
 use crate::facet::Facets;
 use crate::folding::slots_at;
+use crate::joining::join;
 use crate::linking::add_to_many;
 use crate::lone::Lone;
 use crate::room::Room;
@@ -395,6 +396,23 @@ fn rewrite_node(
     Ok(())
 }
 
+// So do all of a node, where those that come to have the same edges have one list.
+fn rewrite_facets(
+    alloc: Global,
+    entries: &Table,
+    plan: &[Links],
+    lone: &Lone,
+    room: &mut Room,
+    readers: &mut Facets,
+) -> Result<(), AllocError>
+    requires lone { AreLone (is_current (memory_of entries.now)) (slots_at plan.now) lone.now.none lone.now.stamps.items }
+    ensures { OnOk result (AreRefolded (is_current (memory_of entries.now)) (slots_at plan.now) readers.old.items readers.new.items) }
+{
+    rewrite_node(alloc, entries, plan, lone, room, readers)?;
+    join(readers);
+    Ok(())
+}
+
 /// So do all edges of locations. Room that no node takes is given back.
 pub fn rewrite(
     alloc: Global,
@@ -411,7 +429,7 @@ pub fn rewrite(
 {
     for number in 0..readers.len() {
         let list = &mut readers[number];
-        rewrite_node(alloc, entries, plan, lone, room, list)?;
+        rewrite_facets(alloc, entries, plan, lone, room, list)?;
     }
     readers.shrink_to_fit();
     Ok(())

@@ -9,7 +9,7 @@ use crate::edge::{Edge, Slot};
 
 /// Edges of entries that came one after the other: the slot and the number of each are by the same step greater than those of the one
 /// before. What reads a location mostly comes so, and a row takes 16 bytes, for up to 65,535 edges.
-#[derive(Clone, Copy, Default)]
+#[derive(Clone, Copy, Default, PartialEq, Eq)]
 pub struct Row {
     /// The first one's slot.
     pub slot: Slot,

@@ -52,7 +52,7 @@ impl Seat {
         Seat {
             run: 0,
             place: 0,
-            facet: Facet::Is,
+            facet: Facet::Near(0),
         }
     }
 }

@@ -1,8 +1,9 @@
 //! Which facets of a node are looked at.
 
-ghost use Rattle.std.specs.Prelude.{◌≡◌, ℕ};
+ghost use Rattle.std.specs.Prelude.{◌≡◌, ℕ, true};
+ghost use Rattle.at_model.specs.Run.{Location};
 ghost use Rattle.at_cache.specs.Asking.{looks_at};
-ghost use Rattle.at_cache.specs.Readers.{facet_at};
+ghost use Rattle.at_cache.specs.Readers.{stands_for};
 
 use crate::facet::Facet;
 
@@ -16,7 +17,7 @@ pub enum Scope {
 impl Scope {
     /// Whether the facet is one of those.
     pub fn has(self, facet: Facet) -> bool
-        ensures { (n : ℕ) → result ≡ looks_at self (facet_at n facet) }
+        ensures { (n : ℕ) (l : Location ℕ) → stands_for n facet l ≡ true → looks_at self l ≡ result }
     {
         match self {
             Scope::All => true,

@@ -48,10 +48,7 @@ fn held_on(entries: &Table, seat: Seat, runs: &[Run]) -> usize
     ensures { result ≡ min (width seat.facet * current_of (memory_of entries.now) (edges_on runs.now seat)) (2 ^ 64 - 1) }
 {
     let count = current_on(entries, seat, runs);
-    if seat.facet.has_class() {
-        return count.saturating_add(count);
-    }
-    count
+    count.saturating_mul(seat.facet.width())
 }
 
 // How many edges over the seat tell of an entry that is there.
@@ -88,15 +85,12 @@ fn held_of(entries: &Table, facets: &[Readers]) -> usize
     count
 }
 
-// How many are of this facet: each of its edges tells of one location, or of two.
+// How many are of this facet: each of its edges tells of all its locations.
 fn held_at(entries: &Table, reader: &Readers) -> usize
     ensures { result ≡ min (width reader.now.facet * current_of (memory_of entries.now) (edges_in reader.now.edges)) (2 ^ 64 - 1) }
 {
     let count = current_in(entries, &reader.edges);
-    if reader.facet.has_class() {
-        return count.saturating_add(count);
-    }
-    count
+    count.saturating_mul(reader.facet.width())
 }
 
 // How many edges of this list tell of an entry that is there.
