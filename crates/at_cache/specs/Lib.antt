@@ -25,4 +25,5 @@ pub mod Settling
 pub mod Shedding
 pub mod Renewing
 pub mod Rerunning
+pub mod Joining
 pub mod Theirs
