@@ -1,23 +1,25 @@
 -- Where a flush begins.
-use Rattle.std.proofs.Common.{◌≡◌, ◌⊎◌, inl, inr, ℕ, ◌+◌, get_or, List, [], ◌∷◌, ◌++◌, Bool, true, false, cond, Contains, take, if◌then◌else◌, length, ◌<◌, refl, sym, ap, ◌∙◌, subst, append-nil}
+use Rattle.std.proofs.Common.{◌≡◌, ◌⊎◌, inl, inr, ℕ, ◌+◌, ◌/◌, ◌^◌, get_or, List, [], ◌∷◌, ◌++◌, Bool, true, false, true≢false, cond, Some, Contains, take, if◌then◌else◌, length, ◌<◌, ◌≤◌, refl, sym, ap, ◌∙◌, subst, append-nil, arith, eqb-true, eq-eqb}
+use Rattle.std.proofs.lemmas.Bool.{and_from, cases_lt}
 use Rattle.std.proofs.lemmas.List.{take_more}
 use Rattle.std.proofs.lemmas.List.Concat.{flat_map-append}
 use Rattle.std.proofs.lemmas.List.Elements.{Contains-append_cases, Contains-append_left, Contains-append_right}
 use Rattle.std.specs.Bool.{MatchBool}
-use Rattle.at_model.specs.Run.{Location, Is}
+use Rattle.at_model.specs.Run.{Location}
+use Rattle.at_model.proofs.Options.{both}
 use Rattle.at_store.specs.declared.node.Loc.{Loc}
-use Rattle.at_store.specs.declared.node.Loc.TheVariants as loc
 use Rattle.at_store.specs.Located.{loc_view}
 use Rattle.at_cache.specs.declared.edge.Edge.{Edge}
 use Rattle.at_cache.specs.declared.facet.Facet.{Facet}
+use Rattle.at_cache.specs.declared.facet.Facet.TheVariants as facet
 use Rattle.at_cache.specs.declared.facet.Readers.{Readers}
 use Rattle.at_cache.specs.declared.scope.Scope.{Scope}
 use Rattle.at_cache.specs.Edges.{edges_in}
 use Rattle.at_cache.specs.Asking.{Asked, looks_at}
 use Rattle.at_cache.specs.Flushing.{Begins}
-use Rattle.at_cache.specs.Kept.{Answers, node_at}
-use Rattle.at_cache.specs.Readers.{edges_among, facet_at, has_class, stands_for}
-use Rattle.at_cache.proofs.Locations.{stands_at, stands_cases, stands_for_class, stands_for_own}
+use Rattle.at_cache.specs.Kept.{Answers, node_at, same_location}
+use Rattle.at_cache.specs.Readers.{edges_among, has_number, number_of, stands_for}
+use Rattle.at_cache.proofs.Locations.{near_at, near_number, none_from, none_past, same_location-is, same_location-itself, same_number, stands_at}
 use Rattle.at_cache.proofs.Taking.{none_in}
 
 module _ {says : Location ℕ → Bool → Type 0} {seen : Location ℕ → Bool} where
@@ -44,27 +46,66 @@ module _ {says : Location ℕ → Bool → Type 0} {seen : Location ℕ → Bool
     ];
   }
 
--- what was answered of the class that a facet has
-pub told_of_class : (post : Loc → Bool → Type 0) (n : ℕ) (f : Facet) (b : Bool) → has_class f ≡ true → post (loc.Is n) b
-    → MatchBool b ((has_class f ≡ true) × Answers post (Is n) true) (has_class f ≡ true → Answers post (Is n) false)
-told_of_class post n f true class p = (class, (loc.Is n, refl, p))
-told_of_class post n f false class p = λ h. (loc.Is n, refl, p)
+-- What is asked of the facet of a node, where that is in the scope.
+pub told_of_facet : (says : Location ℕ → Bool → Type 0) (n : ℕ) (f : Facet) (s : Scope) (b : Bool)
+    → MatchBool b ((l : Location ℕ) × (stands_for n f l ≡ true) × says l true) ((l : Location ℕ) → stands_for n f l ≡ true → says l false)
+    → MatchBool b ((l : Location ℕ) × (stands_for n f l ≡ true) × says l true)
+    ((l : Location ℕ) → stands_for n f l ≡ true → looks_at s l ≡ true → says l false)
+told_of_facet says n f s true it = it
+told_of_facet says n f s false none = λ l stands seen. none l stands
 
-pub class_touched : (says : Location ℕ → Bool → Type 0) (n : ℕ) (f : Facet) → (has_class f ≡ true) × says (Is n) true
-    → (l : Location ℕ) × (stands_for n f l ≡ true) × says l true
-class_touched says n f (class, said) = (Is n, stands_for_class n f class, said)
+-- What is answered of the one location of a facet.
+pub told_of_one : (post : Loc → Bool → Type 0) (n : ℕ) (f : Facet) (x : Loc) (b : Bool) → ((l : Location ℕ) → stands_for n f l ≡ same_location l (loc_view x))
+    → post x b
+    → MatchBool b ((l : Location ℕ) × (stands_for n f l ≡ true) × Answers post l true) ((l : Location ℕ) → stands_for n f l ≡ true → Answers post l false)
+told_of_one post n f x true alone p = (loc_view x, alone (loc_view x) ∙ same_location-itself (loc_view x), (x, refl, p))
+told_of_one post n f x false alone p = λ l stands. (x, sym (same_location-is l (loc_view x) (sym (alone l) ∙ stands)), p)
 
--- and then of its own location
-pub told_of_facet : (post : Loc → Bool → Type 0) (n : ℕ) (f : Facet) (s : Scope) (x : Loc) (b : Bool)
-    → loc_view x ≡ facet_at n f → post x b
-    → (has_class f ≡ true → Answers post (Is n) false)
-    → MatchBool b ((l : Location ℕ) × (stands_for n f l ≡ true) × Answers post l true)
-    ((l : Location ℕ) → stands_for n f l ≡ true → looks_at s l ≡ true → Answers post l false)
-told_of_facet post n f s x true is p class = (facet_at n f, stands_for_own n f, (x, is, p))
-told_of_facet post n f s x false is p class = λ l stands seen. elim (stands_cases n f l stands) [
-  | inl own ↦ (x, is ∙ sym own, p)
-  | inr (has, same) ↦ subst (λ k. Answers post k false) (sym same) (class has)
-]
+-- the locations of a set whose numbers are below this one have the answer `false`
+abbrev pub AreFalse : (says : Location ℕ → Bool → Type 0) → (node set number : ℕ) → Type 0
+AreFalse says node set number = (l : Location ℕ) (k : ℕ) → node_at l ≡ node → number_of l ≡ Some k → k < number → has_number set k ≡ true → says l false
+
+module _ (says : Location ℕ → Bool → Type 0) (node set number : ℕ) where
+  -- one number more isn't in the set
+  pub number_passed : AreFalse says node set number → has_number set number ≡ false → AreFalse says node set (number + 1)
+  number_passed asked off l k at is less has = elim (cases_lt k number) [
+    | inl before ↦ asked l k at is before has
+    | inr after ↦ absurd (let same : k ≡ number = omega (arith, less, after) in true≢false (sym has ∙ ap (has_number set) same ∙ off))
+  ]
+
+  -- or was asked
+  pub number_asked : AreFalse says node set number → (x : Location ℕ) → node_at x ≡ node → number_of x ≡ Some number → says x false
+      → AreFalse says node set (number + 1)
+  number_asked asked x here it said l k at is less has = elim (cases_lt k number) [
+    | inl before ↦ asked l k at is before has
+    | inr after ↦
+        let same : k ≡ number = omega (arith, less, after) in
+        subst (λ m. says m false) (same_number x l number (here ∙ sym at) it (is ∙ ap Some same)) said
+  ]
+
+  -- all were, where the set has no number from here on
+  all_asked_by : AreFalse says node set number → ((k : ℕ) → number ≤ k → has_number set k ≡ false) → (l : Location ℕ)
+      → stands_for node (facet.Near set) l ≡ true → says l false
+  all_asked_by asked none l stands =
+      let (near, at) = both _ _ stands in
+      let (k, is, has) = near_number set l near in
+      elim (cases_lt k number) [
+        | inl before ↦ asked l k (eqb-true _ _ at) is before has
+        | inr after ↦ absurd (true≢false (sym has ∙ none k after))
+      ]
+
+  pub all_asked : AreFalse says node set number → set / 2 ^ number ≡ 0 → (l : Location ℕ) → stands_for node (facet.Near set) l ≡ true → says l false
+  all_asked asked none = all_asked_by asked (λ k more. none_from set number k none more)
+
+  -- all numbers were passed
+  pub all_passed : AreFalse says node set number → set < 2 ^ 32 → 32 ≤ number → (l : Location ℕ) → stands_for node (facet.Near set) l ≡ true
+      → says l false
+  all_passed asked fits end = all_asked_by asked (λ k more. none_past set 32 k fits (omega (arith, end, more)))
+
+  -- one is touched
+  pub one_touched : (x : Location ℕ) → node_at x ≡ node → number_of x ≡ Some number → has_number set number ≡ true → says x true
+      → (l : Location ℕ) × (stands_for node (facet.Near set) l ≡ true) × says l true
+  one_touched x here it has said = (x, and_from _ _ (near_at set number x it ∙ has) (eq-eqb _ _ here), said)
 
 module _ (n : ℕ) where
   -- the edges of one facet

@@ -10,47 +10,33 @@ use Rattle.at_store.specs.declared.node.Loc.{Loc}
 use Rattle.at_store.specs.declared.node.Loc.TheVariants as loc
 use Rattle.at_store.specs.Located.{loc_view}
 use Rattle.at_cache.specs.declared.edge.Edge.{Edge}
-use Rattle.at_cache.specs.declared.facet.Facet.{Facet}
-use Rattle.at_cache.specs.declared.facet.Facet.TheVariants as facet
 use Rattle.at_cache.specs.declared.facet.Readers.{Readers}
 use Rattle.at_cache.specs.Edges.{edges_in}
-use Rattle.at_cache.specs.Asking.{AreNoted, is_index}
+use Rattle.at_cache.specs.Asking.{AreNoted}
 use Rattle.at_cache.specs.Kept.{node_at}
-use Rattle.at_cache.specs.Readers.{edges_among, edges_at, facet_at}
+use Rattle.at_cache.specs.Readers.{edges_among, edges_at, is_of_index, stands_for}
 use Rattle.at_cache.specs.Recorded.{is_listed}
 use Rattle.at_cache.proofs.Beginning.{edges_of}
 use Rattle.at_cache.proofs.Dooming.{head_of}
 use Rattle.at_cache.proofs.Listed.{edges_are}
 use Rattle.at_cache.proofs.Ending.{any_of, either, has, on_left, on_right}
-use Rattle.at_cache.proofs.Locations.{stands_for_own}
+use Rattle.at_cache.proofs.Locations.{index_stands}
 use Rattle.at_cache.proofs.Taking.{none_in}
 
 pub first_edge : (es : List Edge) → nat_eq (length es) 0 ≡ false → (x : Edge) × Contains es x
 first_edge [] h = absurd (true≢false h)
 first_edge (x ∷ xs) h = (x, head_of x xs)
 
-pub index_at : (f : Facet) → is_index (facet_at 0 f) ≡ true → (n : ℕ) → facet_at n f ≡ Idx n
-index_at facet.Is h n = absurd (true≢false (sym h))
-index_at (facet.Tok part) h n = absurd (true≢false (sym h))
-index_at (facet.Slot part) h n = absurd (true≢false (sym h))
-index_at facet.Up h n = absurd (true≢false (sym h))
-index_at facet.Idx h n = refl
-index_at (facet.ClassAndTok part) h n = absurd (true≢false (sym h))
-index_at (facet.ClassAndSlot part) h n = absurd (true≢false (sym h))
-index_at facet.ClassAndUp h n = absurd (true≢false (sym h))
-
 -- an edge of one facet is one of the location
-pub among_has : (n : ℕ) (rs : List Readers) (r : Readers) (x : Edge) → Contains rs r → Contains (edges_in r.edges) x → Contains (edges_among n rs (facet_at n r.facet)) x
-among_has n [] r x c d = absurd (none_in r c)
-among_has n (s ∷ rs) r x c d = elim (Contains-cons_cases s r rs c) [
+pub among_has : (n : ℕ) (l : Location ℕ) (rs : List Readers) (r : Readers) (x : Edge) → Contains rs r → stands_for n r.facet l ≡ true
+    → Contains (edges_in r.edges) x → Contains (edges_among n rs l) x
+among_has n l [] r x c on d = absurd (none_in r c)
+among_has n l (s ∷ rs) r x c on d = elim (Contains-cons_cases s r rs c) [
   | inl same ↦ Contains-append_left (edges_of n s l) (edges_among n rs l) x
       (subst (λ (t : Readers). Contains (edges_of n t l) x) (sym same)
-      (subst (λ b. Contains (cond b (edges_in r.edges) []) x) (sym (stands_for_own n r.facet)) d))
-  | inr rest ↦ Contains-append_right (edges_of n s l) (edges_among n rs l) x (among_has n rs r x rest d)
+      (subst (λ b. Contains (cond b (edges_in r.edges) []) x) (sym on) d))
+  | inr rest ↦ Contains-append_right (edges_of n s l) (edges_among n rs l) x (among_has n l rs r x rest on d)
 ]
-  where
-    l : Location ℕ
-    l = facet_at n r.facet
 
 any_before : (p : ℕ → Bool) (ns more : List ℕ) → list_any p ns ≡ true → list_any p (ns ++ more) ≡ true
 any_before p [] more h = absurd (true≢false (sym h))
@@ -84,13 +70,15 @@ pub edge_there : (readers : List (SmallVec Readers)) (node : ℕ) (v : SmallVec 
 edge_there readers node v there (x, c) = (x, subst (λ es. Contains es x) (sym (edges_are readers (Idx node) v there)) c)
 
 -- the index of a reader
-pub reader_index : (r : Readers) (empty : Bool) → true ≡ is_index (facet_at 0 r.facet) → empty ≡ nat_eq (length (edges_in r.edges)) 0 → IsTrue (not empty) → (x : Edge) × Contains (edges_in r.edges) x × ((n : ℕ) → facet_at n r.facet ≡ Idx n)
+pub reader_index : (r : Readers) (empty : Bool) → true ≡ is_of_index r.facet → empty ≡ nat_eq (length (edges_in r.edges)) 0 → IsTrue (not empty)
+    → (x : Edge) × Contains (edges_in r.edges) x × (is_of_index r.facet ≡ true)
 reader_index r true index is h = absurd (true≢false (sym h))
-reader_index r false index is h = let (x, c) = first_edge (edges_in r.edges) (sym is) in (x, c, index_at r.facet (sym index))
+reader_index r false index is h = let (x, c) = first_edge (edges_in r.edges) (sym is) in (x, c, sym index)
 
 -- one reader of the node is such
-pub index_among : (rs : List Readers) (i : ℕ) (r : Readers) → r ≡ get_or rs i r → i < length rs → (x : Edge) × Contains (edges_in r.edges) x × ((n : ℕ) → facet_at n r.facet ≡ Idx n) → (n : ℕ) → (x : Edge) × Contains (edges_among n rs (Idx n)) x
-index_among rs i r is less (x, c, index) n = (x, subst (λ l. Contains (edges_among n rs l) x) (index n) (among_has n rs r x (i, less, sym is) c))
+pub index_among : (rs : List Readers) (i : ℕ) (r : Readers) → r ≡ get_or rs i r → i < length rs
+    → (x : Edge) × Contains (edges_in r.edges) x × (is_of_index r.facet ≡ true) → (n : ℕ) → (x : Edge) × Contains (edges_among n rs (Idx n)) x
+index_among rs i r is less (x, c, index) n = (x, among_has n (Idx n) rs r x (i, less, sym is) (index_stands n r.facet index) c)
 
 pub index_is : (x : Loc) (node n : ℕ) (ns : List ℕ) → x ≡ loc.Idx node → loc_view x ≡ Idx n → list_any (nat_eq node) ns ≡ true → list_any (nat_eq n) ns ≡ true
 index_is x node n ns is h listed = subst (λ k. list_any (nat_eq k) ns ≡ true) (ap node_at (sym (ap loc_view is) ∙ h)) listed

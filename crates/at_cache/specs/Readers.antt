@@ -12,8 +12,8 @@ use Rattle.at_cache.specs.Edges.{edges_in}
 use Rattle.at_cache.specs.Kept.{node_at, same_location}
 
 -- whether the number is in the set
-abbrev pub has : (set number : ℕ) → Bool
-has set number = nat_eq (bit_at set number) 1
+abbrev pub has_number : (set number : ℕ) → Bool
+has_number set number = nat_eq (bit_at set number) 1
 
 -- The number of a location among those of its node: 0 of the class, 1 of the parent, and then in turn those of tokens and of components.
 -- An index has none.
@@ -26,7 +26,7 @@ number_of (Idx n) = None
 
 -- whether the number of the location is in the set
 abbrev pub is_near : ℕ → Location ℕ → Bool
-is_near set l = elim (number_of l) [ None ↦ false | Some number ↦ has set number ]
+is_near set l = elim (number_of l) [ None ↦ false | Some number ↦ has_number set number ]
 
 -- whether the facet of the node stands for the location
 abbrev pub stands_for : ℕ → Facet → Location ℕ → Bool

@@ -2,15 +2,15 @@
 use Rattle.std.proofs.Common.{◌≡◌, ◌⊎◌, inl, inr, ℕ, ◌+◌, ◌<◌, ◌≤◌, List, ◌&&◌, Bool, true, false, not, true≢false, Option, None, Some, Contains, slice_get, length, nat_eq, nat_lt, refl, sym, ap, ◌∙◌, subst, arith, eqb-true}
 use Rattle.std.proofs.lemmas.Bool.{cases_Bool, cases_lt, eq-eqb, lt-ltb, le-ltb, ltb-false, ltb-true}
 use Rattle.std.proofs.lemmas.Option.{none-some, same_Some}
-use Rattle.at_model.specs.Run.{Location, Is}
+use Rattle.at_model.specs.Run.{Location}
 use Rattle.at_cache.specs.declared.facet.Facet.{Facet}
 use Rattle.at_cache.specs.declared.run.Seat.{Seat}
 use Rattle.at_cache.specs.Asking.{is_index}
 use Rattle.at_cache.specs.Kept.{node_at}
-use Rattle.at_cache.specs.Readers.{IsFirst, facet_at, stands_for}
+use Rattle.at_cache.specs.Readers.{IsFirst, is_of_index, stands_for}
 use Rattle.at_cache.specs.Runs.{AreApart, Follows, SitsAt, is_reached, is_seen, is_within, lies}
 use Rattle.at_cache.proofs.Ending.{and, both}
-use Rattle.at_cache.proofs.Locations.{stands_at, stands_cases}
+use Rattle.at_cache.proofs.Locations.{stands_at, stands_index}
 
 -- the node of a location sits in that part of the run
 pub record Sits (seats : List Seat) (run behind last : ℕ) (l : Location ℕ) : Type 0 where
@@ -54,11 +54,8 @@ module _ (seats : List Seat) (run behind last : ℕ) (l : Location ℕ) where
       (and (nat_eq a.seat.run run) (lies behind last a.seat.place) (eq-eqb a.seat.run run a.inside) (in_lies behind last a.seat.place a.after a.upto))
 
 -- what a facet stands for that isn't the index
-pub no_index : (n : ℕ) (f : Facet) (l : Location ℕ) → ((k : ℕ) → is_index (facet_at k f) ≡ false) → stands_for n f l ≡ true → is_index l ≡ false
-no_index n f l off stands = elim (stands_cases n f l stands) [
-  | inl own ↦ ap is_index own ∙ off n
-  | inr (has, same) ↦ ap is_index same
-]
+pub no_index : (n : ℕ) (f : Facet) (l : Location ℕ) → is_of_index f ≡ false → stands_for n f l ≡ true → is_index l ≡ false
+no_index n f l off stands = stands_index n f l stands ∙ off
 
 not_zero : (p : ℕ) → 0 < p → nat_eq p 0 ≡ false
 not_zero p more = elim (cases_Bool (nat_eq p 0)) [ inl on ↦ absurd (let z = eqb-true p 0 on in omega (arith, z, more)) | inr off ↦ off ]

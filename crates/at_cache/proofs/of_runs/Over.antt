@@ -1,5 +1,5 @@
 -- A flush goes over the seats of nodes, beside their own facets.
-use Rattle.std.proofs.Common.{◌≡◌, ◌⊎◌, inl, inr, ℕ, ◌+◌, ◌<◌, ◌≤◌, List, [], ◌∷◌, ◌++◌, append-nil, ◌&&◌, ◌||◌, Bool, true, false, not, cond, Option, None, Some, Contains, slice_get, length, nat_eq, nat_lt, if◌then◌else◌, refl, sym, ap, ◌∙◌, subst, append_assoc, arith, eqb-true}
+use Rattle.std.proofs.Common.{◌≡◌, ◌⊎◌, inl, inr, ℕ, ◌+◌, ◌<◌, ◌≤◌, List, [], ◌∷◌, ◌++◌, append-nil, ◌&&◌, ◌||◌, Bool, true, false, true≢false, not, cond, Option, None, Some, Contains, slice_get, length, nat_eq, nat_lt, if◌then◌else◌, refl, sym, ap, ◌∙◌, subst, append_assoc, arith, eqb-true}
 use Rattle.std.proofs.lemmas.Bool.{cases_lt, cases_Bool, eq-eqb, lt-ltb, ltb-true}
 use Rattle.std.proofs.lemmas.Option.{slice_get_past}
 use Rattle.at_model.specs.Run.{Location, Idx}
@@ -17,14 +17,14 @@ use Rattle.at_cache.specs.Flushing.{Begins, IsIdle, Work}
 use Rattle.at_cache.specs.Info.{Memory}
 use Rattle.at_cache.specs.Kept.{node_at}
 use Rattle.at_cache.specs.Recorded.{is_listed}
-use Rattle.at_cache.specs.Readers.{edges_at, facet_at, stands_for}
+use Rattle.at_cache.specs.Readers.{edges_at, is_of_index, stands_for}
 use Rattle.at_cache.specs.Finding.{edges_to}
 use Rattle.at_cache.specs.Runs.{edges_on, edges_over, edges_past, is_seen, lies}
 use Rattle.at_cache.proofs.Beginning.{asked_both}
 use Rattle.at_cache.proofs.Ending.{and, both, on_left, on_right}
 use Rattle.at_cache.proofs.of_runs.Following.{lies_in, no_index}
 use Rattle.at_cache.proofs.Listed.{no_edges}
-use Rattle.at_cache.proofs.Locations.{class_is_no_index, stands_at, stands_cases}
+use Rattle.at_cache.proofs.Locations.{stands_at, stands_index}
 use Rattle.at_cache.proofs.of_runs.Reaching.{on_are}
 use Rattle.at_cache.proofs.Naming.{goes_as, goes_further, goes_nowhere}
 use Rattle.at_cache.proofs.Taking.{begun, none_in}
@@ -64,7 +64,7 @@ over_there : (seats : List Seat) (runs : List Run) (node : ℕ) (seat : Seat) �
 over_there seats runs node seat there l at = over_at seats runs l seat (ap (slice_get seats) at ∙ there)
 
 module _ {says : Location ℕ → Bool → Type 0} (s : Scope) (seats : List Seat) (runs : List Run) (node : ℕ) (seat : Seat) (there : slice_get seats node ≡ Some seat) where
-  pub over_touched : ((n : ℕ) → is_index (facet_at n seat.facet) ≡ false) → (l : Location ℕ) × (stands_for node seat.facet l ≡ true) × says l true
+  pub over_touched : is_of_index seat.facet ≡ false → (l : Location ℕ) × (stands_for node seat.facet l ≡ true) × says l true
       → Asked says (sees s node) (edges_over seats runs) (edges_on runs seat)
   over_touched own (k, stands, said) = record {
     from = λ x c. (k, said, subst (λ es. Contains es x) (sym (over_there seats runs node seat there k at ∙ ap (λ b. cond b (edges_on runs seat) []) seen)) c);
@@ -119,20 +119,17 @@ either_empty true is = is
 either_empty false is = refl
 
 -- a seat that is looked at as the index has no edge that is seen
-pub not_seen : (n : ℕ) (seat : Seat) (l : Location ℕ) → ((k : ℕ) → is_index (facet_at k seat.facet) ≡ true) → node_at l ≡ n → is_seen (node_at l) seat l ≡ false
+pub not_seen : (n : ℕ) (seat : Seat) (l : Location ℕ) → is_of_index seat.facet ≡ true → node_at l ≡ n → is_seen (node_at l) seat l ≡ false
 not_seen n seat l index at = by (is_index l) (stands_for (node_at l) seat.facet l) refl refl
   where
     by : (a b : Bool) → is_index l ≡ a → stands_for (node_at l) seat.facet l ≡ b → (not (is_index l) && stands_for (node_at l) seat.facet l) ≡ false
     by true b e f = ap (λ z. not z && stands_for (node_at l) seat.facet l) e
     by false false e f = ap (λ z. not z && stands_for (node_at l) seat.facet l) e ∙ f
-    by false true e f = elim (stands_cases (node_at l) seat.facet l f) [
-      | inl own ↦ absurd (let on = ap is_index own ∙ index (node_at l) in cc)
-      | inr (has, same) ↦ absurd (let on = class_is_no_index (node_at l) seat.facet has in let off = index (node_at l) in cc)
-    ]
+    by false true e f = absurd (true≢false (sym index ∙ sym (stands_index (node_at l) seat.facet l f) ∙ e))
 
 -- a node that sits nowhere, or whose index is looked at there, has no edge that is seen
 pub goes_past_seat : {says : Location ℕ → Bool → Type 0} (s : Scope) (seats : List Seat) (runs : List Run) (node : ℕ)
-    → ((seat : Seat) → slice_get seats node ≡ Some seat → (seat.place ≡ 0) ⊎ ((k : ℕ) → is_index (facet_at k seat.facet) ≡ true))
+    → ((seat : Seat) → slice_get seats node ≡ Some seat → (seat.place ≡ 0) ⊎ (is_of_index seat.facet ≡ true))
     → (first : Option ℕ) (m : Memory) → GoesOn says (sees s node) (edges_over seats runs) first m first m
 goes_past_seat s seats runs node none first m = goes_nowhere first m (λ l h x c.
     let at = seen_node node s l h in none_in x (subst (λ es. Contains es x) (by l at (slice_get seats node) refl) c))

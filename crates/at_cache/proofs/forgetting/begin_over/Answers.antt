@@ -1,8 +1,7 @@
 use Rattle.std.proofs.Common.{inl, inr, ap, sym, ◌∙◌}
 use Rattle.std.proofs.lemmas.Bool.{ne_eqb}
-use Rattle.at_cache.specs.Asking.{is_index}
 use Rattle.at_cache.specs.Kept.{Answers}
-use Rattle.at_cache.specs.Readers.{facet_at}
+use Rattle.at_cache.specs.Readers.{is_of_index}
 use Rattle.at_cache.specs.declared.run.Seat.{Seat}
 use Rattle.at_cache.proofs.of_runs.Over.{goes_past_seat, over_touched, over_untouched}
 use Rattle.at_cache.proofs.of_runs.Passed.{goes_not, goes_with}
@@ -16,7 +15,7 @@ returns-then-seat-eq0-clause-goes_on g c =
     goes_past_seat {says = Answers (goal.F-post g c.args.touched.now)} c.args.scope rs.seats.items rs.runs.items c.args.node
     (λ s h. elim c.then-seat-eq0.branch [
       | then-seat-eq0-via-then-seat-eq0 w ↦ inl (ap (λ (t : Seat). t.place) (is s h) ∙ w.if-seat-eq0.true)
-      | then-seat-eq0-via-else-seat-eq0+then-is_index w ↦ inr (λ k. ap (λ (t : Seat). is_index (facet_at k t.facet)) (is s h) ∙ sym (w.if-is_index.ensures k))
+      | then-seat-eq0-via-else-seat-eq0+then-is_index w ↦ inr (ap (λ (t : Seat). is_of_index t.facet) (is s h) ∙ sym w.if-is_index.ensures)
     ])
     c.args.first (g.W.Marked.memory c.args.entries.now)
 
@@ -26,7 +25,7 @@ returns-then-is_touched-clause-goes_on g c =
     let seat = c.seat_of-seat.result in
     let there = (rw c.as_slice.ensures.value at c.seat_of-seat.ensures.there) (ne_eqb seat.place 0 c.if-seat-eq0.false) in
     let says = Answers (goal.F-post g c.args.touched.now) in
-    goes_with {says = says} (over_touched {says = says} c.args.scope rs.seats.items rs.runs.items c.args.node seat there (λ n. sym (c.if-is_index.ensures n)) c.if-is_touched.ensures)
+    goes_with {says = says} (over_touched {says = says} c.args.scope rs.seats.items rs.runs.items c.args.node seat there (sym c.if-is_index.ensures) c.if-is_touched.ensures)
     (rw c.as_slice-then-is_touched.ensures.value at c.doom_on.ensures.works)
 
 pub returns-clause-goes_on : goal.returns-clause-goes_on
