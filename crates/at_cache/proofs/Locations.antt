@@ -108,15 +108,15 @@ pub stands_alone : (set k : ℕ) (x l : Location ℕ) → ((j : ℕ) → has_num
     → stands_for (node_at x) (facet.Near set) l ≡ same_location l x
 stands_alone set k x l alone is = same_test _ _
     (λ h.
-      let (near, at) = both _ _ h in
-      let (j, number, there) = near_number set l near in
-      let same = eqb-true j k (sym (alone j) ∙ there) in
-      let it = same_number l x k (eqb-true _ _ at) (number ∙ ap Some same) is in
-      subst (λ m. same_location m x ≡ true) (sym it) (same_location-itself x))
+    let (near, at) = both _ _ h in
+    let (j, number, there) = near_number set l near in
+    let same = eqb-true j k (sym (alone j) ∙ there) in
+    let it = same_number l x k (eqb-true _ _ at) (number ∙ ap Some same) is in
+    subst (λ m. same_location m x ≡ true) (sym it) (same_location-itself x))
     (λ h.
-      let it = same_location-is l x h in
-      subst (λ m. stands_for (node_at x) (facet.Near set) m ≡ true) (sym it)
-      (and_from _ _ (near_at set k x is ∙ alone k ∙ eq-eqb k k refl) (eq-eqb (node_at x) (node_at x) refl)))
+    let it = same_location-is l x h in
+    subst (λ m. stands_for (node_at x) (facet.Near set) m ≡ true) (sym it)
+    (and_from _ _ (near_at set k x is ∙ alone k ∙ eq-eqb k k refl) (eq-eqb (node_at x) (node_at x) refl)))
 
 -- the number alone, as a set
 pub power_alone : (k j : ℕ) → has_number (2 ^ k) j ≡ nat_eq j k

@@ -44,11 +44,14 @@ pub const INLINE: usize = 2;
 
 // So many numbers a set may have, and so many tokens and components have one of these.
 const NUMBERS: u32 = 32;
+
 const NEAR: usize = 15;
 
 // The sets of the class, of the parent, and of all tokens.
 const CLASS: u32 = 1;
+
 const PARENT: u32 = 2;
+
 const TOKENS: u32 = 0x5555_5554;
 
 /// The number in four bytes; want of memory where it is too great for that.
