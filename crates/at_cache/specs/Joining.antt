@@ -12,7 +12,7 @@ pub record AreJoint (some more : Readers) (f : Facet) : Type 0 where
   pub same : edges_in some.edges ≡ edges_in more.edges
   pub both : (n : ℕ) (l : Location ℕ) → stands_for n f l ≡ (stands_for n some.facet l || stands_for n more.facet l)
 
--- So it is of what stands at a place and of what stands before it.
+-- They stand at these places, the one before the other.
 pub record Joins (rs : List Readers) (before place : ℕ) (f : Facet) : Type 0 where
   pub less : before < place
   pub joint : (r : Readers) × (q : Readers) × (slice_get rs before ≡ Some r) × (slice_get rs place ≡ Some q) × AreJoint r q f

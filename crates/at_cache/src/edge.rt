@@ -185,7 +185,10 @@ impl Edges {
             (Edges::Few(count, step, slot, stamp), Edges::Few(more, other, place, number)) => {
                 count == more && step == other && slot == place && stamp == number
             }
-            (Edges::More(rows), Edges::More(others)) => are_same(rows.as_slice(), others.as_slice()),
+            (Edges::More(rows), Edges::More(others)) => are_same(
+                rows.as_slice(),
+                others.as_slice(),
+            ),
             _ => false,
         }
     }
