@@ -1,6 +1,6 @@
 -- What is looked at of a node by the same entries has one list of edges.
-use Rattle.std.proofs.Common.{◌≡◌, ◌⊎◌, inl, inr, ℕ, zero, suc, ◌<◌, ◌+◌, ◌||◌, get_or, List, [], ◌∷◌, Bool, true, false, cond, Option, None, Some, IfSome, Contains, if◌then◌else◌, length, length-set, slice_get, slice_set, swap_remove, IsPermutation, refl, sym, ap, ◌∙◌, subst, arith}
-use Rattle.std.proofs.lemmas.Option.{get_or_from_slice_get, none-some, same_Some}
+use Rattle.std.proofs.Common.{◌≡◌, ◌⊎◌, inl, inr, ℕ, zero, suc, ◌<◌, ◌+◌, ◌||◌, get_or, List, [], ◌∷◌, Bool, true, false, cond, Option, None, Some, IfSome, Contains, if◌then◌else◌, length, length-set, slice_get, slice_set, swap_remove, IsPermutation, sym, ap, ◌∙◌, subst, arith}
+use Rattle.std.proofs.lemmas.Option.{get_or_from_slice_get, same_Some}
 use Rattle.std.proofs.lemmas.List.Sorted.{Contains-permutation, IsPermutation-swap_remove, IsPermutation-sym}
 use Rattle.slab.proofs.SlabLemmas.{Contains-cons, Contains-cons_cases}
 use Rattle.at_model.specs.Run.{Location}
