@@ -1,23 +1,42 @@
 //! What is looked at of a node by the same entries has one list of edges.
 
-ghost use Rattle.std.specs.Prelude.{◌≡◌, ◌||◌, ◌<◌, ℕ, IfSome, MatchBool, length};
-ghost use Rattle.at_model.specs.Run.{Location};
-ghost use Rattle.at_cache.specs.Edges.{edges_in};
-ghost use Rattle.at_cache.specs.Joining.{HaveSame};
-ghost use Rattle.at_cache.specs.Readers.{stands_for};
+ghost use Rattle.std.specs.Prelude.{◌≡◌, ◌<◌, IfSome, MatchBool, length};
+ghost use Rattle.at_cache.specs.Joining.{AreJoint, HaveSame, Joins};
 
 use crate::facet::{Facet, Facets, INLINE, Readers};
 
 // The facet of both, where they have the same edges and there is one.
 fn joint(some: &Readers, more: &Readers) -> Option<Facet>
-    ensures same { IfSome result (λ facet. edges_in some.now.edges ≡ edges_in more.now.edges) }
-    ensures both { IfSome result (λ facet. (n : ℕ) (l : Location ℕ)
-        → stands_for n facet l ≡ (stands_for n some.now.facet l || stands_for n more.now.facet l)) }
+    ensures { IfSome result (λ facet. AreJoint some.now more.now facet) }
 {
     if !some.edges.are(&more.edges) {
         return None;
     }
     some.facet.with(more.facet)
+}
+
+// The first place before that one that has the same edges, with the facet of both, if there is one.
+fn joint_before(readers: &[Readers], place: usize) -> Option<(usize, Facet)>
+    requires { place < length readers.now }
+    ensures { IfSome result (λ found. Joins readers.now found.0 place found.1) }
+{
+    for before in 0..place {
+        if let Some(facet) = joint(&readers[before], &readers[place]) {
+            return Some((before, facet));
+        }
+    }
+    None
+}
+
+// What stands at the one place gets the facet of both, and what stands at the other one goes.
+fn become_one(readers: &mut Facets, before: usize, place: usize, facet: Facet)
+    requires { Joins readers.old.items before place facet }
+    ensures same { HaveSame readers.old.items readers.new.items }
+    ensures fewer { length readers.new.items < length readers.old.items }
+{
+    let found = &mut readers.as_mut_slice()[before];
+    found.facet = facet;
+    readers.swap_remove(place);
 }
 
 // What stands at the place joins what stands before it and has the same edges, if anything does.
@@ -26,15 +45,13 @@ fn is_joined(readers: &mut Facets, place: usize) -> bool
     ensures same { HaveSame readers.old.items readers.new.items }
     ensures others { MatchBool result (length readers.new.items < length readers.old.items) (readers.new.items ≡ readers.old.items) }
 {
-    for before in 0..place {
-        let facets = readers.as_mut_slice();
-        if let Some(facet) = joint(&facets[before], &facets[place]) {
-            facets[before].facet = facet;
-            readers.swap_remove(place);
-            return true;
+    match joint_before(readers.as_slice(), place) {
+        Some((before, facet)) => {
+            become_one(readers, before, place, facet);
+            true
         }
+        None => false,
     }
-    false
 }
 
 // Those that have the same edges have one list.

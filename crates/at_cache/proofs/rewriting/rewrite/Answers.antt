@@ -16,11 +16,11 @@ loop-number-preserved c =
     let there = is_current (memory_of c.args.entries.now) in
     let into = slots_at c.args.plan.now in
     let l = c.loop-number in
-    let w = c.rewrite_node.new.readers in
+    let w = c.rewrite_facets.new.readers in
     let less = c.loop-number-test.true in
     let at = slice_get_read l.readers.items _ l.number c.index_mut-list.result.now refl
     (omega (arith, less, c.loop-number.invariant.len, c.len-number-end.ensures, c.args.readers.now.ok.0)) c.index_mut-list.ensures.value in
-    below_more (IsNodeRefolded there into) l.number _ l.readers.items _ l.invariant (one_node there into l.readers.items l.number _ w at c.in_ok-rewrite_node.ensures)
+    below_more (IsNodeRefolded there into) l.number _ l.readers.items _ l.invariant (one_node there into l.readers.items l.number _ w at c.in_ok-rewrite_facets.ensures)
     (λ k differs. get_other l.readers.items l.number k w differs) (length-set l.readers.items l.number w)
 
 pub returns-clause-lists : goal.returns-clause-lists
@@ -32,6 +32,6 @@ returns-clause-lists c =
 pub returns-clause-len : goal.returns-clause-len
 returns-clause-len c = ap length c.shrink_to_fit.ensures.items ∙ c.loop-number.invariant.len
 
-pub returns-in_err-rewrite_node-clause-len : goal.returns-in_err-rewrite_node-clause-len
-returns-in_err-rewrite_node-clause-len c =
-    length-set c.loop-number.readers.items c.loop-number.number c.rewrite_node.new.readers ∙ c.loop-number.invariant.len
+pub returns-in_err-rewrite_facets-clause-len : goal.returns-in_err-rewrite_facets-clause-len
+returns-in_err-rewrite_facets-clause-len c =
+    length-set c.loop-number.readers.items c.loop-number.number c.rewrite_facets.new.readers ∙ c.loop-number.invariant.len
