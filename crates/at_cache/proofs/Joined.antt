@@ -1,5 +1,5 @@
 -- What is looked at of a node by the same entries has one list of edges.
-use Rattle.std.proofs.Common.{◌≡◌, ◌⊎◌, inl, inr, ℕ, zero, suc, ◌<◌, ◌+◌, ◌||◌, get_or, List, [], ◌∷◌, Bool, true, false, cond, Option, None, Some, IfSome, Contains, if◌then◌else◌, length, length-set, slice_get, slice_set, swap_remove, IsPermutation, sym, ap, ◌∙◌, subst, arith}
+use Rattle.std.proofs.Common.{◌≡◌, ◌⊎◌, inl, inr, ℕ, zero, suc, ◌<◌, ◌+◌, ◌||◌, get_or, List, [], ◌∷◌, Bool, true, false, cond, Option, None, Some, IfSome, Contains, if◌then◌else◌, length, nat_eq, eqb-true, refl, length-set, slice_get, slice_set, swap_remove, IsPermutation, sym, ap, ◌∙◌, subst, arith}
 use Rattle.std.proofs.lemmas.Option.{get_or_from_slice_get, same_Some}
 use Rattle.std.proofs.lemmas.List.Sorted.{Contains-permutation, IsPermutation-swap_remove, IsPermutation-sym}
 use Rattle.slab.proofs.SlabLemmas.{Contains-cons, Contains-cons_cases}
@@ -149,6 +149,43 @@ one_list rs mid new before place f r q joins read took is set =
     let other : q ≡ w = took ∙ ap (λ (zs : List Readers). get_or zs place q) was ∙ get_or_from_slice_get (slice_set rs before made) place w q (taken rs before place f v w joins.less here there joint) in
     let whole : new ≡ swap_remove (slice_set rs before made) place w = is ∙ ap (λ (zs : List Readers). swap_remove zs place q) was ∙ ap (swap_remove (slice_set rs before made) place) other in
     subst (HaveSame rs) (sym whole) (have_one rs before place f v w joins.less here there joint)
+
+no_list : (es : List Edge) → nat_eq (length es) 0 ≡ true → es ≡ []
+no_list [] h = refl
+no_list (x ∷ xs) h = absurd (let none = eqb-true (length (x ∷ xs)) 0 h in omega (arith, none))
+
+none_of : (b : Bool) (es : List Edge) (x : Edge) → es ≡ [] → Contains (cond b es []) x → ⊥
+none_of true es x is c = none_in x (subst (λ zs. Contains zs x) is c)
+none_of false es x is c = none_in x c
+
+-- what has no edge goes
+pub left_out : (rs new : List Readers) (place : ℕ) (q r : Readers) → place < length rs → q ≡ get_or rs place q → r ≡ get_or rs place r
+    → nat_eq (length (edges_in r.edges)) 0 ≡ true → new ≡ swap_remove rs place q → HaveSame rs new
+left_out rs new place q r inside read other none is = subst (HaveSame rs) (sym is) (record {
+  kept = λ n l x c.
+      let (y, d, e) = along_from (edges_of n l) rs x c in
+      elim (Contains-cons_cases q y after (Contains-permutation rs (q ∷ after) y shuffled d)) [
+        | inl same ↦ absurd (none_of (stands_for n q.facet l) (edges_in q.edges) x (no_list (edges_in q.edges) empty)
+            (subst (λ z. Contains (edges_of n l z) x) (sym same) e))
+        | inr k ↦ along_to (edges_of n l) after y x k e
+      ];
+  from = λ n l x c.
+      let (y, d, e) = along_from (edges_of n l) after x c in
+      along_to (edges_of n l) rs y x
+      (Contains-permutation (q ∷ after) rs y (IsPermutation-sym rs (q ∷ after) shuffled) (Contains-cons q y after d)) e;
+})
+  where
+    after : List Readers
+    after = swap_remove rs place q
+
+    shuffled : IsPermutation rs (q ∷ after)
+    shuffled = IsPermutation-swap_remove rs place q inside read
+
+    same : r ≡ q
+    same = same_Some r q (sym (got rs place r inside ∙ ap Some (sym other)) ∙ got rs place q inside ∙ ap Some (sym read))
+
+    empty : nat_eq (length (edges_in q.edges)) 0 ≡ true
+    empty = subst (λ (z : Readers). nat_eq (length (edges_in z.edges)) 0 ≡ true) same none
 
 pub one_fewer : (rs mid new : List Readers) (before : ℕ) (v : Readers) → length new + 1 ≡ length mid → mid ≡ slice_set rs before v → length new < length rs
 one_fewer rs mid new before v goes set =

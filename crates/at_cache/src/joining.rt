@@ -15,12 +15,15 @@ fn joint(some: &Readers, more: &Readers) -> Option<Facet>
     some.facet.with(more.facet)
 }
 
-// The first place before that one that has the same edges, with the facet of both, if there is one.
+// So many places before one are looked at.
+const NEAR: usize = 4;
+
+// The first of the places shortly before that one that has the same edges, with the facet of both, if there is one.
 fn joint_before(readers: &[Readers], place: usize) -> Option<(usize, Facet)>
     requires { place < length readers.now }
     ensures { IfSome result (λ found. Joins readers.now found.0 place found.1) }
 {
-    for before in 0..place {
+    for before in place.saturating_sub(NEAR)..place {
         if let Some(facet) = joint(&readers[before], &readers[place]) {
             return Some((before, facet));
         }
@@ -54,13 +57,35 @@ fn is_joined(readers: &mut Facets, place: usize) -> bool
     }
 }
 
-// Those that have the same edges have one list.
+// What stands at the place goes if it has no edge.
+fn is_left_out(readers: &mut Facets, place: usize) -> bool
+    requires { place < length readers.old.items }
+    ensures same { HaveSame readers.old.items readers.new.items }
+    ensures others { MatchBool result (length readers.new.items < length readers.old.items) (readers.new.items ≡ readers.old.items) }
+{
+    if !readers.as_slice()[place].edges.is_empty() {
+        return false;
+    }
+    readers.swap_remove(place);
+    true
+}
+
+// What stands at the place goes where it has no edge, or the same as one before it.
+fn goes(readers: &mut Facets, place: usize) -> bool
+    requires { place < length readers.old.items }
+    ensures same { HaveSame readers.old.items readers.new.items }
+    ensures others { MatchBool result (length readers.new.items < length readers.old.items) (readers.new.items ≡ readers.old.items) }
+{
+    is_left_out(readers, place) || is_joined(readers, place)
+}
+
+// Those that have the same edges have one list, and those that have none go.
 fn join_all(readers: &mut Facets)
     ensures { HaveSame readers.old.items readers.new.items }
 {
-    let mut place = 1;
+    let mut place = 0;
     while place < readers.len() {
-        if !is_joined(readers, place) {
+        if !goes(readers, place) {
             place += 1;
         }
     }

@@ -5,4 +5,4 @@ pub loop-place-init : goal.loop-place-init
 loop-place-init c = same_none _
 
 pub loop-place-preserved : goal.loop-place-preserved
-loop-place-preserved c = same_then c.loop-place.invariant c.is_joined.ensures.same
+loop-place-preserved c = same_then c.loop-place.invariant c.goes.ensures.same
