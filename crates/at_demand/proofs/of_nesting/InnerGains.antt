@@ -70,7 +70,7 @@ pub leads_next : (rules : Rules) (look : Contents ℕ) (i j : Instance ℕ) → 
     Reaches look (HasValue look (meaning rules)) (equations rules i) j → Leads look (meaning rules) i j
 leads_next rules look i j own c = goes i j j (comes_own rules look i j own c) (stays j)
 
--- what is worth keeping comes, and then more
+-- what is worthy comes, and then more
 pub worthy_then : (rules : Rules) (look : Contents ℕ) (i : Instance ℕ) (old mid new : Entries) →
     AddsWorthy rules look i old mid → AddsWorthy rules look i mid new → AddsWorthy rules look i old new
 worthy_then rules look i old mid new g h = record {
@@ -266,7 +266,7 @@ module _ (rules : Rules) (s : Shown) (exact : Bool) where
   not_lazy true e h = true≢false (sym e)
   not_lazy false e h = true≢false (sym h)
 
-  -- and all that is worth keeping for it is kept
+  -- and all that is worthy of it is kept
   pub told_whole : (entries : Entries) (f : Found) (j : Instance ℕ) (v : Value ℕ) (ls : List (Location ℕ)) (us : List
       (Instance ℕ)) → AreSpare rules (contents s) entries → AreKnown rules (contents s) entries f →
       IsGiven rules (contents s) (known_by entries f) j v ls us → HasWorthy rules (contents s) j entries
