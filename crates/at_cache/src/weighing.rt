@@ -1,8 +1,8 @@
 //! What it costs to fold an entry: what is counted of each, for the choice of those that are (`choosing.rt`). No proof rests on it.
 //!
-//! An entry that is folded is evaluated anew whenever one of those is that used it, and else only where something is touched that it rests on
-//! itself. So an entry costs what it *weighs*, with what is folded into it, as often as an edit reaches its users and not the entry: the *gap*
-//! between how far they *reach* and how far it does.
+//! An entry that is folded is evaluated anew whenever one of those is that used it, and else only where something is touched that it
+//! rests on itself. So an entry costs what it *weighs*, with what is folded into it, as often as an edit reaches its users and not the
+//! entry: the *gap* between how far they *reach* and how far it does.
 //!
 //! Entries are looked at by their places, from the oldest to the newest: what one used stands before it.
 
@@ -216,7 +216,8 @@ pub fn count_runs(places: &[u32], items: &mut [Item], runs: &[Run]) {
     }
 }
 
-// The entry at the place reaches so much further than what it looked at. So it is known what of that is each user's, and what it weighs alone.
+// The entry at the place reaches so much further than what it looked at. So it is known what of that is each user's, and what it weighs
+// alone.
 fn set_reach(items: &mut [Item], place: usize, further: u32) {
     if let Some(item) = items.get_mut(place) {
         item.reach = item.reach.saturating_add(further);
