@@ -24,11 +24,11 @@ use Rattle.at_demand.specs.Known.{equations, meaning, kept_values, ArePlain, IsK
 use Rattle.at_demand.specs.Meant.{AreCircularWell, AreRightValues}
 use Rattle.at_demand.specs.Right.{AreRight, IsThere, IsValued}
 use Rattle.at_demand.specs.Sparing.{AddsWorthy, AreSpare, Counts, HasWorthy, IsWorthy}
-use Rattle.at_demand.specs.Inner.{AreKnown, Gains, HasTold, IsEvaluated, IsGiven, is_inner, known_by, remembered}
+use Rattle.at_demand.specs.Inner.{AreKnown, Gains, HasTold, IsEvaluated, IsGiven, is_inner, known_by}
 use Rattle.at_demand.proofs.Counting.{counts_more, counts_none, counts_same, counts_shared}
 use Rattle.at_demand.proofs.Entered.{entered_on, is_there, not_none, put_stays}
 use Rattle.at_demand.proofs.Gaining.{worthy_none}
-use Rattle.at_demand.proofs.of_nesting.Ground.{comes_own, own_of}
+use Rattle.at_demand.proofs.of_nesting.Ground.{comes_own}
 use Rattle.at_demand.proofs.of_nesting.InnerPuts.{IsFit, right_now, plain_now, covers_now, spare_now, worthy_now, all_now, stays_now}
 use Rattle.at_demand.proofs.of_nesting.Remembered.{ground_by, stands_by, found_known, known_more, remembered_is, still_remembered}
 use Rattle.at_demand.proofs.Leading.{leads_on}
