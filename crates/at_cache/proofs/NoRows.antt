@@ -51,7 +51,7 @@ pub counted_times : (c w n r : ℕ) → n ≡ min c (2 ^ 64 - 1) → r ≡ min (
 counted_times c zero n r p q = let none : n * 0 ≡ 0 * c = omega arith in q ∙ ap (λ k. min k (2 ^ 64 - 1)) none
 counted_times c (suc w) n r p q =
     by (n * suc w) (suc w * c) (λ e. ap (λ k. k * suc w) e ∙ mul_comm c (suc w)) (mul-le n 1 n (suc w) (omega arith) (omega arith))
-      (mul-le 1 c (suc w) c (omega arith) (omega arith)) p q
+    (mul-le 1 c (suc w) c (omega arith) (omega arith)) p q
   where
     by : (a b : ℕ) → (n ≡ c → a ≡ b) → n * 1 ≤ a → 1 * c ≤ b → n ≡ min c (2 ^ 64 - 1) → r ≡ min a (2 ^ 64 - 1) → r ≡ min b (2 ^ 64 - 1)
     by a b same more great p q = elim (cases_lt (2 ^ 64 - 1) c) [
