@@ -1,6 +1,6 @@
 //! The keeper that forgets at an edit what the edit touches.
 
-ghost use Rattle.std.specs.Prelude.{◌≡◌, ◌≤◌, ◌-◌, ◌^◌, length, min, IfOk, None, true};
+ghost use Rattle.std.specs.Prelude.{◌≡◌, ◌≤◌, ◌-◌, ◌^◌, min, IfOk, None, true};
 ghost use Rattle.at_cache.specs.Asking.{AreNoted};
 ghost use Rattle.at_cache.specs.Folding.{LeavesKept};
 ghost use Rattle.at_cache.specs.Info.{memory_of, table_len};
