@@ -1,5 +1,5 @@
 -- One entry more: it is found from all that it rests on, and what was kept is kept.
-use Rattle.std.proofs.Common.{◌≡◌, inl, inr, ℕ, zero, suc, ◌<◌, ◌+◌, List, [], ◌||◌, Bool, true, false, Option, None, Some, option_map, Contains, refl, sym, ap, ◌∙◌, subst, arith}
+use Rattle.std.proofs.Common.{◌≡◌, inl, inr, ℕ, zero, suc, ◌<◌, ◌+◌, List, ◌||◌, Bool, true, false, Option, None, Some, option_map, Contains, refl, sym, ap, ◌∙◌, subst, arith}
 use Rattle.std.specs.List.{list_any}
 use Rattle.std.proofs.lemmas.Bool.{cases_eq}
 use Rattle.std.proofs.lemmas.Option.{none-some, same_Some}
@@ -12,7 +12,6 @@ use Rattle.at_cache.specs.Kept.{same_location}
 use Rattle.at_cache.proofs.Locations.{same_location-is, same_location-itself}
 use Rattle.at_cache.proofs.Index.{Index, PutsSlot, Standing, kept_at, standing}
 use Rattle.at_cache.specs.Putting.{AreListed, AreTaken, Reads, Uses, users_at, with_users}
-use Rattle.at_cache.proofs.Taking.{none_in}
 use Rattle.at_cache.proofs.Ending.{any_of, any_same, far_enough, has, is_in, opened, some_of}
 use Rattle.at_cache.proofs.Listing.{from_kept, still_kept, users_of}
 

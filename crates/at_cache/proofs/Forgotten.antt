@@ -1,5 +1,5 @@
 -- A keeper with a bound.
-use Rattle.std.proofs.Common.{◌≡◌, ◌∙◌, ℕ, Bool, List, None, Some, ap, option_map, sym, subst}
+use Rattle.std.proofs.Common.{◌≡◌, ◌∙◌, ℕ, Bool, List, None, ap, option_map, sym, subst}
 use Rattle.std.specs.Map.{lookup}
 use Rattle.std.proofs.lemmas.Option.{none-some}
 use Rattle.at_model.specs.Run.{Instance, Location}

@@ -12,7 +12,6 @@ use Rattle.at_store.specs.declared.node.Loc.{Loc}
 use Rattle.at_store.specs.declared.node.Loc.TheVariants as loc
 use Rattle.at_store.specs.declared.places.Changing.{Changing}
 use Rattle.at_store.specs.declared.places.Places.{Places}
-use Rattle.at_store.specs.Located.{loc_view}
 use Rattle.at_store.specs.Places.{is_index_among, is_node, named, names_around}
 use Rattle.at_cache.specs.declared.edge.Edge.{Edge}
 use Rattle.at_cache.specs.declared.facet.Readers.{Readers}

@@ -1,8 +1,8 @@
 -- Rows without an edge, and how many edges of rows tell of an entry.
-use Rattle.std.proofs.Common.{◌≡◌, ◌<◌, ◌≤◌, ◌+◌, ◌-◌, ◌^◌, ℕ, zero, suc, Bool, true, false, List, [], ◌∷◌, ◌++◌, nat_eq, length, get_or, take, min, if◌then◌else◌, arith, refl, sym, ap, ◌∙◌, eqb-true, take_all}
-use Rattle.std.specs.List.{sum_by}
-use Rattle.std.proofs.lemmas.Bool.{eq-eqb, ne_eqb}
+use Rattle.std.proofs.Common.{◌≡◌, ◌<◌, ◌≤◌, ◌+◌, ◌*◌, ◌-◌, ◌^◌, ℕ, zero, suc, Bool, true, false, List, [], ◌∷◌, ◌++◌, nat_eq, length, get_or, take, min, if◌then◌else◌, arith, refl, sym, ap, ◌∙◌, eqb-true, inl, inr, mul_comm, take_all}
+use Rattle.std.proofs.lemmas.Bool.{cases_lt, eq-eqb, ne_eqb}
 use Rattle.std.proofs.lemmas.List.{take_more}
+use Rattle.std.proofs.lemmas.Nat.{mul-le}
 use Rattle.std.proofs.lemmas.List.Sums.{sum_by-append, sum_by-cons}
 use mir.Val.{bool_byte}
 use Rattle.at_cache.specs.declared.edge.Edge.{Edge}
@@ -44,6 +44,19 @@ sum_both m xs ys = sum_by-append (λ x. if is_current m x then 1 else 0) xs ys
 
 capped : (a b n c more t : ℕ) → n ≡ min a (2 ^ 64 - 1) → c ≡ min b (2 ^ 64 - 1) → more ≡ min (n + c) (2 ^ 64 - 1) → t ≡ a + b → more ≡ min t (2 ^ 64 - 1)
 capped a b n c more t p q r e = grind arith
+
+-- so many edges that tell of so many locations each
+pub counted_times : (c w n r : ℕ) → n ≡ min c (2 ^ 64 - 1) → r ≡ min (n * w) (2 ^ 64 - 1) → r ≡ min (w * c) (2 ^ 64 - 1)
+counted_times c zero n r p q = let none : n * 0 ≡ 0 * c = omega arith in q ∙ ap (λ k. min k (2 ^ 64 - 1)) none
+counted_times c (suc w) n r p q =
+    by (n * suc w) (suc w * c) (λ e. ap (λ k. k * suc w) e ∙ mul_comm c (suc w)) (mul-le n 1 n (suc w) (omega arith) (omega arith))
+    (mul-le 1 c (suc w) c (omega arith) (omega arith)) p q
+  where
+    by : (a b : ℕ) → (n ≡ c → a ≡ b) → n * 1 ≤ a → 1 * c ≤ b → n ≡ min c (2 ^ 64 - 1) → r ≡ min a (2 ^ 64 - 1) → r ≡ min b (2 ^ 64 - 1)
+    by a b same more great p q = elim (cases_lt (2 ^ 64 - 1) c) [
+      | inl over ↦ let full : n ≡ 2 ^ 64 - 1 = grind (arith, over, p) in grind (arith, over, full, more, great, q)
+      | inr within ↦ let all : n ≡ c = grind (arith, within, p) in q ∙ ap (λ k. min k (2 ^ 64 - 1)) (same all)
+    ]
 
 -- a row more is counted
 pub counted_row : (m : Memory) (rs : List Row) (i n c more : ℕ) (d : Row) → i < length rs → n ≡ min (current_of m (edges_along (take i rs))) (2 ^ 64 - 1) → c ≡ min (current_of m (edges_of (get_or rs i d))) (2 ^ 64 - 1) →

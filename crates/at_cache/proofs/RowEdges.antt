@@ -1,5 +1,5 @@
 -- The edges of a row, from its front and to its end.
-use Rattle.std.proofs.Common.{◌≡◌, inl, inr, ℕ, zero, suc, ◌+◌, ◌-◌, ◌*◌, ◌%◌, ◌^◌, ◌<◌, List, [], ◌∷◌, ◌++◌, nat_eq, true, false, length, Contains, arith, refl, sym, ap, ◌∙◌, subst, add-zero, add-suc, add_assoc, mod-eq_of_lt}
+use Rattle.std.proofs.Common.{◌≡◌, inl, inr, ℕ, zero, suc, ◌+◌, ◌-◌, ◌*◌, ◌%◌, ◌^◌, ◌<◌, [], ◌∷◌, ◌++◌, length, Contains, arith, refl, sym, ap, ◌∙◌, subst, add-zero, add-suc, add_assoc, mod-eq_of_lt}
 use Rattle.std.proofs.lemmas.Bool.{cases_lt}
 use Rattle.std.proofs.lemmas.List.Elements.{Contains-append_left, Contains-push}
 use native.Mathlib.Nat.{zero-mul, one-mul, suc-mul, add_comm, mod-add-mod, suc-add, zero-add}

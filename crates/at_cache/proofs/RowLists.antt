@@ -1,17 +1,14 @@
 -- Lists of rows lose edges that tell of no entry, and gain one.
-use Rattle.std.proofs.Common.{◌≡◌, ◌⊎◌, inl, inr, ℕ, zero, suc, ◌<◌, List, [], ◌∷◌, ◌++◌, nat_eq, true, false, Contains, Some, length, get_or, slice_get, slice_set, swap_remove, IsPermutation, refl, sym, ap, ◌∙◌, subst, append-nil, append_assoc, arith, eqb-true}
+use Rattle.std.proofs.Common.{◌≡◌, inl, inr, ℕ, zero, suc, ◌<◌, List, [], ◌∷◌, ◌++◌, nat_eq, true, false, Contains, Some, length, get_or, slice_get, slice_set, swap_remove, IsPermutation, refl, sym, ap, ◌∙◌, subst, append-nil, append_assoc, arith, eqb-true}
 use Rattle.std.specs.List.{flat_map}
 use Rattle.std.proofs.lemmas.Grind.{flat_map-append}
 use Rattle.std.proofs.lemmas.List.{get_or_default}
-use Rattle.std.proofs.lemmas.Option.{none-some, same_Some}
 use Rattle.std.proofs.lemmas.List.Elements.{Contains-append_cases, Contains-append_left, Contains-append_right, Contains-push}
 use Rattle.std.proofs.lemmas.List.Sorted.{Contains-permutation, IsPermutation-swap_remove, IsPermutation-sym}
 use Rattle.slab.proofs.SlabLemmas.{Contains-cons, Contains-cons_cases}
 use Rattle.at_cache.specs.declared.edge.Edge.{Edge}
-use Rattle.at_cache.specs.declared.edge.Edges.{Edges}
 use Rattle.at_cache.specs.declared.row.Row.{Row}
-use Rattle.at_cache.specs.Edges.{edges_in}
-use Rattle.at_cache.specs.Info.{Info, Memory}
+use Rattle.at_cache.specs.Info.{Memory}
 use Rattle.at_cache.specs.Putting.{Keeps, Lists, is_current}
 use Rattle.at_cache.specs.Rows.{edges_along, edges_of}
 use Rattle.at_cache.proofs.Dooming.{head_of}

@@ -5,7 +5,7 @@ use Rattle.std.proofs.lemmas.Option.{none-some, same_Some}
 use Rattle.at_model.specs.Run.{Instance, Location}
 use Rattle.at_body.specs.Same.{same_instance}
 use Rattle.at_body.specs.Sameness.{instances_equiv}
-use Rattle.at_cache.specs.Kept.{Entries, Kept, KeepsAll, LeavesUntouched, LosesTouched, Puts, PutsBy, covered_by}
+use Rattle.at_cache.specs.Kept.{Entries, Kept, KeepsAll, LeavesUntouched, LosesTouched, PutsBy, covered_by}
 use Rattle.at_cache.proofs.Index.{LeavesSlots, LosesSlots, PutsSlot, Standing}
 
 -- what is kept of an instance is in a slot, and what is in a slot is kept of its instance

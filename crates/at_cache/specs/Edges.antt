@@ -1,5 +1,5 @@
 -- The edges of a list, in order.
-use Rattle.std.specs.Prelude.{List, [], ◌∷◌}
+use Rattle.std.specs.Prelude.{List, []}
 use Rattle.at_cache.specs.declared.edge.Edge.{Edge}
 use Rattle.at_cache.specs.declared.edge.Edges.{Edges}
 use Rattle.at_cache.specs.declared.edge.Edges.TheVariants as edges

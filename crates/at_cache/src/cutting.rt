@@ -1,6 +1,6 @@
 //! What an edit takes away from entries that stay in memory.
 
-ghost use Rattle.std.specs.Prelude.{◌≡◌, ◌≢◌, ◌<◌, ◌≤◌, length, ◌⊎◌, ◌+◌, ℕ, List, [], Option, None, Some, IfNone, IfSome, IsSome, IsTrue, OnSome};
+ghost use Rattle.std.specs.Prelude.{◌≡◌, ◌≢◌, ◌<◌, length, ◌⊎◌, ◌+◌, ℕ, List, [], Option, None, Some, IfNone, IfSome, IsSome, IsTrue, OnSome};
 ghost use Rattle.at_cache.specs.declared.edge.Edge.{Edge};
 ghost use Rattle.at_cache.specs.Asking.{AreNoted};
 ghost use Rattle.at_cache.specs.Flushing.{IsIdle, Work};

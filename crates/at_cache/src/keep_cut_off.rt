@@ -1,6 +1,6 @@
 //! The keeper that takes what an edit may have changed as changed only where it did.
 
-ghost use Rattle.std.specs.Prelude.{◌≡◌, ◌≤◌, ◌^◌, IfOk, IfSome, length, None, false, true};
+ghost use Rattle.std.specs.Prelude.{◌≡◌, IfOk, IfSome, None, false, true};
 ghost use Rattle.at_cache.specs.Asking.{AreNoted};
 ghost use Rattle.at_cache.specs.Info.{memory_of, table_len};
 ghost use Rattle.at_cache.specs.Kept.{Answers, AreNamed, KeepsAll, LeavesUntouched, LosesTouched};

@@ -1,6 +1,6 @@
 //! The keeper that forgets at an edit what the edit touches.
 
-ghost use Rattle.std.specs.Prelude.{◌≡◌, ◌≤◌, ◌-◌, ◌^◌, length, min, IfOk, None, true};
+ghost use Rattle.std.specs.Prelude.{◌≡◌, ◌≤◌, ◌-◌, ◌^◌, min, IfOk, None, true};
 ghost use Rattle.at_cache.specs.Asking.{AreNoted};
 ghost use Rattle.at_cache.specs.Folding.{LeavesKept};
 ghost use Rattle.at_cache.specs.Info.{memory_of, table_len};
@@ -170,8 +170,9 @@ impl KeepRecorded {
     }
 
     /// How many direct reads the entries have, each location as often as an edge tells of it: of an entry once, however
-    /// often it was put, but once for each of the entry's folds that go over it; and a node's class once for each
-    /// location that is read next to it; or the greatest `usize` if they are more. It goes over all that was ever read.
+    /// often it was put, but once for each of the entry's folds that go over it, and once for each set of a node's locations
+    /// in which it is, where the entry read several; or the greatest `usize` if they are more. It goes over all that was ever
+    /// read.
     pub fn stored(&self) -> usize
         ensures { result ≡ min (reads_held (memory_of self.now.entries) self.now.readers) (2 ^ 64 - 1) }
     {

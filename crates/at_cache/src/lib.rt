@@ -14,9 +14,10 @@
 //! **Where to begin:** the trait in `keeper.rt`, then `keep_recorded.rt`: `table.rt` holds the entries,
 //! `row.rt` and `linking.rt` the edges; `run.rt` has runs, of which one edge tells of many locations: `seating.rt` makes them, and
 //! `stretch.rt` adds to them; `putting.rt` is `put`, `forgetting.rt` a flush, `places.rt` one by places.
-//! `keep_at_most.rt` is a keeper over it, with a bound: beyond it entries are folded (`folding.rt`) by a plan that is chosen (`choosing.rt`)
-//! and tested (`checking.rt`); `lone.rt` tells which lists stay, `rewriting.rt` has their edges, `rerunning.rt` those of runs, `relinking.rt` the entries,
-//! and `joining.rt` makes one list of those of a node that came to have the same edges.
+//! `keep_at_most.rt` is a keeper over it, with a bound: beyond it entries are folded (`folding.rt`) by a plan that is chosen
+//! (`choosing.rt`, by what is counted in `weighing.rt`) and tested (`checking.rt`); `lone.rt` tells which lists stay, `rewriting.rt` has
+//! their edges, `rerunning.rt` those of runs, `relinking.rt` the entries, and `joining.rt` makes one list of those of a node that came to
+//! have the same edges.
 //! `keep_cut_off.rt` is one whose entries stay in memory: `cut.rt` and `standing.rt` have them,
 //! `cutting.rt` is its flush over what `forgetting.rt` marks (`marked.rt`), `renewing.rt` its `put`, `settling.rt`
 //! and `blocking.rt` what a question keeps again. `keep_cut_off_at_most.rt` is that one with a bound: beyond it what isn't kept goes (`shedding.rt`),
@@ -72,6 +73,7 @@ mod standing;
 mod stored;
 mod stretch;
 mod table;
+mod weighing;
 
 pub use keep_at_most::KeepAtMost;
 pub use keep_cut_off::KeepCutOff;

@@ -1,6 +1,6 @@
 //! An entry comes that stays in memory, or is put anew.
 
-ghost use Rattle.std.specs.Prelude.{◌≡◌, ◌≤◌, ◌^◌, ℕ, List, None, Some, Contains, IfOk, IsSome, IsTrue, OnErr, OnOk, length, map, option_map};
+ghost use Rattle.std.specs.Prelude.{◌≡◌, ℕ, List, None, Some, IfOk, IsSome, IsTrue, OnErr, OnOk, map, option_map};
 ghost use Rattle.at_model.specs.Run.{Instance, Location};
 ghost use Rattle.at_body.specs.Values.{value_view};
 ghost use Rattle.at_store.specs.Located.{loc_view};

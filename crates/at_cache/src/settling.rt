@@ -1,6 +1,6 @@
 //! What can be kept again with no evaluation.
 
-ghost use Rattle.std.specs.Prelude.{◌≡◌, ℕ, List, true};
+ghost use Rattle.std.specs.Prelude.{ℕ, List, true};
 ghost use Rattle.at_model.specs.Run.{Location};
 ghost use Rattle.at_cache.specs.declared.edge.Edge.{Edge};
 ghost use Rattle.at_cache.specs.Info.{memory_of};

@@ -1,6 +1,6 @@
 //! What isn't kept leaves memory.
 
-ghost use Rattle.std.specs.Prelude.{◌≡◌, OnOk};
+ghost use Rattle.std.specs.Prelude.{OnOk};
 ghost use Rattle.at_cache.specs.Info.{memory_of};
 ghost use Rattle.at_cache.specs.Shedding.{LosesTraces, Sheds, ShedsAt};
 

@@ -1,5 +1,5 @@
 -- What is gathered stands among the sources, and so they cover all that supports the instance.
-use Rattle.std.proofs.Common.{◌≡◌, ◌⊎◌, ℕ, zero, suc, ◌+◌, ◌<◌, ◌≤◌, nat_eq, Bool, true, false, ◌||◌, List, [], ◌∷◌, ◌++◌, length, map, slice_get, Option, Some, None, OnOk, Ok, Err, inl, inr, refl, sym, ap, ◌∙◌, subst, append_assoc, append-nil, if◌then◌else◌, true≢false, arith}
+use Rattle.std.proofs.Common.{◌≡◌, ◌⊎◌, ℕ, zero, suc, ◌+◌, ◌<◌, ◌≤◌, nat_eq, Bool, true, false, ◌||◌, List, [], ◌∷◌, ◌++◌, length, map, slice_get, Option, Some, None, OnOk, Ok, Err, inl, inr, refl, sym, ap, ◌∙◌, subst, append-nil, if◌then◌else◌, true≢false, arith}
 use Rattle.std.specs.Prelude.{IsSome, Result}
 use Rattle.std.specs.List.{list_any}
 use Rattle.std.proofs.lemmas.Bool.{eqb-true}
@@ -11,12 +11,12 @@ use Rattle.at_model.specs.Meaning.{Among}
 use Rattle.at_model.specs.Support.{Sees}
 use Rattle.at_model.specs.of_fixpoints.Fixpoints.{HasValue}
 use Rattle.at_model.specs.of_fixpoints.Resting.{Comes, Leads, Supports}
-use Rattle.at_model.proofs.Listed.{among_left, among_map, among_right}
+use Rattle.at_model.proofs.Listed.{among_map, among_right}
 use Rattle.at_model.proofs.Options.{or_right}
 use Rattle.at_store.specs.Located.{loc_view}
 use Rattle.at_body.specs.Same.{same_instance}
 use Rattle.at_cache.specs.Kept.{Kept, Entries, AreKept, Puts, covered, covers_at, same_location}
-use Rattle.at_cache.proofs.Lists.{get_left, get_contains}
+use Rattle.at_cache.proofs.Lists.{get_contains}
 use Rattle.at_cache.proofs.Locations.{same_location-itself}
 use Rattle.at_demand.specs.declared.evaluation.Find.{Find}
 use Rattle.at_demand.specs.declared.gathering.Sources.{Sources}

@@ -1,5 +1,5 @@
 -- The steps of a question.
-use Rattle.std.proofs.Common.{◌≡◌, ◌⊎◌, ℕ, Bool, true, false, List, [], ◌∷◌, ◌++◌, Option, Some, None, MatchBool, inl, inr, refl, sym, ap, ◌∙◌, subst, true≢false, is_some, not}
+use Rattle.std.proofs.Common.{◌≡◌, ◌⊎◌, ℕ, Bool, true, false, List, [], ◌∷◌, ◌++◌, Option, Some, None, MatchBool, inl, inr, refl, sym, ap, ◌∙◌, true≢false, is_some, not}
 use Rattle.std.specs.Prelude.{IfNone, IfSome}
 use Rattle.std.specs.Global.{Box}
 use Rattle.std.specs.Option.{option_to_list}

@@ -1,12 +1,11 @@
 -- A question that was posted on the tree as it is stands so after each of its turns, and while more comes to what is kept.
-use Rattle.std.proofs.Common.{◌≡◌, ◌⊎◌, ◌↔◌, ◌+◌, ◌≤◌, ℕ, get_or, slice_get, nat_eq, List, [], ◌∷◌, Option, Some, None, Result, Ok, Err, inl, inr, refl, sym, ap, ◌∙◌, subst}
-use Rattle.std.specs.Prelude.{IsSome, IfOk, IfSome}
+use Rattle.std.proofs.Common.{◌≡◌, ◌↔◌, ℕ, get_or, nat_eq, List, [], ◌∷◌, Option, Some, None, Result, Ok, Err, inl, inr, refl, sym, ap, ◌∙◌, subst}
+use Rattle.std.specs.Prelude.{IfOk, IfSome}
 use Rattle.std.specs.Map.{keys_of}
-use Rattle.std.specs.Option.{option_map}
 use Rattle.std.specs.declared.alloc.AllocError.{AllocError}
 use Rattle.at_model.specs.Instances.{AnyText}
 use Rattle.at_model.specs.Meaning as plain
-use Rattle.at_model.specs.Meaning.{Among, Answer, Outcome}
+use Rattle.at_model.specs.Meaning.{Among, Outcome}
 use Rattle.at_model.specs.Rules.{Rules}
 use Rattle.at_model.specs.Run.{Value, Instance, Contents}
 use Rattle.at_model.specs.Turning.{asked}
@@ -16,7 +15,7 @@ use Rattle.at_model.specs.of_fixpoints.Fixpoints.{Holds}
 use Rattle.at_model.specs.of_fixpoints.Formulas.{Forms}
 use Rattle.at_model.specs.of_fixpoints.Resting.{Leads}
 use Rattle.at_model.specs.of_fixpoints.Searched.{IsWhole}
-use Rattle.at_model.specs.of_fixpoints.Searching.{Level, Search, Turned, most_turns}
+use Rattle.at_model.specs.of_fixpoints.Searching.{Level}
 use Rattle.at_model.proofs.of_formulas.PlainForms.{holds_on_all, holds_back_all}
 use Rattle.at_model.proofs.of_formulas.PlainRules.{rules_plain}
 use Rattle.at_rules.specs.Circular.{HasNoneCircular}
@@ -26,16 +25,16 @@ use Rattle.at_cache.specs.Kept.{Entries}
 use Rattle.at_demand.specs.declared.answer.Answer.{Answer as AnswerCode}
 use Rattle.at_demand.specs.declared.question.Question.{Question}
 use Rattle.at_demand.specs.Answerable.{IsBasis}
-use Rattle.at_demand.specs.Known.{KeepsEntries, IsKept, answer_view, equations, kept_values, meaning}
-use Rattle.at_demand.specs.Levels.{IsAbout, LevelCode, StandsFor, asked_by, root_in}
+use Rattle.at_demand.specs.Known.{IsKept, answer_view, equations, kept_values, meaning}
+use Rattle.at_demand.specs.Levels.{IsAbout, LevelCode, asked_by, root_in}
 use Rattle.at_demand.specs.Meant.{AreRightValues}
 use Rattle.at_demand.specs.Sound.{AreKeptWhole, AreSound}
 use Rattle.at_demand.specs.Sparing.{AddsWorthy, IsWorthy}
 use Rattle.at_demand.specs.Turns.{HasTurnedBy, IsStanding, IsStandingPlainly, under_way}
-use Rattle.at_demand.proofs.Entered.{entered_on, is_there, there}
+use Rattle.at_demand.proofs.Entered.{entered_on, is_there}
 use Rattle.at_demand.proofs.of_searches.Reaching.{asked_at}
 use Rattle.at_demand.proofs.of_searches.Returning.{with_level}
-use Rattle.at_demand.proofs.of_levels.Wholes.{one_turn, stays_on, told_right, whole_led}
+use Rattle.at_demand.proofs.of_levels.Wholes.{stays_on, told_right, whole_led}
 
 -- where no attribute is circular, formulas say what equations say
 pub plain_holds : (rules : Rules) → HasNoneCircular rules → (look : Contents ℕ) (i : Instance ℕ) (o : Outcome ℕ) →

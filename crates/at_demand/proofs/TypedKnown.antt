@@ -1,5 +1,5 @@
 -- What is known of well-typed instances of a store is of their kinds.
-use Rattle.std.proofs.Common.{◌≡◌, ℕ, nat_eq, refl, sym, ap, ◌∙◌, subst}
+use Rattle.std.proofs.Common.{ℕ, nat_eq, refl, sym, ap, ◌∙◌, subst}
 use Rattle.std.specs.List.{slice_get}
 use Rattle.at_model.specs.Paths.{node_eq}
 use Rattle.at_model.specs.Run.{Value, Instance}

@@ -40,11 +40,11 @@ use Rattle.at_demand.specs.Turns.{
   under_way,
 }
 
--- all that is worth keeping of what the search for the question has met is kept
+-- all that is worthy of the question, and that its search has met, is kept
 abbrev pub HasWorthyMet : Rules → Contents ℕ → Instance ℕ → Entries → Type 0
 HasWorthyMet rules look q entries = (i : Instance ℕ) → IsWorthy rules look q i → IsMet look (meaning rules) q i → IsKept entries i
 
--- All that is worth keeping is kept for the answer. Where that is a circle, it is so of what its search has met before; and of all, where no
+-- All that is worthy of the question is kept for the answer. Where that is a circle, it is so of what its search has met before; and of all, where no
 -- attribute is circular.
 abbrev pub HasWorthyFor : Rules → Contents ℕ → Instance ℕ → Answer ℕ → Entries → Type 0
 HasWorthyFor rules look q (Outcomes o) entries = HasWorthy rules look q entries

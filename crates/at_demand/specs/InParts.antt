@@ -120,7 +120,7 @@ MayHavePassedBy rules look p f b old new nodes rest =
 abbrev pub AreHeld : Rules → Shown → Entries → Memories → (work made : ℕ) → Type 0
 AreHeld rules s entries m work made = IsHeld rules (contents s) (held entries m [] work made)
 
--- What was held stays; what came to be kept is worth keeping for an instance that the evaluation demands, and from which demands lead to it,
+-- What was held stays; what came to be kept is worthy of an instance that the evaluation demands, and from which demands lead to it,
 -- and the work counts it; all is right still and, by an exact keeper, spare.
 pub record HasGained {A : Type 0} (rules : Rules) (s : Shown) (exact : Bool) (r : Run ℕ A) (old new : Held) : Type 0 where
   pub keeps : KeepsEntries old.entries new.entries
@@ -136,7 +136,7 @@ pub record HasGained {A : Type 0} (rules : Rules) (s : Shown) (exact : Bool) (r 
   pub counts : IsTrue exact → Counts old.entries new.entries old.work new.work
   pub makes : Makes old.entries new.entries old.memories new.memories old.made new.made
 
--- What was held was `old` and is `new` now, for the instance that is asked for: what came to be kept is worth keeping for it, and demands
+-- What was held was `old` and is `new` now, for the instance that is asked for: what came to be kept is worthy of it, and demands
 -- lead from it to that; what was remembered is so still, and all is right, what can be kept again, too.
 pub record HasGrown (rules : Rules) (s : Shown) (exact : Bool) (i : Instance ℕ) (old new : Held) : Type 0 where
   pub gains : Gains rules s exact i old.entries new.entries old.found new.found old.work new.work

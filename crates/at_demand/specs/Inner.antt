@@ -64,7 +64,7 @@ abbrev pub HasRecalled : Rules → Contents ℕ → Known ℕ → (old new : Lev
 HasRecalled rules look known old new j None = new ≡ old
 HasRecalled rules look known old new j (Some v) = HasTold rules look known old new j (value_view v)
 
--- What is kept was `old` and is `new` now: what came is worth keeping for i, and the work counts it; all is right still and, by an
+-- What is kept was `old` and is `new` now: what came is worthy of i, and the work counts it; all is right still and, by an
 -- exact keeper, spare. What was remembered is so still.
 pub record Gains (rules : Rules) (s : Shown) (exact : Bool) (i : Instance ℕ) (old new : Entries) (before after : List (Instance ℕ × ValueCode))
     (work later : ℕ) : Type 0 where

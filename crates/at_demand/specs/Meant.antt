@@ -1,5 +1,5 @@
 -- That what is known holds, where attributes are circular.
-use Rattle.std.specs.Prelude.{◌≡◌, ℕ, Bool, Option, Some}
+use Rattle.std.specs.Prelude.{◌≡◌, ℕ, Some}
 use Rattle.at_model.specs.Run.{Value, Instance, Contents, Known}
 use Rattle.at_model.specs.Rules.{Rules}
 use Rattle.at_model.specs.of_fixpoints.FormKinds.{AreBoolean}

@@ -443,7 +443,7 @@ HasLeftSo rules s before after old new u (left.Told o) = FitAfter rules s after 
     × FromFirst rules s before old (λ first l. FollowsTo rules s first after l new (option_map answer_view o))
 HasLeftSo rules s before after old new u left.Fallen = GoesDown rules s before after old new u
 
--- so it is where the question isn't answered; else all that is worth keeping is kept
+-- so it is where the question isn't answered; else all that is worthy of it is kept
 abbrev pub LeavesAll : Rules → Shown → (exact : Bool) → (before after : Entries) → (old new : Question) → Left → Type 0
 LeavesAll rules s exact before after old new (left.Told None) = IsSparingTurns rules (contents s) before old
     → IsFollowed rules (contents s) after new
@@ -466,7 +466,7 @@ pub record StaysSo (rules : Rules) (s : Shown) (after : Entries) (old new : Ques
   pub finds : AreSoundFinds rules s after new
 
 -- What a search leaves beside what it is for the model: what came to be kept is of instances that had been seen. With an exact keeper it spares
--- still, and has all that is worth keeping for an answer.
+-- still, and has all that is worthy, for an answer.
 pub record LeavesSo {E : Type 0} (rules : Rules) (s : Shown) (exact : Bool) (before after : Entries) (old new : Question)
     (r : Result (Option Answer) E) : Type 0 where
   pub stays : OnOk r (StaysSo rules s after old new)

@@ -28,24 +28,24 @@ pub record AreSpare (rules : Rules) (look : Contents ℕ) (entries : Entries) : 
   pub lazy : (i : Instance ℕ) → IsKept entries i → is_lazy rules i.attribute ≡ true
   pub deep : IsDeep rules look entries entries
 
--- the question leads to the instance, which is lazy and has a value
+-- The instance is worthy of the question: that leads to it, and it is lazy and has a value.
 pub record IsWorthy (rules : Rules) (look : Contents ℕ) (q i : Instance ℕ) : Type 0 where
   pub reached : Leads look (meaning rules) q i
   pub lazy : is_lazy rules i.attribute ≡ true
   pub value : Value ℕ
   pub has : HasValue look (meaning rules) i value
 
--- it does, and where a circle answers the question, its search has met the instance before that
+-- It is, and where a circle answers the question, its search has met the instance before that: it is worth keeping.
 pub record IsWorthKeeping (rules : Rules) (look : Contents ℕ) (q i : Instance ℕ) : Type 0 where
   pub worthy : IsWorthy rules look q i
   pub before : (c : Instance ℕ) → Circular look (meaning rules) q c → IsMet look (meaning rules) q i
 
--- `new` has what `old` has, and what is kept beside that is worth keeping
+-- `new` has what `old` has, and what is kept beside that is worthy of the question
 pub record AddsWorthy (rules : Rules) (look : Contents ℕ) (q : Instance ℕ) (old new : Entries) : Type 0 where
   pub stays : KeepsEntries old new
   pub worthy : (i : Instance ℕ) → kept_values old i ≡ None → IsKept new i → IsWorthy rules look q i
 
--- all that is worth keeping is kept
+-- all that is worthy of the question is kept
 abbrev pub HasWorthy : Rules → Contents ℕ → Instance ℕ → Entries → Type 0
 HasWorthy rules look q entries = (i : Instance ℕ) → IsWorthy rules look q i → IsKept entries i
 

@@ -1,5 +1,5 @@
 -- How what can be kept again came to be what it is: by questions, turns and edits.
-use Rattle.std.specs.Prelude.{◌≡◌, ℕ, Bool, true}
+use Rattle.std.specs.Prelude.{◌≡◌, ℕ, true}
 use Rattle.at_model.specs.Run.{Instance, Location}
 use Rattle.at_model.specs.Edits.{Edit}
 use Rattle.at_store.specs.Shown.{Shown}

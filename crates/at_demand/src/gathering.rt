@@ -6,7 +6,7 @@ ghost use Rattle.at_demand.specs.Known.{AreValued, FoundKept};
 ghost use Rattle.at_demand.specs.Covering.{Adds, AddsAt, AreGathered, Visits};
 ghost use Rattle.at_demand.specs.Only.{AddsOnly, AddsOnlyAt, AreFrom, VisitsOnly};
 
-use crate::evaluation::{Demanded, Find};
+use crate::evaluation::Find;
 use crate::locations::Locations;
 use crate::sharing::Sharing;
 use at_body::Inst;

@@ -1,6 +1,5 @@
 //! What is known of values while a question is answered.
 
-ghost use Rattle.std.specs.Prelude.{◌≡◌};
 ghost use Rattle.at_demand.specs.Known.{known_in};
 
 use crate::evaluation::Find;

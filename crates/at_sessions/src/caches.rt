@@ -106,6 +106,12 @@ const PARENT: &[Act] = &[Look(0, &[Class, Class, Parent, Token(2)], &[])];
 
 const INDEX: &[Act] = &[Look(0, &[Class, Class, Index, Token(2)], &[])];
 
+/// The class twice, and each time something else of the node: three locations, of which one edge tells.
+const AGAIN: &[Act] = &[Look(0, &[Class, Token(0), Class, Slot], &[])];
+
+/// The same with the index in between, which stands alone: an edge in front of it, and one behind it.
+const APART: &[Act] = &[Look(0, &[Class, Token(0), Index, Class, Slot], &[])];
+
 const SCRIPTS: &[Script] = &[
     // What uses an entry goes with it.
     Script {
@@ -425,6 +431,8 @@ const COUNTS: &[(&[Act], &[Act], (usize, usize))] = &[
     (SLOT, &[], (1, 3)),
     (PARENT, &[], (1, 3)),
     (INDEX, &[], (1, 3)),
+    (AGAIN, &[], (1, 3)),
+    (APART, &[], (1, 5)),
     (LINKS, &[], (2, 2)),
     (LINKS, &[Look(4, &[], &[3])], (3, 2)),
     (

@@ -1,5 +1,5 @@
 -- What an entry that comes, or comes in place of one that isn't kept, is kept as; and what was kept is kept.
-use Rattle.std.proofs.Common.{◌≡◌, inl, inr, [], ◌<◌, ◌+◌, ℕ, zero, suc, List, Bool, true, false, ◌||◌, Option, Some, None, option_map, nat_eq, if◌then◌else◌, Contains, refl, sym, ap, ◌∙◌, subst, arith, true≢false}
+use Rattle.std.proofs.Common.{◌≡◌, inl, inr, ◌<◌, ◌+◌, ℕ, zero, suc, List, Bool, true, false, ◌||◌, Option, Some, None, nat_eq, if◌then◌else◌, Contains, refl, sym, ap, ◌∙◌, subst, arith, true≢false}
 use Rattle.std.specs.List.{list_any}
 use Rattle.std.specs.Map.{lookup}
 use Rattle.std.proofs.lemmas.Bool.{cases_eq}

@@ -15,7 +15,7 @@ use Rattle.at_cache.specs.declared.standing.Standing.{Standing}
 use Rattle.at_cache.specs.declared.table.Table.{Table}
 use Rattle.at_cache.specs.Info.{Info, Memory, info, memory_of}
 use Rattle.at_cache.specs.Kept.{AreKept, Puts}
-use Rattle.at_cache.specs.Putting.{AreListed, AreTaken, Reads, Uses, fresh_entry, users_at, with_users}
+use Rattle.at_cache.specs.Putting.{AreListed, AreTaken, Reads, Uses, fresh_entry, users_at}
 use Rattle.at_cache.specs.Recorded.{IsIndexed}
 use Rattle.at_cache.specs.Renewing.{IsSlotFor, PutsIn}
 use Rattle.at_cache.specs.Standings.{AreValued, IsTied, held, instances_in, kept_held, remembered, standing_of}

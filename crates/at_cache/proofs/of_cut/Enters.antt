@@ -1,5 +1,5 @@
 -- What a put leaves, over all its steps: edges of the locations, edges of what it used, the entry, and how that stands.
-use Rattle.std.proofs.Common.{◌≡◌, ◌⊎◌, [], arith, inl, inr, ◌<◌, ◌+◌, ℕ, List, Bool, true, false, Option, Some, None, IsSome, is_some, nat_eq, if◌then◌else◌, Contains, refl, sym, ap, ◌∙◌, subst, true≢false, eqb-true}
+use Rattle.std.proofs.Common.{◌≡◌, ◌⊎◌, [], arith, inl, inr, ◌+◌, ℕ, List, Bool, true, false, Option, Some, None, IsSome, is_some, nat_eq, if◌then◌else◌, Contains, refl, sym, ap, ◌∙◌, subst, true≢false, eqb-true}
 use Rattle.std.specs.List.{list_any}
 use Rattle.std.proofs.lemmas.Bool.{cases_eq, eq-eqb, false_from_ne_true}
 use Rattle.std.proofs.lemmas.Option.{none-some, same_Some}

@@ -1,5 +1,5 @@
 -- What an edit leaves of entries that stay in memory.
-use Rattle.std.proofs.Common.{◌≡◌, ◌⊎◌, inl, inr, ℕ, List, [], ◌∷◌, Bool, true, false, true≢false, Option, None, Some, is_some, option_map, Contains, if◌then◌else◌, refl, sym, ap, ◌∙◌, subst}
+use Rattle.std.proofs.Common.{◌≡◌, ◌⊎◌, inl, inr, ℕ, List, [], ◌∷◌, Bool, true, false, Option, None, Some, option_map, Contains, if◌then◌else◌, refl, sym, ap, ◌∙◌, subst}
 use Rattle.std.specs.Map.{lookup}
 use Rattle.std.specs.Option.{option_and_then}
 use Rattle.std.proofs.lemmas.Option.{none-some, same_Some}
@@ -13,14 +13,14 @@ use Rattle.at_cache.specs.declared.edge.Edge.{Edge}
 use Rattle.at_cache.specs.declared.entry.Entry.{Entry}
 use Rattle.at_cache.specs.declared.standing.Standing.{Standing}
 use Rattle.at_cache.specs.declared.table.Table.{Table}
-use Rattle.at_cache.specs.Flushing.{Begins, IsChain, IsDoomed, Reached, Work, by_start, by_user}
+use Rattle.at_cache.specs.Flushing.{Begins, IsChain, Reached, Work, by_start, by_user}
 use Rattle.at_cache.specs.Info.{Info, Memory, info, memory_of}
 use Rattle.at_cache.specs.Kept.{Kept, LeavesUntouched, LosesTouched}
 use Rattle.at_cache.specs.Marking.{TakesAway}
 use Rattle.at_cache.specs.Recorded.{IsIndexed, covers, edge_to, is_listed}
-use Rattle.at_cache.specs.Standings.{AreValued, IsTied, but_for, held, held_of, is_shown, kept_held, last_of, remembered, seen, shape, shown, standing_of, trace_at, trace_of}
+use Rattle.at_cache.specs.Standings.{AreValued, IsTied, held, held_of, is_shown, kept_held, last_of, remembered, seen, shape, shown, standing_of, trace_at, trace_of}
 use Rattle.at_cache.specs.Traced.{FlushesTraces, SparesAtEdit, Trace}
-use Rattle.at_cache.proofs.Ending.{has, has_edge, indexed_after, is_in, leaves, loses}
+use Rattle.at_cache.proofs.Ending.{has_edge, indexed_after, is_in, leaves, loses}
 use Rattle.at_cache.proofs.Index as index
 use Rattle.at_cache.proofs.Index.{kept_at}
 use Rattle.at_cache.proofs.of_cut.Passing.{not_seen, seen_is}

@@ -1,5 +1,5 @@
 -- What stays where an entry that was to come doesn't.
-use Rattle.std.proofs.Common.{◌≡◌, inl, [], ℕ, ◌+◌, List, Bool, true, false, Option, None, Some, Result, Ok, Err, IfOk, OnErr, is_some, option_map, if◌then◌else◌, refl, sym, ap, ◌∙◌, subst}
+use Rattle.std.proofs.Common.{◌≡◌, inl, ℕ, ◌+◌, List, true, Option, None, Some, Result, Ok, Err, IfOk, OnErr, is_some, option_map, if◌then◌else◌, refl, sym, ap, ◌∙◌, subst}
 use Rattle.std.specs.Map.{lookup}
 use Rattle.std.specs.Option.{option_and_then}
 use Rattle.std.proofs.lemmas.Option.{none-some, same_Some}
@@ -21,7 +21,7 @@ use Rattle.at_cache.specs.Recorded.{IsIndexed, covers}
 use Rattle.at_cache.specs.Renewing.{EntersHeld}
 use Rattle.at_cache.specs.Shedding.{kept_cut}
 use Rattle.at_cache.specs.Standings.{AreValued, IsTied, held, kept_held, remembered, shown, standing_of}
-use Rattle.at_cache.specs.Traced.{KeepsTrace, PutsTrace, SparesOthers, Trace}
+use Rattle.at_cache.specs.Traced.{KeepsTrace, PutsTrace, SparesOthers}
 use Rattle.at_cache.proofs.of_cut.Lifting.{kept_still, stale_held}
 use Rattle.at_cache.proofs.Listing.{reads_none, uses_none}
 use Rattle.at_cache.proofs.of_cut.Retraced.{stale_traces, trace_is, traced_in}

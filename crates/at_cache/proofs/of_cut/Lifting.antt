@@ -1,7 +1,7 @@
 -- Edges of an entry that is to come, seen from what is kept.
-use Rattle.std.proofs.Common.{◌≡◌, ◌⊎◌, inl, inr, ℕ, ◌+◌, ◌<◌, List, [], Bool, true, false, Option, None, Some, IsSome, option_map, Contains, if◌then◌else◌, refl, sym, ap, ◌∙◌, subst, arith}
+use Rattle.std.proofs.Common.{◌≡◌, inl, inr, ℕ, ◌+◌, List, [], true, Option, None, Some, IsSome, Contains, refl, sym, ap, ◌∙◌, subst, arith}
 use Rattle.std.specs.Option.{option_and_then}
-use Rattle.std.proofs.lemmas.Option.{none-some, same_Some}
+use Rattle.std.proofs.lemmas.Option.{none-some}
 use Rattle.at_model.specs.Run.{Location}
 use Rattle.at_cache.specs.declared.cut.Pass.TheVariants as pass
 use Rattle.at_cache.specs.declared.edge.Edge.{Edge}
@@ -11,7 +11,7 @@ use Rattle.at_cache.specs.Info.{Info, Memory, memory_of}
 use Rattle.at_cache.specs.Kept.{KeepsAll}
 use Rattle.at_cache.specs.Putting.{Reads, Uses, users_at, with_users}
 use Rattle.at_cache.specs.Recorded.{IsIndexed}
-use Rattle.at_cache.specs.Standings.{held, is_shown, kept_held, seen, shape, shown, standing_of}
+use Rattle.at_cache.specs.Standings.{held, is_shown, kept_held, shape, shown, standing_of}
 use Rattle.at_cache.proofs.Entered.{kept_mid, stale_indexed}
 use Rattle.at_cache.proofs.of_cut.Flushed.{shown_held, shown_is}
 use Rattle.at_cache.proofs.of_cut.Passing.{not_seen, not_shown, seen_is}

@@ -2,7 +2,7 @@
 use Rattle.std.proofs.Common.{◌≡◌, ◌⊎◌, inl, inr, ℕ, List, [], ◌∷◌, length, Bool, true, false, true≢false, Option, None, Some, IsSome, is_some, option_map, nat_eq, Contains, if◌then◌else◌, refl, sym, ap, ◌∙◌, subst}
 use Rattle.std.specs.Map.{lookup}
 use Rattle.std.specs.Option.{option_and_then}
-use Rattle.std.proofs.lemmas.Bool.{cases_eq, eq-eqb, ne_eqb}
+use Rattle.std.proofs.lemmas.Bool.{eq-eqb, ne_eqb}
 use Rattle.std.proofs.lemmas.Option.{none-some, same_Some}
 use Rattle.at_model.specs.Run.{Instance, Value}
 use Rattle.at_cache.specs.declared.cut.Pass.{Pass}
@@ -21,7 +21,7 @@ use Rattle.at_cache.specs.Slots.{renewed}
 use Rattle.at_cache.specs.Standings.{IsTaken, but_for, is_shown, seen, shape, shown, standing_of}
 use Rattle.at_cache.proofs.of_cut.Flushed.{shown_is}
 use Rattle.at_cache.proofs.of_cut.Passing.{entries_after, not_seen, seen_idle, seen_is}
-use Rattle.at_cache.proofs.of_cut.Seeing.{gone_shown, once}
+use Rattle.at_cache.proofs.of_cut.Seeing.{gone_shown}
 use Rattle.at_cache.proofs.Shown.{slot_there}
 use Rattle.at_cache.proofs.Taking.{begun, more, none_in}
 

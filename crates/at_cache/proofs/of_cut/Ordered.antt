@@ -1,5 +1,5 @@
 -- The slots of instances, in order.
-use Rattle.std.proofs.Common.{◌≡◌, [], ◌∷◌, ◌++◌, ◌<◌, ◌+◌, ℕ, List, length, get_or, take, Option, Some, None, IsSome, is_some, Contains, sym, ap, ◌∙◌, subst, true≢false}
+use Rattle.std.proofs.Common.{◌≡◌, [], ◌∷◌, ◌++◌, ◌<◌, ◌+◌, ℕ, List, length, get_or, take, Some, None, is_some, Contains, sym, ap, ◌∙◌, subst, true≢false}
 use Rattle.std.specs.Map.{lookup}
 use Rattle.std.proofs.lemmas.List.{take_more}
 use Rattle.std.proofs.lemmas.List.Elements.{Contains-append_left, Contains-append_right}

@@ -1,5 +1,5 @@
 -- A pass goes on: what it hides, what is marked, and what stays.
-use Rattle.std.proofs.Common.{length, ◌≡◌, ◌⊎◌, inl, inr, ℕ, List, [], ◌∷◌, Bool, true, false, true≢false, Option, None, Some, IsSome, is_some, option_map, nat_eq, Contains, if◌then◌else◌, refl, sym, ap, ◌∙◌, subst}
+use Rattle.std.proofs.Common.{length, ◌≡◌, inl, inr, ℕ, List, [], ◌∷◌, Bool, true, false, true≢false, Option, None, Some, IsSome, option_map, nat_eq, Contains, if◌then◌else◌, refl, sym, ap, ◌∙◌, subst}
 use Rattle.std.specs.Option.{option_and_then}
 use Rattle.std.proofs.lemmas.Bool.{cases_eq, eq-eqb, ne_eqb}
 use Rattle.std.proofs.lemmas.Option.{none-some, same_Some}
@@ -11,7 +11,7 @@ use Rattle.at_cache.specs.declared.edge.Edge.{Edge}
 use Rattle.at_cache.specs.declared.mark.Mark.{Mark}
 use Rattle.at_cache.specs.declared.standing.Standing.{Standing}
 use Rattle.at_cache.specs.Flushing.{Begins, IsChain, IsIdle, Work}
-use Rattle.at_cache.specs.Info.{Info, Memory, is_going, memory_of, next_of}
+use Rattle.at_cache.specs.Info.{Info, Memory, memory_of}
 use Rattle.at_cache.specs.Marking.{Aside, HasMark, IsPast, IsQuiet, Passes, TakesAway, aside_cut, beside, seen_by, unmarked}
 use Rattle.at_cache.specs.Putting.{reused, users_at, with_users}
 use Rattle.at_cache.specs.Standings.{IsTaken, but_for, is_shown, seen, shape, shown, standing_of}

@@ -1,5 +1,5 @@
 -- An entry comes, or comes in place of one: all is found as before, and so is it.
-use Rattle.std.proofs.Common.{◌≡◌, inl, inr, [], ◌<◌, ◌+◌, ℕ, zero, suc, List, Bool, true, false, Option, Some, None, nat_eq, Contains, refl, sym, ap, ◌∙◌, subst, arith, true≢false, eqb-true}
+use Rattle.std.proofs.Common.{◌≡◌, inl, inr, [], ◌<◌, ◌+◌, ℕ, List, Bool, true, false, Option, Some, None, nat_eq, Contains, refl, sym, ap, ◌∙◌, subst, arith, eqb-true}
 use Rattle.std.specs.List.{list_any}
 use Rattle.std.proofs.lemmas.Bool.{cases_eq}
 use Rattle.std.proofs.lemmas.Option.{none-some, same_Some}

@@ -1,5 +1,5 @@
 -- What is traced where an entry comes, or comes in place of one.
-use Rattle.std.proofs.Common.{◌≡◌, inl, inr, [], ◌++◌, ◌∷◌, ◌||◌, ℕ, List, Bool, true, false, Option, Some, None, option_map, nat_eq, if◌then◌else◌, Contains, refl, sym, ap, ◌∙◌, subst, arith, true≢false}
+use Rattle.std.proofs.Common.{◌≡◌, inl, inr, [], ◌++◌, ◌∷◌, ◌||◌, ℕ, List, Bool, true, false, Option, Some, None, option_map, nat_eq, if◌then◌else◌, Contains, refl, sym, ap, ◌∙◌, subst, arith}
 use Rattle.std.specs.List.{list_any}
 use Rattle.std.specs.Map.{lookup}
 use Rattle.std.specs.Option.{option_and_then}
@@ -16,7 +16,6 @@ use Rattle.at_cache.specs.declared.keeper.Order.TheVariants as order
 use Rattle.at_cache.specs.declared.standing.Standing.{Standing}
 use Rattle.at_cache.specs.declared.table.Table.{Table}
 use Rattle.at_cache.specs.Info.{Info, Memory, memory_of}
-use Rattle.at_cache.specs.Kept.{same_location}
 use Rattle.at_cache.specs.Putting.{AreListed, Reads, with_users}
 use Rattle.at_cache.specs.Recorded.{IsIndexed, edge_to, is_listed}
 use Rattle.at_cache.specs.Standings.{IsTied, held, instances_in, last_of, remembered, standing_of, trace_at, trace_of}

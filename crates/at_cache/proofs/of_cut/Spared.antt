@@ -1,5 +1,5 @@
 -- What can be kept again stays so.
-use Rattle.std.proofs.Common.{◌≡◌, ◌⊎◌, inl, inr, ℕ, List, Bool, true, false, Option, None, Some, IsSome, is_some, if◌then◌else◌, option_map, Contains, refl, sym, ap, ◌∙◌, subst, true≢false}
+use Rattle.std.proofs.Common.{◌≡◌, ◌⊎◌, inl, inr, ℕ, List, Bool, true, false, Option, None, Some, IsSome, is_some, if◌then◌else◌, option_map, refl, sym, ap, ◌∙◌, subst, true≢false}
 use Rattle.std.specs.Map.{lookup}
 use Rattle.std.specs.Option.{option_and_then}
 use Rattle.std.proofs.lemmas.Option.{none-some, same_Some}
@@ -14,10 +14,10 @@ use Rattle.at_cache.specs.declared.keeper.Put.{Put}
 use Rattle.at_cache.specs.declared.keeper.Put.TheVariants as put
 use Rattle.at_cache.specs.declared.standing.Standing.{Standing}
 use Rattle.at_cache.specs.declared.table.Table.{Table}
-use Rattle.at_cache.specs.Info.{Info, Memory, memory_of}
+use Rattle.at_cache.specs.Info.{Info, memory_of}
 use Rattle.at_cache.specs.Kept.{Entries, HasPut}
 use Rattle.at_cache.specs.Standings.{last_of, remembered, standing_of, trace_at, trace_of}
-use Rattle.at_cache.specs.Traced.{AreAlike, IsOutdated, IsSpared, IsStill, IsTraceOf, KeepsTrace, Memories, PutsTrace, SparesOthers, Trace, TracesKept}
+use Rattle.at_cache.specs.Traced.{AreAlike, IsSpared, IsStill, IsTraceOf, KeepsTrace, Memories, PutsTrace, SparesOthers, Trace, TracesKept}
 use Rattle.at_cache.proofs.of_cut.HeldSlots.{entry_in, slot_of}
 use Rattle.at_cache.proofs.of_cut.Retraced.{last_slot, trace_is, traced_of, traced_slot}
 

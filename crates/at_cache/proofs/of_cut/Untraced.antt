@@ -1,5 +1,5 @@
 -- A keeper that traces nothing.
-use Rattle.std.proofs.Common.{◌≡◌, ◌⊎◌, ◌<◌, ◌-◌, ◌+◌, ◌^◌, inl, inr, ℕ, zero, List, Bool, true, false, Option, None, Some, IsSome, Result, Ok, Err, IfOk, OnErr, OnOk, is_some, if◌then◌else◌, min, arith, refl, sym, ap, ◌∙◌, subst, true≢false}
+use Rattle.std.proofs.Common.{◌≡◌, ◌⊎◌, ◌<◌, ◌-◌, ◌+◌, ◌^◌, inl, inr, ℕ, zero, List, Bool, true, false, Option, Some, IsSome, Result, Ok, Err, IfOk, OnErr, is_some, if◌then◌else◌, min, arith, refl, ap, ◌∙◌}
 use Rattle.std.proofs.lemmas.Option.{none-some}
 use Rattle.at_model.specs.Run.{Instance, Location, Value}
 use Rattle.at_body.specs.Same.{same_instance}

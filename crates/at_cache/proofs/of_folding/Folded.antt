@@ -1,10 +1,10 @@
 -- An entry that stays stands for what it stood for, where others are folded into it.
-use Rattle.std.proofs.Common.{◌≡◌, ◌⊎◌, inl, inr, ℕ, zero, suc, ◌<◌, ◌≤◌, ◌+◌, List, ◌||◌, Bool, true, false, true≢false, Option, None, Some, Contains, option_map, refl, sym, ap, ◌∙◌, subst, arith}
+use Rattle.std.proofs.Common.{◌≡◌, inl, inr, ℕ, zero, suc, ◌<◌, ◌≤◌, ◌+◌, List, Bool, true, false, true≢false, Option, None, Some, Contains, option_map, refl, sym, ap, ◌∙◌, subst, arith}
 use Rattle.std.specs.List.{list_any}
 use Rattle.std.proofs.lemmas.Option.{none-some, same_Some}
 use Rattle.at_model.specs.Run.{Location}
 use Rattle.at_cache.specs.declared.edge.Edge.{Edge}
-use Rattle.at_cache.specs.Folding.{Folded, Folds, IsLeft, Rewritten, Stays, Tells}
+use Rattle.at_cache.specs.Folding.{Folded, Folds, IsLeft, Rewritten, Tells}
 use Rattle.at_cache.specs.Info.{Info, Memory}
 use Rattle.at_cache.specs.Recorded.{covers, edge_to, is_listed}
 use Rattle.at_cache.proofs.Ending.{any_of, either, far_enough, has, is_in, on_left, on_right, opened, some_of}

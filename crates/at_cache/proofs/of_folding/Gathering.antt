@@ -11,7 +11,6 @@ use Rattle.at_cache.specs.Info.{Info, Memory}
 use Rattle.at_cache.specs.Putting.{is_current}
 use Rattle.at_cache.proofs.Dooming.{head_of}
 use Rattle.at_cache.proofs.Ending.{any_of, some_of}
-use Rattle.at_cache.proofs.Listing.{current}
 use Rattle.at_cache.proofs.Taking.{none_in}
 
 -- a number is one of these, by a test and back

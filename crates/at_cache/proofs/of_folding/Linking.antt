@@ -1,13 +1,11 @@
 -- The links of entries into which others are folded, and the memory that has them.
-use Rattle.std.proofs.Common.{◌≡◌, ◌⊎◌, inl, inr, ℕ, zero, suc, ◌<◌, ◌≤◌, ◌+◌, List, [], ◌∷◌, ◌++◌, Bool, true, false, nat_eq, length, Option, None, Some, option_map, if◌then◌else◌, cond, Contains, slice_get, slice_set, refl, sym, ap, ◌∙◌, subst, arith, eqb-true}
-use Rattle.std.proofs.lemmas.Bool.{cases_eq, cases_lt, eq-eqb}
+use Rattle.std.proofs.Common.{◌≡◌, ◌⊎◌, inl, inr, ℕ, zero, suc, ◌<◌, ◌+◌, List, [], ◌∷◌, ◌++◌, length, Option, None, Some, Contains, slice_get, slice_set, refl, sym, ap, ◌∙◌, subst, arith}
+use Rattle.std.proofs.lemmas.Bool.{cases_eq}
 use Rattle.std.proofs.lemmas.Option.{none-some, same_Some}
-use Rattle.std.proofs.lemmas.List.Elements.{Contains-append_cases, Contains-append_left, Contains-append_right, Contains-push, Contains-push_cases}
+use Rattle.std.proofs.lemmas.List.Elements.{Contains-append_cases, Contains-append_left, Contains-append_right, Contains-push_cases}
 use Rattle.smallvec.specs.SmallVec.{SmallVec}
-use Rattle.at_cache.specs.declared.edge.Edge.{Edge}
-use Rattle.at_cache.specs.Folding.{AreLinks, HasLinked, HasUsed, IsLeft, IsRelinked, Linked, LinkedTo, Refolded, Relinks, RelinksAt, Remains, RemovesAt, Stays, listed_at, relinked, slots_at}
+use Rattle.at_cache.specs.Folding.{HasLinked, Linked, LinkedTo, Stays, listed_at, slots_at}
 use Rattle.at_cache.specs.Info.{Info, Memory}
-use Rattle.at_cache.specs.Putting.{is_current, reused, users_at}
 use Rattle.at_cache.proofs.Dooming.{head_of}
 use Rattle.at_cache.proofs.Gained.{get_other, get_same}
 use Rattle.at_cache.proofs.Moving.{within}

@@ -1,13 +1,12 @@
 -- What comes of a folding: the entries that stay stand for what they stood for.
-use Rattle.std.proofs.Common.{◌≡◌, ◌⊎◌, inl, inr, ℕ, zero, suc, ◌<◌, ◌≤◌, ◌+◌, List, Bool, true, false, Option, None, Some, option_map, Contains, refl, sym, ap, ◌∙◌, subst, arith}
+use Rattle.std.proofs.Common.{◌≡◌, inl, inr, ℕ, zero, suc, ◌≤◌, ◌+◌, List, Option, None, Some, Contains, refl, sym, ap, ◌∙◌, subst, arith}
 use Rattle.std.proofs.lemmas.Bool.{cases_eq}
 use Rattle.std.proofs.lemmas.Option.{none-some, same_Some}
-use Rattle.at_model.specs.Run.{Instance, Location}
+use Rattle.at_model.specs.Run.{Location}
 use Rattle.at_cache.specs.declared.edge.Edge.{Edge}
 use Rattle.at_cache.specs.declared.table.Table.{Table}
-use Rattle.at_cache.specs.Folding.{AreLinks, Folded, Folds, HasUsed, IsLeft, IsRelinked, LeavesKept, Linked, Refolded, Relinks, Remains, Rewritten, Stays}
+use Rattle.at_cache.specs.Folding.{AreLinks, Folded, Folds, IsLeft, IsRelinked, LeavesKept, Linked, Refolded, Relinks, Remains, Rewritten, Stays}
 use Rattle.at_cache.specs.Info.{Info, Memory, memory_of}
-use Rattle.at_cache.specs.Kept.{Kept}
 use Rattle.at_cache.specs.Putting.{is_current}
 use Rattle.at_cache.specs.Recorded.{edge_to, kept_in}
 use Rattle.at_cache.proofs.Index.{Index, Standing, kept_at}

@@ -1,5 +1,5 @@
 -- The lists of all locations are rewritten where those of all facets are.
-use Rattle.std.proofs.Common.{◌≡◌, inl, inr, ℕ, zero, suc, List, [], ◌∷◌, ◌++◌, Bool, true, false, cond, Option, None, Some, Contains, slice_get, refl, sym, ap, ◌∙◌, subst}
+use Rattle.std.proofs.Common.{◌≡◌, inl, inr, ℕ, zero, suc, List, [], ◌∷◌, ◌++◌, Bool, true, false, cond, Option, None, Some, slice_get, refl, sym, ap, ◌∙◌, subst}
 use Rattle.std.proofs.lemmas.Option.{none-some, same_Some}
 use Rattle.std.proofs.lemmas.List.Elements.{Contains-append_cases, Contains-append_left, Contains-append_right}
 use Rattle.smallvec.specs.SmallVec.{SmallVec}
@@ -8,7 +8,7 @@ use Rattle.at_cache.specs.declared.edge.Edge.{Edge}
 use Rattle.at_cache.specs.declared.facet.Readers.{Readers}
 use Rattle.at_cache.specs.Asking.{AreNoted}
 use Rattle.at_cache.specs.Edges.{edges_in}
-use Rattle.at_cache.specs.Folding.{AreRefolded, HasUser, IsNodeRefolded, IsRefolded, Refolded}
+use Rattle.at_cache.specs.Folding.{AreRefolded, IsNodeRefolded, IsRefolded, Refolded}
 use Rattle.at_cache.specs.Kept.{node_at}
 use Rattle.at_cache.specs.Readers.{edges_among, edges_at, stands_for}
 use Rattle.at_cache.proofs.Ending.{has, is_in}

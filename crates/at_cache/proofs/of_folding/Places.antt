@@ -1,7 +1,6 @@
 -- What stands at places is rewritten, one place behind the other.
-use Rattle.std.proofs.Common.{◌≡◌, ◌⊎◌, inl, inr, ℕ, zero, suc, ◌<◌, ◌≤◌, ◌+◌, List, [], ◌∷◌, length, Option, None, Some, Result, OnOk, get_or, slice_get, slice_set, length-set, refl, sym, ap, ◌∙◌, subst, arith, Bool}
-use Rattle.std.proofs.lemmas.Bool.{cases_eq, cases_lt}
-use Rattle.std.proofs.lemmas.Option.{none-some, same_Some}
+use Rattle.std.proofs.Common.{◌≡◌, inl, inr, ℕ, zero, suc, ◌<◌, ◌≤◌, ◌+◌, List, [], ◌∷◌, length, Option, None, Some, Result, OnOk, get_or, slice_get, slice_set, refl, sym, ap, ◌∙◌, subst, arith, Bool}
+use Rattle.std.proofs.lemmas.Bool.{cases_lt}
 use Rattle.std.proofs.lemmas.Result.{on_ok_weaker}
 use Rattle.smallvec.specs.SmallVec.{SmallVec}
 use Rattle.at_cache.specs.declared.edge.Edge.{Edge}
@@ -9,7 +8,7 @@ use Rattle.at_cache.specs.declared.edge.Edges.{Edges}
 use Rattle.at_cache.specs.declared.facet.Readers.{Readers}
 use Rattle.at_cache.specs.Edges.{edges_in}
 use Rattle.at_cache.specs.Folding.{AreRefolded, IsNodeRefolded, IsRefolded, Refolded}
-use Rattle.at_cache.proofs.Gained.{get_other, get_same}
+use Rattle.at_cache.proofs.Gained.{get_same}
 use Rattle.at_cache.proofs.Moving.{got}
 
 -- What stands at the first places is so; the others are as they were.

@@ -1,15 +1,15 @@
 -- The memory in which entries are linked anew, and those are gone that don't stay.
-use Rattle.std.proofs.Common.{◌≡◌, ◌⊎◌, inl, inr, ℕ, zero, suc, ◌<◌, ◌≤◌, ◌+◌, List, [], ◌∷◌, Bool, true, false, nat_eq, length, Option, None, Some, true≢false, is_some, IsSome, IfNone, OnSome, option_map, if◌then◌else◌, cond, Contains, get_or, slice_get, slice_index_or, refl, sym, ap, ◌∙◌, subst, arith, eqb-true}
+use Rattle.std.proofs.Common.{◌≡◌, inl, inr, ℕ, zero, suc, ◌<◌, ◌≤◌, ◌+◌, List, [], ◌∷◌, Bool, true, false, nat_eq, length, Option, None, Some, true≢false, is_some, IfNone, OnSome, option_map, if◌then◌else◌, Contains, get_or, slice_get, slice_index_or, refl, sym, ap, ◌∙◌, subst, arith, eqb-true}
 use Rattle.std.proofs.lemmas.Bool.{cases_eq, cases_lt, eq-eqb}
 use Rattle.std.proofs.lemmas.Option.{none-some, same_Some}
-use Rattle.slab.specs.Slab.{Slab, get}
+use Rattle.slab.specs.Slab.{get}
 use Rattle.at_cache.specs.declared.edge.Edge.{Edge}
 use Rattle.at_cache.specs.declared.table.Table.{Table}
-use Rattle.at_cache.specs.Folding.{AreAlone, AreOrdered, AreTaken, IsRelinked, Linked, Refolded, Relinks, RelinksAt, Remains, RemovesAt, Stays, relinked}
+use Rattle.at_cache.specs.Folding.{AreAlone, AreOrdered, AreTaken, IsRelinked, Linked, Refolded, Relinks, RelinksAt, RemovesAt, Stays, relinked}
 use Rattle.at_cache.specs.Info.{Info, Memory, info, memory_of}
 use Rattle.at_cache.specs.Placed.{at}
 use Rattle.at_cache.specs.Putting.{is_current, reused, users_at, with_users}
-use Rattle.at_cache.proofs.Moving.{at_none, got, within}
+use Rattle.at_cache.proofs.Moving.{at_none, got}
 use Rattle.at_cache.proofs.Taking.{none_in}
 use Rattle.at_cache.proofs.of_folding.Gathering.{refolded_alone}
 

@@ -1,5 +1,5 @@
 -- What comes in the place of one edge.
-use Rattle.std.proofs.Common.{◌≡◌, ℕ, List, [], ◌∷◌, Bool, true, false, true≢false, Option, None, Some, IfSome, Contains, refl, sym, ap, ◌∙◌, subst}
+use Rattle.std.proofs.Common.{◌≡◌, ℕ, List, [], ◌∷◌, true, false, true≢false, Option, None, Some, IfSome, Contains, refl, sym, ap, ◌∙◌, subst}
 use Rattle.at_cache.specs.declared.edge.Edge.{Edge}
 use Rattle.at_cache.specs.declared.edge.Edges.{Edges}
 use Rattle.at_cache.specs.Edges.{edges_in}

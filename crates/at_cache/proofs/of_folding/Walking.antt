@@ -1,28 +1,22 @@
 -- What holds of each of some numbers, and what is found among rows.
-use Rattle.std.proofs.Common.{◌≡◌, ◌⊎◌, inl, inr, ℕ, ◌<◌, ◌≤◌, ◌+◌, List, [], ◌∷◌, ◌++◌, Bool, true, false, Option, None, Some, option_map, Contains, get_or, take, drop, length, refl, sym, ap, ◌∙◌, subst, append_assoc, append-nil, arith}
-use Rattle.std.specs.List.{flat_map}
-use Rattle.std.proofs.lemmas.Bool.{cases_lt}
+use Rattle.std.proofs.Common.{◌≡◌, ◌⊎◌, inl, inr, ℕ, ◌<◌, ◌+◌, List, [], ◌∷◌, ◌++◌, Bool, Some, Contains, get_or, take, length, refl, sym, ap, ◌∙◌, subst, append_assoc, append-nil, arith}
 use Rattle.std.proofs.lemmas.List.{take_more}
 use Rattle.std.proofs.lemmas.List.Elements.{Contains-push_cases}
 use Rattle.std.proofs.lemmas.Option.{same_Some}
-use Rattle.slab.proofs.SlabLemmas.{Contains-cons}
-use Rattle.smallvec.specs.SmallVec.{SmallVec}
 use Rattle.at_model.specs.Run.{Instance, Location}
 use Rattle.at_cache.specs.declared.edge.Edge.{Edge}
 use Rattle.at_cache.specs.declared.entry.Entry.{Entry}
 use Rattle.at_cache.specs.declared.row.Row.{Row}
 use Rattle.at_cache.specs.Edges.{edges_in}
-use Rattle.at_cache.specs.Folding.{AreAlone, Folds, FoldsAt, Gathered, HasUser, IsBelow, Linked, LinkedTo, Stays, slots_at}
+use Rattle.at_cache.specs.Folding.{AreAlone, Folds, FoldsAt, Gathered, HasUser, IsBelow, Linked, LinkedTo}
 use Rattle.at_cache.specs.Info.{Info, Memory, info}
 use Rattle.at_cache.specs.Putting.{is_current}
 use Rattle.at_cache.specs.Rows.{edges_along, edges_of}
-use Rattle.at_cache.proofs.Dooming.{head_of}
 use Rattle.at_cache.proofs.Index.{Index}
 use Rattle.at_cache.proofs.Moving.{got}
 use Rattle.at_cache.proofs.RowLists.{along_end, along_has}
-use Rattle.at_cache.proofs.Taking.{none_in}
 use Rattle.at_cache.proofs.of_folding.Gathering.{alone_then, gathered_none, gathered_then, told, user_of}
-use Rattle.at_cache.proofs.of_folding.Linking.{linked_then, planned, to_then}
+use Rattle.at_cache.proofs.of_folding.Linking.{linked_then, to_then}
 
 -- each of the first ones, and one more
 pub all_more : (P : ℕ → Type 0) (xs : List ℕ) (i d : ℕ) → i < length xs → ((r : ℕ) → Contains (take i xs) r → P r) → P (get_or xs i d) → (r : ℕ) → Contains (take (i + 1) xs) r → P r

@@ -1,12 +1,12 @@
 -- One edge over a part of a run, in the lists of locations.
-use Rattle.std.proofs.Common.{◌≡◌, ◌⊎◌, inl, inr, ℕ, List, [], ◌&&◌, Bool, true, false, true≢false, cond, Option, None, Some, Contains, slice_get, if◌then◌else◌, refl, sym, ap, ◌∙◌, subst}
+use Rattle.std.proofs.Common.{◌≡◌, ◌⊎◌, inl, inr, ℕ, List, [], ◌&&◌, Bool, true, false, true≢false, cond, Option, None, Some, Contains, slice_get, refl, sym, ap, ◌∙◌, subst}
 use Rattle.at_model.specs.Run.{Location}
 use Rattle.at_cache.specs.declared.edge.Edge.{Edge}
 use Rattle.at_cache.specs.declared.run.Run.{Run}
 use Rattle.at_cache.specs.declared.run.Seat.{Seat}
 use Rattle.at_cache.specs.Info.{Memory}
 use Rattle.at_cache.specs.Kept.{node_at}
-use Rattle.at_cache.specs.Runs.{Adds, AddsReads, Follows, Holds, ListsBut, edges_on, edges_over, is_live, is_reached, is_seen, is_within}
+use Rattle.at_cache.specs.Runs.{Adds, AddsReads, Follows, Holds, ListsBut, edges_on, edges_over, is_reached, is_seen, is_within}
 use Rattle.at_cache.proofs.Ending.{and, both}
 use Rattle.at_cache.proofs.of_runs.Over.{over_at, over_none}
 use Rattle.at_cache.proofs.Taking.{none_in}

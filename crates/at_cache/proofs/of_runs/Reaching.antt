@@ -1,8 +1,6 @@
 -- Edges of a run, some of which go, and one of which comes.
-use Rattle.std.proofs.Common.{◌≡◌, ◌⊎◌, inl, inr, ℕ, zero, suc, ◌<◌, List, [], ◌∷◌, ◌++◌, ◌&&◌, Bool, true, false, true≢false, cond, Option, None, Some, Result, Ok, Err, OnOk, Contains, length, get_or, slice_get, slice_set, swap_remove, IsPermutation, nat_eq, if◌then◌else◌, refl, sym, ap, ◌∙◌, subst, eqb-true}
-use Rattle.std.specs.List.{flat_map}
+use Rattle.std.proofs.Common.{◌≡◌, ◌⊎◌, inl, inr, ℕ, ◌<◌, List, [], ◌∷◌, ◌++◌, Bool, true, false, cond, Option, None, Some, Contains, length, get_or, slice_get, slice_set, swap_remove, IsPermutation, nat_eq, if◌then◌else◌, refl, sym, ap, ◌∙◌, subst, eqb-true}
 use Rattle.std.proofs.lemmas.Bool.{cases_eq, eq-eqb}
-use Rattle.std.proofs.lemmas.Option.{none-some, same_Some, get_or_from_slice_get}
 use Rattle.std.proofs.lemmas.List.Elements.{Contains-append_left, Contains-push, Contains-push_cases}
 use Rattle.std.proofs.lemmas.List.Sorted.{Contains-permutation, IsPermutation-swap_remove, IsPermutation-sym}
 use Rattle.slab.proofs.SlabLemmas.{Contains-cons, Contains-cons_cases}

@@ -1,5 +1,5 @@
 -- Locations of which some at the front have one edge more, and others are left.
-use Rattle.std.proofs.Common.{arith, drop, map, take, take-append-drop, ◌≡◌, ◌⊎◌, inl, inr, ℕ, List, [], ◌∷◌, ◌++◌, Bool, Some, true, false, Contains, Result, Ok, Err, OnOk, slice_get, length, nat_eq, ◌||◌, refl, sym, ap, ◌∙◌, subst}
+use Rattle.std.proofs.Common.{arith, drop, map, take, take-append-drop, ◌≡◌, ◌⊎◌, inl, inr, ℕ, List, [], ◌∷◌, ◌++◌, Bool, Some, true, false, Contains, Result, Ok, Err, OnOk, length, nat_eq, refl, sym, ap, ◌∙◌, subst}
 use Rattle.std.proofs.lemmas.Bool.{eq-eqb}
 use Rattle.std.proofs.lemmas.List.{map-append}
 use Rattle.std.proofs.lemmas.List.Elements.{Contains-append_cases, Contains-append_left, Contains-append_right}

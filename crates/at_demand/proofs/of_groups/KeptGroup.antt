@@ -2,7 +2,6 @@
 use Rattle.std.proofs.Common.{◌≡◌, ◌⊎◌, ◌<◌, ◌^◌, ◌+◌, ℕ, zero, suc, arith, get_or, nat_lt, take, Bool, true, false, true≢false, List, [], ◌∷◌, ◌++◌, length, slice_get, Option, Some, None, Result, Ok, Err, OnOk, inl, inr, refl, sym, ap, ◌∙◌, subst}
 use Rattle.std.proofs.lemmas.Bool.{ltb-false}
 use Rattle.std.proofs.lemmas.List.{take_more}
-use Rattle.std.proofs.lemmas.Option.{same_Some}
 use Rattle.std.specs.Prelude.{IsErrAnd, IsSome, IsTrue}
 use Rattle.at_model.specs.Run.{Instance, Contents}
 use Rattle.at_model.specs.Meaning.{Among}
@@ -19,7 +18,7 @@ use Rattle.at_search.specs.declared.solving.Solved.{Solved}
 use Rattle.at_demand.specs.declared.evaluation.Find.{Find}
 use Rattle.at_demand.specs.declared.question.Question.{Question}
 use Rattle.at_demand.specs.Covering.{AreWhole, AreWholeIn, Extends, IsFirst, IsWhole, by_first, in_group}
-use Rattle.at_demand.specs.Groups.{CanBeFirst, CanBeOther, CanKeepGroup, HasKeptFirst, HasKeptGroup, HasKeptOther, IsFindOf, IsFirstAt, IsMember, IsOtherFind, KeepsGroups, KeepsOther, Tells, UsesFirst}
+use Rattle.at_demand.specs.Groups.{CanBeFirst, CanBeOther, CanKeepGroup, HasKeptFirst, HasKeptGroup, HasKeptOther, IsFindOf, IsFirstAt, IsMember, KeepsGroups, KeepsOther, Tells, UsesFirst}
 use Rattle.at_demand.specs.Known.{IsFound, IsKept, KeepsEntries, kept_values, meaning}
 use Rattle.at_demand.specs.Levels.{known_to}
 use Rattle.at_demand.specs.Only.{AreLean, IsLean, TakesOnly}
@@ -31,7 +30,7 @@ use Rattle.at_demand.proofs.Keys.{goes_last, no_key}
 use Rattle.at_demand.proofs.Leading.{led_now}
 use Rattle.at_demand.proofs.OnlyLemmas.{get_among}
 use Rattle.at_demand.proofs.Passing.{whole_in_more}
-use Rattle.at_demand.proofs.of_groups.KeptOrFound.{can_follow, known_after, none_there}
+use Rattle.at_demand.proofs.of_groups.KeptOrFound.{can_follow, none_there}
 use Rattle.at_demand.proofs.of_groups.Members.{lean_first, listed_member, member_circular, member_listed, member_whole, members, members_lead, valued_first, whole_in}
 use Rattle.at_demand.proofs.of_groups.Telling.{circular_lazy, known_cases, tells_none, tells_same, tells_so, tells_then}
 use Rattle.at_demand.proofs.of_groups.TellingOne.{known_still, tells_one}

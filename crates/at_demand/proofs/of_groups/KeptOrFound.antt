@@ -1,12 +1,11 @@
 -- A find's value is kept, or the find comes to those that were found: what that says of what is known.
-use Rattle.std.proofs.Common.{◌≡◌, ◌⊎◌, ◌<◌, ℕ, Bool, true, false, List, [], ◌∷◌, ◌++◌, length, Option, Some, None, Result, Ok, Err, IfOk, OnOk, inl, inr, refl, sym, ap, ◌∙◌, subst, if◌then◌else◌, true≢false, arith}
-use Rattle.std.specs.Prelude.{IsErrAnd, IsSome, IsTrue, is_some}
-use Rattle.std.specs.Map.{keys_of, lookup}
+use Rattle.std.proofs.Common.{◌≡◌, ◌⊎◌, ℕ, Bool, true, false, List, [], ◌∷◌, ◌++◌, length, Option, Some, None, Result, Ok, Err, IfOk, OnOk, inl, inr, refl, sym, ap, ◌∙◌, subst, if◌then◌else◌, true≢false, arith}
+use Rattle.std.specs.Prelude.{IsErrAnd, IsSome, IsTrue}
+use Rattle.std.specs.Map.{lookup}
 use Rattle.std.specs.Option.{option_map}
 use Rattle.std.proofs.lemmas.List.Elements.{Contains-push_cases}
 use Rattle.indexmap.specs.IndexMap.{insert_entry}
 use Rattle.at_model.specs.Run.{Value, Instance}
-use Rattle.at_model.specs.Meaning.{Among}
 use Rattle.at_model.specs.Rules.{Rules, is_lazy}
 use Rattle.at_body.specs.Same.{same_instance}
 use Rattle.at_body.specs.Values.{value_view}
@@ -17,14 +16,13 @@ use Rattle.at_cache.specs.declared.keeper.Put.TheVariants as put
 use Rattle.at_demand.specs.declared.evaluation.Demanded.{Demanded}
 use Rattle.at_demand.specs.declared.evaluation.Find.{Find}
 use Rattle.at_demand.specs.declared.question.Question.{Question}
-use Rattle.at_demand.specs.Answerable.{CanBeKept, RestsOnKept}
+use Rattle.at_demand.specs.Answerable.{CanBeKept}
 use Rattle.at_demand.specs.Groups.{CanBeFirst, CanBeOther, HasKeptFirst, HasPutLast, IsFirstAt, IsKeptOrFound, IsOtherFind, UsesFirst}
 use Rattle.at_demand.specs.Keeping.{IsKeptWhereLazy, SaysKept}
 use Rattle.at_demand.specs.Known.{AreValued, IsKept, found_values, kept_values, known_in}
 use Rattle.at_demand.specs.Levels.{known_to}
-use Rattle.at_demand.proofs.Entered.{is_there, none_entered}
+use Rattle.at_demand.proofs.Entered.{is_there}
 use Rattle.at_demand.proofs.Keys.{goes_last, no_key}
-use Rattle.at_demand.proofs.Recalling.{known_kept}
 use Rattle.at_demand.proofs.Sameness.{same_refl}
 
 -- an exit with an error has no value

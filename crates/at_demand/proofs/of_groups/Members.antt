@@ -1,16 +1,15 @@
 -- The members of a group, and what the equations of a group that can be kept say of the tree.
-use Rattle.std.proofs.Common.{◌≡◌, ◌⊎◌, ◌<◌, ℕ, zero, suc, Bool, true, List, [], ◌∷◌, ◌++◌, get_or, length, map, slice_get, Option, Some, None, inl, inr, refl, sym, ap, ◌∙◌, subst, arith}
+use Rattle.std.proofs.Common.{◌≡◌, ◌⊎◌, ◌<◌, ℕ, zero, suc, Bool, true, List, [], ◌∷◌, get_or, length, map, slice_get, Option, Some, None, inl, inr, refl, sym, ap, ◌∙◌, subst, arith}
 use Rattle.std.proofs.lemmas.Option.{same_Some}
 use Rattle.std.specs.Prelude.{Contains, IsSome}
 use Rattle.std.specs.Map.{keys_of, lookup}
-use Rattle.at_model.specs.Run.{Instance, Contents, Location, Truth}
-use Rattle.at_model.specs.Meaning.{Among, Reaches}
-use Rattle.at_model.specs.Support.{Sees}
+use Rattle.at_model.specs.Run.{Instance, Contents, Truth}
+use Rattle.at_model.specs.Meaning.{Among}
 use Rattle.at_model.specs.Rules.{Rules, start_of}
-use Rattle.at_model.specs.of_fixpoints.Fixpoints.{End, EndsSo, HasForm, HasValue, LeadsOver, Made, Spoilt}
+use Rattle.at_model.specs.of_fixpoints.Fixpoints.{EndsSo, HasForm, HasValue, Made, Spoilt}
 use Rattle.at_model.specs.of_fixpoints.Fixpoints as fixpoints
 use Rattle.at_model.specs.of_fixpoints.Formulas.{Formula, atoms}
-use Rattle.at_model.specs.of_fixpoints.Resting.{Comes, Leads, Supports, goes, stays}
+use Rattle.at_model.specs.of_fixpoints.Resting.{Comes, Leads, goes, stays}
 use Rattle.at_model.specs.of_fixpoints.Searched.{IsMade, IsWhole as IsWholeOver}
 use Rattle.at_model.proofs.Listed.{among_map}
 use Rattle.at_model.proofs.of_searching.PassedCircles.{ends_one}
@@ -19,7 +18,7 @@ use Rattle.at_model.proofs.of_searching.Wholes.{seen_whole}
 use Rattle.at_store.specs.Located.{loc_view}
 use Rattle.at_store.specs.Shown.{Shown, contents}
 use Rattle.at_body.specs.Same.{same_instance}
-use Rattle.at_body.specs.Values.{fault_view, value_view}
+use Rattle.at_body.specs.Values.{fault_view}
 use Rattle.at_cache.specs.Kept.{Entries}
 use Rattle.at_search.specs.Recorded.{IsRecordedForm, Recorded, end_of}
 use Rattle.at_search.specs.declared.ended.Ended.{Ended}
@@ -33,7 +32,7 @@ use Rattle.at_demand.specs.declared.question.Question.{Question}
 use Rattle.at_demand.specs.Covering.{AreWholeIn, IsDemanded}
 use Rattle.at_demand.specs.Groups.{CanKeepGroup, IsFindOf, IsMember}
 use Rattle.at_demand.specs.Known.{AreValued, IsKept, meaning}
-use Rattle.at_demand.specs.Levels.{IsFormOf, IsUsed, known_to}
+use Rattle.at_demand.specs.Levels.{known_to}
 use Rattle.at_demand.specs.Only.{IsLean}
 use Rattle.at_demand.proofs.Entered.{is_there}
 use Rattle.at_demand.proofs.Extending.{map_among}

@@ -5,8 +5,8 @@ use Rattle.std.specs.Prelude.{IsErrAnd, IsSome}
 use Rattle.std.proofs.lemmas.Option.{same_Some}
 use Rattle.at_model.specs.Run.{Value, Instance, Contents, Known}
 use Rattle.at_model.specs.Meaning.{Among}
-use Rattle.at_model.specs.Rules.{Rules, is_lazy, start_of}
-use Rattle.at_model.specs.of_fixpoints.Fixpoints.{LeadsOver, Made}
+use Rattle.at_model.specs.Rules.{Rules, is_lazy}
+use Rattle.at_model.specs.of_fixpoints.Fixpoints.{LeadsOver}
 use Rattle.at_model.specs.of_fixpoints.Formulas.{Forms, atoms}
 use Rattle.at_model.proofs.of_formulas.StartsKept.{of_one_start}
 use Rattle.at_store.specs.Shown.{Shown, contents}
@@ -19,7 +19,7 @@ use Rattle.at_search.specs.declared.ended.Ended.{Ended}
 use Rattle.at_search.specs.declared.ended.Formed.{Formed}
 use Rattle.at_search.specs.declared.solving.Solved.{Solved}
 use Rattle.at_demand.specs.declared.question.Question.{Question}
-use Rattle.at_demand.specs.Groups.{CanKeepGroup, CanSolve, HasKeptGroup, HasSolved, IsKnownOrSpoilt, IsMember, KeepsGroups, Tells, start_in}
+use Rattle.at_demand.specs.Groups.{CanKeepGroup, CanSolve, HasKeptGroup, HasSolved, IsMember, KeepsGroups, Tells, start_in}
 use Rattle.at_demand.specs.Known.{meaning}
 use Rattle.at_demand.specs.Levels.{known_to}
 use Rattle.at_demand.proofs.Entered.{is_there, not_none}

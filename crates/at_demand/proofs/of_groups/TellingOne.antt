@@ -1,5 +1,5 @@
 -- What becomes of what is kept and found as one find's value is kept, or the find comes to those that were found.
-use Rattle.std.proofs.Common.{◌≡◌, ◌⊎◌, ℕ, Bool, true, List, [], ◌∷◌, ◌++◌, slice_get, Option, Some, None, inl, inr, refl, sym, ap, ◌∙◌, subst, append-nil}
+use Rattle.std.proofs.Common.{◌≡◌, ◌⊎◌, ℕ, Bool, true, List, [], ◌∷◌, ◌++◌, Option, Some, None, inl, inr, refl, sym, ap, ◌∙◌, subst, append-nil}
 use Rattle.std.proofs.lemmas.Option.{same_Some}
 use Rattle.std.specs.Prelude.{IsSome, IsTrue}
 use Rattle.std.specs.Map.{keys_of, lookup}
@@ -15,17 +15,15 @@ use Rattle.at_body.specs.Values.{value_view}
 use Rattle.at_cache.specs.Kept.{Entries}
 use Rattle.at_cache.specs.Traced.{Memories}
 use Rattle.at_search.specs.Recorded.{AreFacts, IsRecordedForm}
-use Rattle.at_search.specs.declared.ended.Ended.{Ended}
 use Rattle.at_search.specs.declared.ended.Formed.{Formed}
 use Rattle.at_demand.specs.declared.evaluation.Find.{Find}
 use Rattle.at_demand.specs.declared.question.Question.{Question}
 use Rattle.at_demand.specs.Covering.{AreWhole, Extends, IsWhole}
 use Rattle.at_demand.specs.Groups.{IsKeptOrFound, Tells}
-use Rattle.at_demand.specs.Known.{AreValued, FoundKept, IsFound, IsKept, KeepsEntries, found_values, kept_values, known_in, meaning}
+use Rattle.at_demand.specs.Known.{AreValued, FoundKept, IsKept, KeepsEntries, found_values, kept_values, known_in, meaning}
 use Rattle.at_demand.specs.Levels.{AreFactsOf, IsFormOf, known_to}
 use Rattle.at_demand.specs.Meant.{AreRightValues}
 use Rattle.at_demand.specs.Only.{AreLean, IsLean}
-use Rattle.at_demand.specs.Right.{AreRight, AreThere, IsThere}
 use Rattle.at_demand.specs.Sparing.{AreSettled, IsSettled}
 use Rattle.at_demand.proofs.Attempted.{right_stays}
 use Rattle.at_demand.proofs.Entered.{entered, is_there, kept_on, there, value_on}

@@ -5,11 +5,11 @@ use Rattle.at_model.specs.Meaning.{Finds, Reaches}
 use Rattle.at_model.specs.Alike.{InstanceLike, ListLike, ValueLike, end, more}
 use Rattle.at_model.specs.of_fixpoints.Circles.{Circular, Closes, HasNone, IsOpen}
 use Rattle.at_model.specs.of_fixpoints.Circles as closes
-use Rattle.at_model.specs.of_fixpoints.Fixpoints.{End, EndsAt, EndsSo, HasForm, HasValue, Holds, Made, Spoilt}
+use Rattle.at_model.specs.of_fixpoints.Fixpoints.{End, EndsSo, HasValue, Holds, Made, Spoilt}
 use Rattle.at_model.specs.of_fixpoints.Formulas.{Formula, Forms, atoms}
 use Rattle.at_model.specs.of_fixpoints.Likeness.{FormsLike, FormulaLike}
 use Rattle.at_model.specs.of_fixpoints.Met.{IsMet, LooksAt, again, deeper, formed, here, spoilt}
-use Rattle.at_model.specs.of_fixpoints.Resting.{Leads, stays}
+use Rattle.at_model.specs.of_fixpoints.Resting.{stays}
 use Rattle.at_model.proofs.of_formulas.CarriedByFormulas.{IsCarried, all_matched, carried_next, ends_so_there, form_there, leads_back, leads_there, outcome_back, outcome_there, reaches_there}
 use Rattle.at_model.proofs.of_formulas.EndsAlike.{found_back, reached_back}
 use Rattle.at_model.proofs.of_formulas.Matching.{EndMatches, atoms_match, joined_lists, makes, spoils, spoilt_on}

@@ -1,5 +1,5 @@
 -- The search goes along, level by level, behind a try.
-use Rattle.std.proofs.Common.{◌≡◌, ◌⊎◌, ℕ, ◌<◌, ◌^◌, Bool, length, Option, Some, None, inl, inr, refl, sym, ◌∙◌, subst}
+use Rattle.std.proofs.Common.{◌≡◌, ℕ, ◌<◌, ◌^◌, Bool, length, Option, Some, None, inl, inr, refl, sym, ◌∙◌, subst}
 use Rattle.std.specs.Prelude.{IfNone, IfOk, IfSome, IsTrue, OnOk, Result, Ok, Err, IsSome}
 use Rattle.std.specs.declared.alloc.AllocError.{AllocError}
 use Rattle.std.specs.Map.{keys_of}
@@ -35,7 +35,7 @@ use Rattle.at_demand.specs.Known.{KeepsEntries, answer_view, meaning}
 use Rattle.at_demand.specs.KeptTrials.{AreTrials, Fit, FitAfter, FitAt}
 use Rattle.at_demand.specs.Levels.{IsDoneIn, all_levels, asked_by, fault_in, known_to, levels_of, root_in, seen_in}
 use Rattle.at_demand.specs.Searches.{AreSoundFinds, CanClose, CanGoAlong, FollowsTo, FromFirst, GainsBetween, GoesDown, GoesOnSo, IsSeenBy}
-use Rattle.at_demand.specs.Searches.{HasClosed, HasGoneAlong, HasLeft, HasLeftSo, HasSearched, HasSearchedTo, LeavesAll, StandsBetween, StaysOn, WasSeenBy}
+use Rattle.at_demand.specs.Searches.{HasClosed, HasGoneAlong, HasLeft, HasLeftSo, HasSearched, HasSearchedTo, LeavesAll, StaysOn, WasSeenBy}
 use Rattle.at_demand.specs.Turns.{HaveMet, IsFollowed, IsSparingTurns}
 use Rattle.at_demand.proofs.Entered.{entered_on}
 use Rattle.at_demand.proofs.of_levels.GainedBetween.{gains_nothing, gains_then, gains_where}

@@ -1,5 +1,5 @@
 -- The evaluation of an instance of a circular attribute goes on, past what it demands.
-use Rattle.std.proofs.Common.{◌≡◌, ℕ, nat_eq, List, [], map, inl, inr, refl, sym, ap, subst}
+use Rattle.std.proofs.Common.{◌≡◌, ℕ, nat_eq, List, [], inl, inr, refl, sym, ap, subst}
 use Rattle.std.specs.Global.{Box}
 use Rattle.std.specs.Prelude.{IsSome, Vec}
 use Rattle.at_model.specs.Follow.{follow}
@@ -10,7 +10,6 @@ use Rattle.at_model.specs.TypedRuns.{ClassAt}
 use Rattle.at_model.specs.of_fixpoints.Evaluations.{evaluation}
 use Rattle.at_model.specs.of_fixpoints.Fixpoints.{EndsSo, HasValue, Made, Spoilt}
 use Rattle.at_model.specs.of_fixpoints.Formulas.{Formula}
-use Rattle.at_store.specs.Located.{loc_view}
 use Rattle.at_body.specs.Forms.{reached, told}
 use Rattle.at_body.specs.TypedForms.{IsForm}
 use Rattle.at_body.specs.Values.{fault_view}
@@ -24,13 +23,11 @@ use Rattle.at_demand.specs.declared.evaluation.Find.{Find}
 use Rattle.at_demand.specs.declared.formation.Formation.{Formation}
 use Rattle.at_demand.specs.declared.trying.Going.TheVariants as going
 use Rattle.at_demand.specs.declared.trying.Tried.{Tried}
-use Rattle.at_demand.specs.declared.trying.Tried.TheVariants as tried
 use Rattle.at_demand.specs.Attempts.{HasFormedTo}
 use Rattle.at_demand.specs.Covering.{IsDemanded, IsTold}
 use Rattle.at_demand.specs.Forming.{HasPassedToForm, IsFormedBy, IsFormedFrom, IsOpenAt}
 use Rattle.at_demand.specs.Known.{AreValued, IsKept, meaning}
 use Rattle.at_demand.specs.Levels.{IsFormOf, IsUsed}
-use Rattle.at_demand.specs.Only.{TakesOnly}
 use Rattle.at_demand.specs.Tries.{HasTriedTo, NeedsOther}
 use Rattle.at_demand.proofs.Coming.{begins, comes, ends_past, goes_on}
 use Rattle.at_demand.proofs.Extending.{among_at}

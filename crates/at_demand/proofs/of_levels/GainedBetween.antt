@@ -22,7 +22,7 @@ use Rattle.at_demand.specs.Levels.{all_levels, asked_by, known_to}
 use Rattle.at_demand.specs.Meant.{AreRightValues}
 use Rattle.at_demand.specs.Only.{AreLean}
 use Rattle.at_demand.specs.Right.{AreRight, AreThere, IsThere}
-use Rattle.at_demand.specs.Searches.{AreSoundFinds, GainsBetween, StandsBetween, WasSeenBy}
+use Rattle.at_demand.specs.Searches.{GainsBetween, StandsBetween, WasSeenBy}
 use Rattle.at_demand.specs.Sparing.{AreSettled, IsWorthy}
 use Rattle.at_demand.proofs.Counting.{counts_more, counts_none}
 use Rattle.at_demand.proofs.Entered.{entered, entered_on, is_there, kept_on, not_none, there, value_on}

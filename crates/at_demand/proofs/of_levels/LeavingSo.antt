@@ -19,7 +19,7 @@ use Rattle.at_demand.specs.Turns.{IsFollowed, IsSparingTurns}
 use Rattle.at_demand.proofs.of_levels.CameBetween.{others_before}
 use Rattle.at_demand.proofs.of_steps.Met.{have_more, met_more}
 
--- all that is worth keeping is kept for the answer
+-- all that is worthy is kept for the answer
 abbrev pub HasAll : Rules → Shown → (exact : Bool) → (before after : Entries) → Question → Result (Option Answer) AllocError → Type 0
 HasAll rules s exact before after old r = IsTrue exact → AreSpare rules (contents s) before → IsSparingTurns rules (contents s) before old
     → IfOk r (λ o. IfSome o (λ a. HasWorthyFor rules (contents s) (asked_by old) (answer_view a) after))

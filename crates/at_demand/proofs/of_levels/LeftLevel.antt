@@ -327,7 +327,7 @@ module _ (rules : Rules) (s : Shown) (exact : Bool) (before after : Entries) (fo
   key_was : (i : Instance ℕ) → Among i (keys_of new.ended.entries) → Among i (keys_of old.ended.entries)
   key_was i k = subst (λ ks. Among i ks) told_with.ended k
 
-  -- where none waits, all that is worth keeping is kept
+  -- where none waits, all that is worthy is kept
   module _ (alone : old.waiting.entries ≡ []) (k : IsTrue exact) (spare : AreSpare rules (contents s) before) (x : IsSparingTurns rules (contents s) before old) where
     -- what isn't known is marked
     marked_top : (i : Instance ℕ) → Among i (keys_of new.ended.entries) → known_to after new i ≡ None →

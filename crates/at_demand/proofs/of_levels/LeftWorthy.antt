@@ -1,4 +1,4 @@
--- Where all is followed, and no search has anything to do any more, all that is worth keeping is kept.
+-- Where all is followed, and no search has anything to do any more, all that is worthy is kept.
 use Rattle.std.proofs.Common.{◌≡◌, ◌⊎◌, ℕ, Option, Some, None, true, inl, inr, refl}
 use Rattle.std.specs.Map.{keys_of}
 use Rattle.at_model.specs.Meaning.{Among}

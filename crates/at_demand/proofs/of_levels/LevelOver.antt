@@ -1,5 +1,5 @@
 -- The search of a level is over: its root has a value, or the fault that was met first; and the question falls to the level below.
-use Rattle.std.proofs.Common.{◌≡◌, ◌⊎◌, ℕ, ◌+◌, ◌*◌, ◌≤◌, suc, arith, length, Bool, true, false, List, [], ◌∷◌, ◌++◌, Option, Some, None, inl, inr, refl, sym, ap, ◌∙◌, subst, if◌then◌else◌}
+use Rattle.std.proofs.Common.{◌≡◌, ◌⊎◌, ℕ, ◌+◌, ◌*◌, ◌≤◌, suc, arith, length, List, [], ◌∷◌, ◌++◌, Option, Some, None, inl, inr, refl, sym, ap, ◌∙◌, subst}
 use Rattle.std.specs.Prelude.{IsSome}
 use Rattle.std.specs.Map.{keys_of, lookup}
 use Rattle.at_model.specs.Instances.{AnyText}
@@ -22,7 +22,6 @@ use Rattle.at_body.specs.Typed.{class_shown}
 use Rattle.at_body.specs.Values.{fault_view, value_view}
 use Rattle.at_cache.specs.Kept.{Entries}
 use Rattle.at_search.specs.Recorded.{IsMarked, MetFrom, Recorded, end_of}
-use Rattle.at_search.specs.declared.ended.Ended.{Ended}
 use Rattle.at_search.specs.declared.ended.Ending.{Ending}
 use Rattle.at_search.specs.declared.ended.Ending.TheVariants as ending
 use Rattle.at_search.specs.declared.ended.Fault.{Fault}
@@ -36,7 +35,6 @@ use Rattle.at_demand.specs.Levels.{all_levels, asked_by, fault_in, known_to, lev
 use Rattle.at_demand.specs.Searches.{IsLastUnseen, StandsBetween}
 use Rattle.at_demand.proofs.Entered.{is_there, there}
 use Rattle.at_demand.proofs.Recalling.{known_found, known_kept}
-use Rattle.at_demand.proofs.Sameness.{same_true}
 use Rattle.at_demand.proofs.There.{found_once}
 use Rattle.at_demand.proofs.of_searches.Circling.{one_recorded}
 use Rattle.at_demand.proofs.of_levels.ClosedLevels.{risen_asked, risen_levels}

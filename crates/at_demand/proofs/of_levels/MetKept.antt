@@ -1,4 +1,4 @@
--- Where a circle answers a question, all that its search has met and that is worth keeping is kept.
+-- Where a circle answers a question, all that its search has met and that is worthy is kept.
 use Rattle.std.proofs.Common.{◌≡◌, ◌⊎◌, ℕ, List, [], ◌∷◌, map, reverse, Option, Some, None, true, inl, inr, refl, sym, ap, subst}
 use Rattle.std.specs.Prelude.{IsSome}
 use Rattle.std.specs.Map.{keys_of}

@@ -1,6 +1,6 @@
 -- What is known of instances once those are solved to which formulas lead.
 use Rattle.std.proofs.Common.{◌≡◌, ◌⊎◌, ◌<◌, ◌^◌, ℕ, nat_eq, Bool, true, false, true≢false, if◌then◌else◌, MatchBool, List, [], ◌∷◌, ◌++◌, reverse, Option, Some, None, inl, inr, refl, sym, ap, ◌∙◌, subst, append-nil}
-use Rattle.std.specs.Prelude.{IsSome, is_some, Result, Ok, Err, IfOk, OnOk, IfSome, IfNone}
+use Rattle.std.specs.Prelude.{IsSome, is_some, Result, Ok, Err, IfOk, OnOk, IfSome}
 use Rattle.std.specs.declared.alloc.AllocError.{AllocError}
 use Rattle.std.specs.Map.{keys_of, lookup}
 use Rattle.std.specs.Option.{option_map}
@@ -9,9 +9,8 @@ use Rattle.std.proofs.lemmas.Result.{IfOk-weaker}
 use Rattle.at_model.specs.Meaning.{Among, Faults, Finds}
 use Rattle.at_model.specs.Rules.{Rules, start_of}
 use Rattle.at_model.specs.Run.{Value, Instance, Contents, Known}
-use Rattle.at_model.specs.of_fixpoints.Fixpoints.{End, EndsSo, HasValue, Holds, LeadsOver, Made, Meets, Spoilt, goes, stays}
-use Rattle.at_model.specs.of_fixpoints.Formulas.{Formula, Forms, atoms}
-use Rattle.at_model.specs.of_fixpoints.Searched.{EndsWell, IsClosedIn}
+use Rattle.at_model.specs.of_fixpoints.Fixpoints.{End, EndsSo, HasValue, LeadsOver, Made, Meets, Spoilt, goes, stays}
+use Rattle.at_model.specs.of_fixpoints.Formulas.{Formula, Forms}
 use Rattle.at_model.specs.of_fixpoints.Searching.{asked_in, under}
 use Rattle.at_model.proofs.Reached.{back_among, either_among}
 use Rattle.at_model.proofs.of_formulas.StartsKept.{of_one_start}

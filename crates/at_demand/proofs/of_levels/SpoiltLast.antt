@@ -11,7 +11,7 @@ use Rattle.at_model.specs.Run.{Instance, Contents, FaultKind, Known}
 use Rattle.at_model.specs.of_fixpoints.Fixpoints.{End, EndsSo, HasValue, Holds, Spoilt}
 use Rattle.at_model.specs.of_fixpoints.Formulas.{Formula, Forms}
 use Rattle.at_model.specs.of_fixpoints.Searched.{AreStacked, IsMade}
-use Rattle.at_model.specs.of_fixpoints.Searching.{Follows, Level, Looked, Search, Turned, behind, fallen_to, gone_to, under}
+use Rattle.at_model.specs.of_fixpoints.Searching.{Follows, Level, Looked, Search, Turned, behind, fallen_to, gone_to}
 use Rattle.at_model.specs.of_fixpoints.Searching as follows
 use Rattle.at_model.proofs.of_formulas.PlainForms.{holds_back_all}
 use Rattle.at_model.proofs.of_formulas.PlainRules.{rules_plain}

@@ -1,6 +1,5 @@
 -- What a well-typed instance leads to is well typed, and where it has a value it is whole: all of it stands in a list.
-use Rattle.std.proofs.Common.{◌≡◌, ◌⊎◌, ℕ, zero, suc, ◌+◌, ◌*◌, ◌≤◌, nat_eq, length, List, [], ◌∷◌, map, Option, Some, None, ◌++◌, inl, inr, refl, sym, ap, ◌∙◌, subst, arith}
-use Rattle.std.specs.Prelude.{IsSome}
+use Rattle.std.proofs.Common.{◌≡◌, ℕ, zero, suc, ◌+◌, ◌*◌, ◌≤◌, nat_eq, length, List, [], ◌∷◌, map, Option, Some, None, ◌++◌, refl, sym, ap, ◌∙◌, subst, arith}
 use Rattle.at_model.specs.Asking.{IsWellFormed}
 use Rattle.at_model.specs.Alike.{InstanceLike, ListLike, ValueLike, Names, both, end, int, more, neither, ref, text, truth}
 use Rattle.at_model.specs.Instances.{AnyText, instances}

@@ -1,6 +1,6 @@
 -- What evaluations with inner ones stand on, by rules: none of these is circular, since circular attributes are lazy.
 use Rattle.std.proofs.Common.{◌≡◌, ℕ, Bool, true, false, not, nat_eq, Option, Some, None, inl, sym, ◌∙◌, subst, true≢false}
-use Rattle.at_model.specs.Run.{Value, Instance, Contents, Known, Run}
+use Rattle.at_model.specs.Run.{Instance, Contents, Known, Run}
 use Rattle.at_model.specs.Rules.{Rules, is_lazy, start_of}
 use Rattle.at_model.specs.Meaning.{Reaches}
 use Rattle.at_model.specs.Nested.{IsGround}

@@ -22,7 +22,7 @@ use Rattle.at_demand.proofs.Entered.{is_there, not_none}
 use Rattle.at_demand.proofs.Gaining.{asked_kept}
 use Rattle.at_demand.proofs.of_nesting.InnerGains.{gains_none, known_none, worthy_then}
 
--- an answer that is right, for which all that is worth keeping is kept
+-- an answer that is right, for which all that is worthy is kept
 abbrev IsKeptFor : Rules → Shown → Instance ℕ → Entries → Answer → Type 0
 IsKeptFor rules s i entries a =
     Answers (contents s) (meaning rules) i (answer_view a) × HasWorthyFor rules (contents s) i (answer_view a) entries
@@ -46,7 +46,7 @@ module _ {E : Type 0} (rules : Rules) (s : Shown) (exact : Bool) (i : Instance �
   kept_for (Ok a) entries answers all = (answers, all)
   kept_for (Err e) entries answers all = tt
 
-  -- by what came, where it is right and all that is worth keeping is kept
+  -- by what came, where it is right and all that is worthy is kept
   pub answered_by : (old new : Entries) (w x : ℕ) → Gains rules s exact i old new [] [] w x →
       IfOk r (λ a. Answers (contents s) (meaning rules) i (answer_view a)) →
       (IsTrue exact → AreSpare rules (contents s) old → IfOk r (λ a. HasWorthyFor rules (contents s) i (answer_view a) new)) →

@@ -24,11 +24,11 @@ use Rattle.at_demand.specs.Known.{equations, meaning, kept_values, ArePlain, IsK
 use Rattle.at_demand.specs.Meant.{AreCircularWell, AreRightValues}
 use Rattle.at_demand.specs.Right.{AreRight, IsThere, IsValued}
 use Rattle.at_demand.specs.Sparing.{AddsWorthy, AreSpare, Counts, HasWorthy, IsWorthy}
-use Rattle.at_demand.specs.Inner.{AreKnown, Gains, HasTold, IsEvaluated, IsGiven, is_inner, known_by, remembered}
+use Rattle.at_demand.specs.Inner.{AreKnown, Gains, HasTold, IsEvaluated, IsGiven, is_inner, known_by}
 use Rattle.at_demand.proofs.Counting.{counts_more, counts_none, counts_same, counts_shared}
 use Rattle.at_demand.proofs.Entered.{entered_on, is_there, not_none, put_stays}
 use Rattle.at_demand.proofs.Gaining.{worthy_none}
-use Rattle.at_demand.proofs.of_nesting.Ground.{comes_own, own_of}
+use Rattle.at_demand.proofs.of_nesting.Ground.{comes_own}
 use Rattle.at_demand.proofs.of_nesting.InnerPuts.{IsFit, right_now, plain_now, covers_now, spare_now, worthy_now, all_now, stays_now}
 use Rattle.at_demand.proofs.of_nesting.Remembered.{ground_by, stands_by, found_known, known_more, remembered_is, still_remembered}
 use Rattle.at_demand.proofs.Leading.{leads_on}
@@ -70,7 +70,7 @@ pub leads_next : (rules : Rules) (look : Contents ℕ) (i j : Instance ℕ) → 
     Reaches look (HasValue look (meaning rules)) (equations rules i) j → Leads look (meaning rules) i j
 leads_next rules look i j own c = goes i j j (comes_own rules look i j own c) (stays j)
 
--- what is worth keeping comes, and then more
+-- what is worthy comes, and then more
 pub worthy_then : (rules : Rules) (look : Contents ℕ) (i : Instance ℕ) (old mid new : Entries) →
     AddsWorthy rules look i old mid → AddsWorthy rules look i mid new → AddsWorthy rules look i old new
 worthy_then rules look i old mid new g h = record {
@@ -266,7 +266,7 @@ module _ (rules : Rules) (s : Shown) (exact : Bool) where
   not_lazy true e h = true≢false (sym e)
   not_lazy false e h = true≢false (sym h)
 
-  -- and all that is worth keeping for it is kept
+  -- and all that is worthy of it is kept
   pub told_whole : (entries : Entries) (f : Found) (j : Instance ℕ) (v : Value ℕ) (ls : List (Location ℕ)) (us : List
       (Instance ℕ)) → AreSpare rules (contents s) entries → AreKnown rules (contents s) entries f →
       IsGiven rules (contents s) (known_by entries f) j v ls us → HasWorthy rules (contents s) j entries

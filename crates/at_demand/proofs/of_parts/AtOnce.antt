@@ -1,5 +1,5 @@
 -- Evaluations in one go: elements of a fold, and operands, that come to their value at once.
-use Rattle.std.proofs.Common.{◌≡◌, ℕ, false, List, Option, Some, None, Result, Ok, Err, IfOk, IfSome, refl, sym, ap, ◌∙◌, subst}
+use Rattle.std.proofs.Common.{◌≡◌, ℕ, false, List, Option, Some, None, Result, Ok, Err, IfOk, IfSome, refl, sym, ap, subst}
 use Rattle.at_model.specs.Bodies.{Expr}
 use Rattle.at_model.specs.Classes.{Classes}
 use Rattle.at_model.specs.Run.{Value, Instance, Location, Contents, Run, Gives, ◌>>=◌}
@@ -18,7 +18,7 @@ use Rattle.at_apply.specs.Parts.{one_of}
 use Rattle.at_demand.specs.declared.direct.Level.{Level}
 use Rattle.at_demand.specs.Known.{equations}
 use Rattle.at_demand.specs.Inner.{HasTold}
-use Rattle.at_demand.specs.InParts.{AsksEachInner, AsksInner, HasCome, Held, MayHaveCome, demand, values_in}
+use Rattle.at_demand.specs.InParts.{AsksEachInner, AsksInner, HasCome, Held, MayHaveCome, values_in}
 use Rattle.at_demand.proofs.of_nesting.Asked.{inner_told}
 use Rattle.at_demand.proofs.of_parts.Directly.{come_looked, told_come}
 

@@ -3,9 +3,7 @@ use Rattle.std.proofs.Common.{◌≡◌, ◌≤◌, ◌<◌, ◌^◌, ◌++◌, 
 use Rattle.at_model.specs.Run.{Contents, Location, Run, Truth, Value}
 use Rattle.at_model.specs.Rules.{Rules}
 use Rattle.at_store.specs.Shown.{Shown, contents}
-use Rattle.at_rules.specs.Bodies.{body_view}
 use Rattle.at_rules.specs.declared.body.Body.{Body}
-use Rattle.at_body.specs.Rest.{ev}
 use Rattle.at_body.specs.Standing.{Place, inside}
 use Rattle.at_body.specs.declared.todo.Fold.{Fold}
 use Rattle.at_body.specs.declared.todo.Fold.TheVariants as fold
@@ -13,7 +11,7 @@ use Rattle.at_body.specs.declared.value.Value.{Value as ValueCode}
 use Rattle.at_body.specs.declared.value.Value.TheVariants as value
 use Rattle.at_apply.specs.Passing.{AreFalse}
 use Rattle.at_demand.specs.declared.direct.Level.{Level}
-use Rattle.at_demand.specs.InParts.{AsksEachInner, AsksInner, HasCome, HasPassedBy, Held, MayHavePassedBy, Seeks}
+use Rattle.at_demand.specs.InParts.{AsksEachInner, AsksInner, Held, MayHavePassedBy, Seeks}
 use Rattle.at_demand.proofs.of_parts.AtOnce.{plain_come}
 use Rattle.at_demand.proofs.of_parts.ByForm.{run_at}
 use Rattle.at_demand.proofs.of_parts.Directly.{nothing_gained}

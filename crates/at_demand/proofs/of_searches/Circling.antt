@@ -1,12 +1,12 @@
 -- From what is under way formulas lead to the next one of a level; so it has no outcome.
-use Rattle.std.proofs.Common.{◌≡◌, ◌⊎◌, ℕ, List, [], ◌∷◌, ◌++◌, Option, Some, None, inl, inr, refl, sym, ap, ◌∙◌, subst}
+use Rattle.std.proofs.Common.{◌≡◌, ◌⊎◌, ℕ, List, [], ◌∷◌, None, inl, inr, refl, sym, ap, ◌∙◌, subst}
 use Rattle.std.proofs.lemmas.Option.{same_Some}
 use Rattle.std.specs.Prelude.{IsSome}
 use Rattle.std.specs.Map.{lookup}
 use Rattle.at_model.specs.Meaning.{Among}
 use Rattle.at_model.specs.Run.{Instance, Contents, Known}
 use Rattle.at_model.specs.of_fixpoints.Circles.{HasNone}
-use Rattle.at_model.specs.of_fixpoints.Fixpoints.{End, Made, EndsSo, LeadsOver, stays, goes}
+use Rattle.at_model.specs.of_fixpoints.Fixpoints.{Made, EndsSo, LeadsOver, stays, goes}
 use Rattle.at_model.specs.of_fixpoints.Formulas.{Formula, Forms, atoms}
 use Rattle.at_model.specs.of_fixpoints.Searched.{AreStacked, IsInOrder, LeadsToNext, Within, below, here, tried_at}
 use Rattle.at_model.specs.of_fixpoints.Searching.{IsStuck, Level, under}

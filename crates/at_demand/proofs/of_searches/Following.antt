@@ -1,12 +1,10 @@
 -- What follows between two tries of a question: past what is known, and where more is told or less is kept.
-use Rattle.std.proofs.Common.{◌≡◌, ◌⊎◌, ℕ, List, [], ◌∷◌, ◌++◌, Option, Some, None, inl, inr, refl, sym, subst}
-use Rattle.at_model.specs.Meaning.{Among, Answer, Faults, Finds, Outcome, Outcomes}
-use Rattle.at_model.specs.Run.{Value, Instance, Contents, FaultKind, Known}
-use Rattle.at_model.specs.of_fixpoints.Fixpoints.{End, Spoilt, HasValue, Holds}
-use Rattle.at_model.specs.of_fixpoints.Formulas.{Formula, Forms}
-use Rattle.at_model.specs.of_fixpoints.Searching.{Adds, AreAll, First, Follows, IsPassed, IsReady, IsValued, Level, Looked, Search, behind, fallen_to, this, passes, under}
+use Rattle.std.proofs.Common.{◌≡◌, ◌⊎◌, ℕ, List, ◌∷◌, Option, Some, inl, inr, refl, sym, subst}
+use Rattle.at_model.specs.Meaning.{Among, Answer, Faults, Finds, Outcome}
+use Rattle.at_model.specs.Run.{Value, Instance, Contents, Known}
+use Rattle.at_model.specs.of_fixpoints.Formulas.{Forms}
+use Rattle.at_model.specs.of_fixpoints.Searching.{Adds, AreAll, First, Follows, IsPassed, Looked, Search, this, passes}
 use Rattle.at_model.specs.of_fixpoints.Searching as follows
-use Rattle.at_model.specs.of_fixpoints.Resting.{Comes}
 
 -- the question with one more to do, in front
 abbrev pub before_those : Looked ℕ → Instance ℕ → Looked ℕ

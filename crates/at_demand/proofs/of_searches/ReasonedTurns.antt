@@ -1,7 +1,7 @@
 -- A turn leaves a search with reason, where a circle answers the question; and what comes to be known by it has one.
-use Rattle.std.proofs.Common.{◌≡◌, ◌⊎◌, ℕ, List, [], ◌∷◌, ◌++◌, Option, Some, None, inl, inr, refl, sym, ap, subst}
+use Rattle.std.proofs.Common.{◌≡◌, ℕ, List, [], ◌∷◌, ◌++◌, Option, Some, None, inl, inr, refl, sym, ap, subst}
 use Rattle.at_model.specs.Run.{Instance, Contents, Known, Value}
-use Rattle.at_model.specs.Meaning.{Outcome, Finds, Faults, Among, Reaches, Answer}
+use Rattle.at_model.specs.Meaning.{Outcome, Finds, Faults, Among, Answer}
 use Rattle.at_model.proofs.Reached.{front_among, back_among, either_among}
 use Rattle.at_model.specs.of_fixpoints.Formulas.{Formula, Forms}
 use Rattle.at_model.specs.of_fixpoints.Fixpoints.{End, Spoilt, EndsSo, HasValue, Holds}
@@ -10,7 +10,7 @@ use Rattle.at_model.specs.of_fixpoints.Met.{HasLookedAt, HaveLookedAt}
 use Rattle.at_model.specs.of_fixpoints.Resting.{Leads}
 use Rattle.at_model.specs.of_fixpoints.Resting as led
 use Rattle.at_model.specs.of_fixpoints.Searched.{IsOn, IsWhole}
-use Rattle.at_model.specs.of_fixpoints.Searching.{Level, Search, Looked, posted, asked_in, under, behind, past, gone_over, fallen_to, First, this, passes, IsPassed, Adds, Follows, Turned}
+use Rattle.at_model.specs.of_fixpoints.Searching.{Level, Search, Looked, posted, under, behind, past, gone_over, fallen_to, First, this, passes, IsPassed, Adds, Follows, Turned}
 use Rattle.at_model.specs.of_fixpoints.Searching as turn
 use Rattle.at_model.proofs.of_searching.LookedSteps.{looked_begun, looked_again, looked_past, looked_on}
 use Rattle.at_model.proofs.of_searching.Turned.{IsBetween, leads_over}

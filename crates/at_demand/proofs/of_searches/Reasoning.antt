@@ -1,12 +1,12 @@
 -- Why what a search comes to is known, where a circle answers the question: along demands, and level by level.
-use Rattle.std.proofs.Common.{◌≡◌, ◌⊎◌, ℕ, List, [], ◌∷◌, ◌++◌, Some, inl, inr, refl, sym, subst}
-use Rattle.at_model.specs.Run.{Instance, Contents, Known, Value}
-use Rattle.at_model.specs.Meaning.{Outcome, Finds, Among, Reaches}
+use Rattle.std.proofs.Common.{◌≡◌, ◌⊎◌, ℕ, List, [], ◌∷◌, inl, inr, refl, sym, subst}
+use Rattle.at_model.specs.Run.{Instance, Contents, Known}
+use Rattle.at_model.specs.Meaning.{Outcome, Among, Reaches}
 use Rattle.at_model.proofs.Reached.{front_among, back_among, either_among}
 use Rattle.at_model.specs.of_fixpoints.Formulas.{Forms}
 use Rattle.at_model.specs.of_fixpoints.Fixpoints.{EndsSo, HasValue, Holds, LeadsOver}
 use Rattle.at_model.specs.of_fixpoints.Circles.{Circular, HasNone}
-use Rattle.at_model.specs.of_fixpoints.Met.{LooksAt, here, deeper, HasLookedAt, HaveLookedAt, IsLookedAt, IsMet}
+use Rattle.at_model.specs.of_fixpoints.Met.{LooksAt, here, deeper, HaveLookedAt, IsLookedAt}
 use Rattle.at_model.specs.of_fixpoints.Resting.{Leads}
 use Rattle.at_model.specs.of_fixpoints.Resting as led
 use Rattle.at_model.specs.of_fixpoints.Searched.{AreStacked, IsAt}
@@ -14,7 +14,7 @@ use Rattle.at_model.specs.of_fixpoints.Searching.{Level, root_of, under}
 use Rattle.at_model.proofs.of_formulas.ClosedOnce.{not_both}
 use Rattle.at_model.proofs.of_searching.Deciding.{demand_decided}
 use Rattle.at_model.proofs.of_searching.Turned.{leads_by, leads_over}
-use Rattle.at_demand.specs.Reasons.{DemandsOn, HasReason, IsBelowFirst, IsReached, stays, goes}
+use Rattle.at_demand.specs.Reasons.{DemandsOn, HasReason, IsReached, stays, goes}
 
 module _ (look : Contents ℕ) (forms : Forms ℕ) (first : Known ℕ) (q c : Instance ℕ) (circle : Circular look forms q c)
   where

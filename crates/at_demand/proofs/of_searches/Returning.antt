@@ -1,18 +1,18 @@
 -- A search that looks at what is under way below comes back: that is wanted by itself, and has no outcome.
-use Rattle.std.proofs.Common.{◌≡◌, ◌⊎◌, ℕ, List, [], ◌∷◌, ◌++◌, map, reverse, Option, Some, None, inl, inr, refl, sym, ap, ◌∙◌, subst}
+use Rattle.std.proofs.Common.{◌≡◌, ◌⊎◌, ℕ, List, [], ◌∷◌, ◌++◌, map, reverse, Some, None, inl, inr, refl, sym, ap, ◌∙◌, subst}
 use Rattle.std.specs.Prelude.{IsSome}
 use Rattle.std.specs.Map.{keys_of, lookup}
 use Rattle.at_model.proofs.of_searching.Strictly.{stuck_none}
-use Rattle.at_model.specs.Meaning.{Among, Circle, Finds}
+use Rattle.at_model.specs.Meaning.{Among, Circle}
 use Rattle.at_model.specs.Rules.{Rules}
-use Rattle.at_model.specs.Run.{Value, Instance}
+use Rattle.at_model.specs.Run.{Instance}
 use Rattle.at_model.specs.of_fixpoints.Circles.{HasNone, IsOpen}
 use Rattle.at_model.specs.of_fixpoints.Fixpoints.{End, EndsSo, LeadsOver}
 use Rattle.at_model.specs.of_fixpoints.Formulas.{Formula}
 use Rattle.at_model.specs.of_fixpoints.Searched.{IsMade, LeadsToNext, tried_at}
 use Rattle.at_model.specs.of_fixpoints.Searching.{First, Follows, IsPassed, IsStuck, Level, Looked, gone_to, this, under}
 use Rattle.at_model.specs.of_fixpoints.Searching as follows
-use Rattle.at_model.proofs.Reached.{back_among, either_among, front_among}
+use Rattle.at_model.proofs.Reached.{back_among, either_among}
 use Rattle.at_store.specs.Shown.{Shown, contents}
 use Rattle.at_body.specs.Same.{same_instance}
 use Rattle.at_cache.specs.Kept.{Entries}

@@ -31,7 +31,7 @@ use Rattle.at_demand.proofs.of_nesting.InnerGains.{gains_then, gains_up, known_n
 use Rattle.at_demand.proofs.of_steps.Grown.{spares_grown, stands_grown}
 use Rattle.at_demand.proofs.of_traces.Putting.{traced_on, traced_then, traced_up}
 
--- Up to `old` what came was worth keeping for i, of which the question q was asked; up to `mid` its last instance was evaluated in one go.
+-- Up to `old` what came was worthy of i, of which the question q was asked; up to `mid` its last instance was evaluated in one go.
 module _ (rules : Rules) (s : Shown) (exact : Bool) (i : Instance ℕ) (q : Question) (same : asked_by q ≡ i) (basis : IsBasis rules s)
     (first old mid : Entries) (w x y : ℕ) (gains : Gains rules s exact i first old [] [] w x) (sound : AreSound rules s old)
     (st : IsStanding rules s old q) (ahead : Gains rules s exact q.inst old mid [] [] x y) where

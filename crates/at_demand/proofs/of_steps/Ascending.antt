@@ -1,28 +1,22 @@
 -- The root of the last level is known, where that is no search: it goes off the chain, and the one that waited for it is the last.
-use Rattle.std.proofs.Common.{◌≡◌, ◌⊎◌, ◌+◌, ◌*◌, ◌≤◌, ℕ, suc, length, List, [], ◌∷◌, ◌++◌, map, reverse, Option, Some, None, inl, inr, refl, sym, ap, ◌∙◌, subst, arith}
+use Rattle.std.proofs.Common.{◌≡◌, ◌⊎◌, ◌+◌, ℕ, suc, length, List, [], ◌∷◌, ◌++◌, map, Option, Some, None, inl, inr, refl, sym, ap, ◌∙◌, subst, arith}
 use Rattle.std.specs.Prelude.{IsSome}
-use Rattle.std.specs.Map.{keys_of, lookup}
+use Rattle.std.specs.Map.{keys_of}
 use Rattle.std.proofs.lemmas.List.{reverse-append}
-use Rattle.at_model.specs.Instances.{AnyText}
-use Rattle.at_model.specs.Meaning.{Among, Answer, Finds, Outcome, Outcomes}
+use Rattle.at_model.specs.Meaning.{Among, Finds, Outcome, Outcomes}
 use Rattle.at_model.specs.Rules.{Rules}
 use Rattle.at_model.specs.Run.{Value, Instance, Contents, Known}
-use Rattle.at_model.specs.TypedRuns.{IsWellTyped}
 use Rattle.at_model.specs.of_fixpoints.Fixpoints.{EndsSo, HasValue, Holds, Made}
 use Rattle.at_model.specs.of_fixpoints.Formulas.{Forms}
 use Rattle.at_model.specs.of_fixpoints.Formulas as formula
 use Rattle.at_model.specs.of_fixpoints.Resting.{Comes, Leads}
 use Rattle.at_model.specs.of_fixpoints.Searched.{IsFresh, IsOn, tried_at}
-use Rattle.at_model.specs.of_fixpoints.Searching.{Adds, IsValued, Level, Search, Turned, begun, most_turns, under}
+use Rattle.at_model.specs.of_fixpoints.Searching.{Adds, IsValued, Level, Search, Turned, begun, under}
 use Rattle.at_model.specs.of_fixpoints.Searching as search
 use Rattle.at_model.proofs.Reached.{back_among, either_among, front_among}
-use Rattle.at_model.proofs.of_searching.FewTurns.{turned_fresh}
 use Rattle.at_store.specs.Shown.{Shown, contents}
-use Rattle.at_body.specs.Same.{same_instance}
-use Rattle.at_body.specs.Typed.{class_shown}
 use Rattle.at_cache.specs.Kept.{Entries}
 use Rattle.at_search.specs.Recorded.{IsMarked}
-use Rattle.at_search.specs.declared.ended.Ended.{Ended}
 use Rattle.at_demand.specs.declared.question.Question.{Question}
 use Rattle.at_demand.specs.Known.{IsKept, kept_values, meaning}
 use Rattle.at_demand.specs.Levels.{AreFactsOf, HaveAsked, IsAbout, IsLevel, LeadsToFault, LevelCode, StandsFor, all_levels, asked_by, fault_in, known_to, level_of, levels_of, root_in, seen_in, todo_in}

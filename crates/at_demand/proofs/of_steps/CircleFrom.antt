@@ -127,7 +127,7 @@ module _ (rules : Rules) (s : Shown) (exact : Bool) (before mid : Entries) (f m 
             (subst (λ ls. IsOpen (contents s) (meaning rules) (under ls) i)
             (sym (ap (λ (l : Level ℕ). l ∷ u.below) a.is.last ∙ ap (λ ls. level_of new.inst new.level ∷ ls) a.is.below)) opens)
 
-    -- all that is worth keeping is kept, where no attribute is circular
+    -- all that is worthy is kept, where no attribute is circular
     worthy : IsTrue exact → AreSpare rules (contents s) last → IsSparingTurns rules (contents s) last new → HasNoneCircular rules →
         HasWorthy rules (contents s) (asked_by new) end
     worthy k spare had none =
@@ -142,7 +142,7 @@ module _ (rules : Rules) (s : Shown) (exact : Bool) (before mid : Entries) (f m 
         (subst (λ b. IsGoing rules (class_shown s) (contents s) last new.found.entries new.inst b) is (let l = later in l.going)))
         (tried_plainly none) (asked_by new) (asked_among new.waiting.entries new.level new.inst p.level p.levels))
 
-    -- all that is worth keeping of what the search has met is kept
+    -- all that is worthy and that the search has met is kept
     worthy_met : IsTrue exact → AreSpare rules (contents s) last → IsSparingTurns rules (contents s) last new →
         ((j : Instance ℕ) (v : Value ℕ) → IsSeenBy new j → HasValue (contents s) (meaning rules) j v → IsSome
         (known_to end last_one j)) →

@@ -1,11 +1,11 @@
 -- A turn that doesn't answer the question is counted.
-use Rattle.std.proofs.Common.{◌≡◌, ◌⊎◌, ◌+◌, ◌*◌, ◌≤◌, ℕ, suc, Bool, List, [], ◌∷◌, length, Option, Some, None, Result, Ok, Err, inl, inr, refl, sym, ap, ◌∙◌, subst, arith}
+use Rattle.std.proofs.Common.{◌≡◌, ◌+◌, ◌≤◌, ℕ, suc, Bool, List, [], Option, Some, None, Result, Ok, Err, refl, sym, subst, arith}
 use Rattle.std.specs.Prelude.{IsTrue}
 use Rattle.std.specs.declared.alloc.AllocError.{AllocError}
 use Rattle.at_model.specs.Meaning.{Among}
 use Rattle.at_model.specs.Rules.{Rules}
 use Rattle.at_model.specs.Run.{Value, Instance}
-use Rattle.at_model.specs.Turning.{IsOn as ChainIsOn, Turned as ChainTurned, UnderWay, asked, turns_of}
+use Rattle.at_model.specs.Turning.{IsOn as ChainIsOn, asked, turns_of}
 use Rattle.at_model.specs.of_fixpoints.Searching.{Search, Turned, most_turns}
 use Rattle.at_model.proofs.of_machines.Bounded.{one_turn as one_of_chain}
 use Rattle.at_rules.specs.Circular.{HasNoneCircular}
@@ -16,7 +16,7 @@ use Rattle.at_demand.specs.declared.question.Question.{Question}
 use Rattle.at_demand.specs.declared.trials.Trials.{Trials}
 use Rattle.at_demand.specs.declared.trying.Trying.{Trying}
 use Rattle.at_demand.specs.Answerable.{IsBasis}
-use Rattle.at_demand.specs.Answered.{GainsAtMost, HasTurnedOn, HasTurnedWith, HasWorthyFor, IsCounted}
+use Rattle.at_demand.specs.Answered.{GainsAtMost, HasTurnedOn, HasTurnedWith, HasWorthyFor}
 use Rattle.at_demand.specs.Covering.{AreWhole}
 use Rattle.at_demand.specs.KeptTrials.{Fit, FitAt}
 use Rattle.at_demand.specs.Known.{FoundKept, answer_view, equations, kept_values, meaning}

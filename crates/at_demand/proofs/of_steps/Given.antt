@@ -1,10 +1,9 @@
 -- What turns that follow each other come to, none of which answers the question.
-use Rattle.std.proofs.Common.{◌≡◌, ◌+◌, ◌<◌, ◌≤◌, ◌^◌, ℕ, suc, Bool, [], Option, Some, None, Result, Ok, Err, refl, sym, ap, ◌∙◌, subst, arith}
+use Rattle.std.proofs.Common.{◌≡◌, ◌+◌, ◌<◌, ◌^◌, ℕ, suc, Bool, [], Option, Some, None, Result, Ok, Err, refl, sym, ap, ◌∙◌, subst, arith}
 use Rattle.std.specs.Prelude.{IsTrue}
 use Rattle.std.specs.declared.alloc.AllocError.{AllocError}
 use Rattle.at_model.specs.Rules.{Rules}
 use Rattle.at_model.specs.Run.{Instance}
-use Rattle.at_model.specs.Turning.{UnderWay}
 use Rattle.at_model.specs.Turning.{Silent as ChainSilent, none as chain_none, one_more as chain_more}
 use Rattle.at_model.specs.of_fixpoints.Circles.{Answers}
 use Rattle.at_model.specs.of_fixpoints.Searching.{Level, Search, Silent, none as search_none, one_more as search_more}

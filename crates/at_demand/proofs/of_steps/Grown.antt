@@ -1,8 +1,6 @@
 -- A question stands while more comes to what is kept.
-use Rattle.std.proofs.Common.{◌≡◌, ◌⊎◌, ℕ, List, [], ◌∷◌, Option, Some, None, inl, inr, refl, sym, ap, ◌∙◌, subst, append-nil}
+use Rattle.std.proofs.Common.{◌≡◌, ◌⊎◌, ℕ, List, [], ◌∷◌, Option, Some, None, inl, inr, refl, sym, ap, ◌∙◌, append-nil}
 use Rattle.std.specs.Prelude.{IsSome}
-use Rattle.std.specs.Option.{option_map}
-use Rattle.std.specs.Map.{lookup}
 use Rattle.at_model.specs.Meaning.{Among, Finds}
 use Rattle.at_model.specs.Rules.{Rules}
 use Rattle.at_model.specs.Run.{Value, Instance}
@@ -10,17 +8,14 @@ use Rattle.at_model.specs.of_fixpoints.Searched.{IsWhole}
 use Rattle.at_model.specs.of_fixpoints.Searching.{Search}
 use Rattle.at_model.proofs.of_formulas.UniqueOutcomes.{once}
 use Rattle.at_store.specs.Shown.{Shown, contents}
-use Rattle.at_body.specs.Same.{same_instance}
 use Rattle.at_cache.specs.Kept.{Entries}
 use Rattle.at_demand.proofs.of_levels.Followed.{followed_same}
 use Rattle.at_demand.specs.declared.evaluation.Find.{Find}
 use Rattle.at_demand.specs.declared.question.Question.{Question}
-use Rattle.at_demand.specs.Known.{IsKept, KeepsEntries, found_values, kept_values, known_in, meaning}
+use Rattle.at_demand.specs.Known.{IsKept, KeepsEntries, found_values, kept_values, meaning}
 use Rattle.at_demand.specs.Levels.{IsLevel, LevelCode, StandsFor, fault_in, known_to, root_in, seen_in, todo_in}
-use Rattle.at_demand.specs.Only.{AreLean}
 use Rattle.at_demand.specs.Meant.{AreRightValues}
 use Rattle.at_demand.specs.Sound.{AreSound}
-use Rattle.at_demand.specs.Sparing.{AreSettled}
 use Rattle.at_demand.specs.Turns.{IsSparingTurns, IsStanding}
 use Rattle.at_demand.proofs.Entered.{entered_on, is_there, kept_on, not_none, there, value_on, valued_on}
 use Rattle.at_demand.proofs.of_searches.OnceTold.{covered_on}

@@ -1,4 +1,4 @@
--- What is kept again for the last instance of a question: it came with no evaluation, and is right and worth keeping.
+-- What is kept again for the last instance of a question: it came with no evaluation, and is right and worthy.
 use Rattle.std.proofs.Common.{◌≡◌, ◌⊎◌, ◌<◌, ◌^◌, ℕ, Bool, true, false, [], None, Some, inl, inr, refl, sym, ap, ◌∙◌, subst, if◌then◌else◌}
 use Rattle.std.proofs.lemmas.Option.{none-some}
 use Rattle.at_model.specs.Rules.{Rules}
@@ -62,7 +62,7 @@ settled_again exact m q _ e _ (nothing _) = again_none m e
 settled_again exact m q _ e f (one_more n _ mid _ i t before next traced absent all puts) = again_then m e mid f
     (settled_again exact m q n e mid before) (again_one exact m mid f i t traced absent puts)
 
--- and it is right, and worth keeping for the instance
+-- and it is right, and worthy of the instance
 pub gains_again : (rules : Rules) (s : Shown) → IsIdle s → (exact : Bool) (m n : Memories) (e f : Entries) (w x : ℕ) (q : Instance ℕ)
     → w < 2 ^ 64 → AreKnown rules (contents s) e [] → AreJustified rules (contents s) m → LastKept m e
     → HasKeptAgain exact m n e f w x q → Gains rules s exact q e f [] [] w x

@@ -1,11 +1,10 @@
 -- A level's search goes along where its last instance came to be kept.
-use Rattle.std.proofs.Common.{◌≡◌, ◌⊎◌, ◌+◌, ◌*◌, ◌≤◌, ℕ, length, List, [], ◌∷◌, ◌++◌, Option, Some, None, inl, inr, refl, sym, ap, ◌∙◌, subst, arith}
+use Rattle.std.proofs.Common.{◌≡◌, ℕ, [], Some, None, inl, inr, refl, sym, ap, ◌∙◌, subst, arith}
 use Rattle.std.specs.Prelude.{IsSome}
-use Rattle.std.specs.Map.{keys_of}
 use Rattle.at_model.specs.Meaning.{Among}
 use Rattle.at_model.specs.Rules.{Rules}
 use Rattle.at_model.specs.Run.{Value, Instance}
-use Rattle.at_model.specs.of_fixpoints.Searched.{HasCome, IsFresh, IsWhole, tried_at}
+use Rattle.at_model.specs.of_fixpoints.Searched.{IsWhole, tried_at}
 use Rattle.at_model.specs.of_fixpoints.Searching.{Level, Search, past, under}
 use Rattle.at_model.proofs.of_searching.FewTurns.{ended_fresh}
 use Rattle.at_model.proofs.of_searching.Steps.{has_passed}
@@ -18,7 +17,7 @@ use Rattle.at_demand.specs.declared.trials.Trials.{Trials}
 use Rattle.at_demand.specs.Answerable.{IsAnswerable}
 use Rattle.at_demand.specs.Known.{kept_values, meaning}
 use Rattle.at_demand.specs.KeptTrials.{IsNotedRight}
-use Rattle.at_demand.specs.Levels.{IsCovered, IsRooted, LevelCode, StandsFor, asked_by, fault_in, known_to, level_of, root_in, seen_in, todo_in}
+use Rattle.at_demand.specs.Levels.{IsCovered, IsRooted, LevelCode, StandsFor, asked_by, fault_in, known_to, root_in, seen_in, todo_in}
 use Rattle.at_demand.specs.Searches.{CanGoAlong, StandsBetween}
 use Rattle.at_demand.specs.Turns.{IsStanding}
 use Rattle.at_demand.proofs.Entered.{is_there}

@@ -1,6 +1,5 @@
 -- What those that wait have met stays met.
-use Rattle.std.proofs.Common.{◌≡◌, ◌⊎◌, ℕ, List, [], ◌∷◌, ◌++◌, inl, inr, refl, sym, subst}
-use Rattle.std.specs.Prelude.{IsSome}
+use Rattle.std.proofs.Common.{◌≡◌, ℕ, List, [], ◌∷◌, ◌++◌, inl, inr, refl, sym, subst}
 use Rattle.at_model.specs.Run.{Value, Instance, Contents, Demands}
 use Rattle.at_model.specs.Rules.{Rules}
 use Rattle.at_model.specs.of_fixpoints.Fixpoints.{HasValue}

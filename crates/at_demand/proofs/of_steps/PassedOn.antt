@@ -1,6 +1,6 @@
 -- A turn whose last instance came to be kept, at a level that is no search.
-use Rattle.std.proofs.Common.{◌≡◌, ◌⊎◌, ◌<◌, ◌^◌, ℕ, Bool, true, false, List, [], ◌∷◌, ◌++◌, Option, Some, None, Result, Ok, Err, inl, inr, refl, sym, ap, ◌∙◌, subst, true≢false, append-nil}
-use Rattle.std.specs.Prelude.{IfOk, IsSome, IsTrue, is_some, not}
+use Rattle.std.proofs.Common.{◌≡◌, ◌<◌, ◌^◌, ℕ, Bool, true, false, List, [], ◌∷◌, ◌++◌, Option, Some, None, Result, Ok, Err, inl, inr, refl, sym, ap, ◌∙◌, subst, true≢false, append-nil}
+use Rattle.std.specs.Prelude.{IfOk, IsSome, is_some, not}
 use Rattle.std.specs.Map.{keys_of}
 use Rattle.std.specs.declared.alloc.AllocError.{AllocError}
 use Rattle.indexmap.specs.IndexMap.{insert_entry}
@@ -11,7 +11,7 @@ use Rattle.at_model.specs.Run.{Value, Instance, Contents}
 use Rattle.at_model.specs.Turning as chain
 use Rattle.at_model.specs.Turning.{UnderWay, IsOn as ChainIsOn, Turned as ChainTurned, asked}
 use Rattle.at_model.specs.of_fixpoints.Fixpoints.{HasValue}
-use Rattle.at_model.specs.of_fixpoints.Searching.{Level, Search, Turned, begun}
+use Rattle.at_model.specs.of_fixpoints.Searching.{Search, Turned}
 use Rattle.at_model.proofs.of_machines.Bounded.{stays_on as chain_stays}
 use Rattle.at_rules.specs.Circular.{HasNoneCircular}
 use Rattle.at_store.specs.Shown.{Shown, contents}
@@ -28,15 +28,15 @@ use Rattle.at_demand.specs.declared.trials.Trials.{Trials}
 use Rattle.at_demand.specs.declared.trying.Trying.{Trying}
 use Rattle.at_demand.specs.Answerable.{IsBasis}
 use Rattle.at_demand.specs.Answered.{HasTurnedOn, HasWorthyFor}
-use Rattle.at_demand.specs.ChainSteps.{HasPassedOn, IsEnded, IsPassedTo, IsUnchanged}
+use Rattle.at_demand.specs.ChainSteps.{HasPassedOn, IsPassedTo, IsUnchanged}
 use Rattle.at_demand.specs.Covering.{AreWhole}
-use Rattle.at_demand.specs.Known.{ArePlain, FoundKept, answer_view, equations, kept_values, known_in, meaning}
+use Rattle.at_demand.specs.Known.{ArePlain, FoundKept, equations, kept_values, known_in, meaning}
 use Rattle.at_demand.specs.KeptTrials.{AreTrials, Fit, FitAt, IsNotedRight}
 use Rattle.at_demand.specs.LastTried.{AwaitsLast, IsPassedOver}
-use Rattle.at_demand.specs.Levels.{LevelCode, StandsFor, asked_by, known_to, level_of, levels_of, root_in}
+use Rattle.at_demand.specs.Levels.{LevelCode, StandsFor, asked_by, level_of, levels_of, root_in}
 use Rattle.at_demand.specs.Only.{AreLean}
 use Rattle.at_demand.specs.Sound.{AreSound}
-use Rattle.at_demand.specs.Sparing.{AreSettled, AreSpare}
+use Rattle.at_demand.specs.Sparing.{AreSettled}
 use Rattle.at_demand.specs.Turns.{HasTurnedBy, HaveMet, IsSparingTurns, IsStanding, found_of, passed_of, under_way}
 use Rattle.at_demand.proofs.Entered.{is_there}
 use Rattle.at_demand.proofs.Fitting.{ended_fit, noted_same}
@@ -48,11 +48,11 @@ use Rattle.at_demand.proofs.of_searches.Reaching.{asked_at}
 use Rattle.at_demand.proofs.of_levels.Resolving.{facts_same}
 use Rattle.at_demand.proofs.of_searches.Returning.{with_level}
 use Rattle.at_demand.proofs.of_levels.Wholes.{fresh_on, stays_on}
-use Rattle.at_demand.proofs.of_steps.Ascending.{alone_at, below_pop, ends_kept, found_so, risen, rises_kept, search_is, stands_risen, start_is, waited}
-use Rattle.at_demand.proofs.of_steps.Counted.{IsChain, StandsSo, answered_so, broken_on, counted_so}
+use Rattle.at_demand.proofs.of_steps.Ascending.{below_pop, ends_kept, risen, rises_kept, search_is, stands_risen, start_is, waited}
+use Rattle.at_demand.proofs.of_steps.Counted.{StandsSo, answered_so, broken_on, counted_so}
 use Rattle.at_demand.proofs.of_steps.Met.{met_pop}
 use Rattle.at_demand.proofs.of_steps.Turning.{gains_none}
-use Rattle.at_demand.proofs.of_steps.Unchanged.{asked_stays, sparing_same, standing_same, way_stays}
+use Rattle.at_demand.proofs.of_steps.Unchanged.{sparing_same, standing_same, way_stays}
 
 again : (look : Contents ℕ) (equation : Equations ℕ) (q : Instance ℕ) (u : UnderWay ℕ) → ChainIsOn look equation q u → ChainIsOn look equation (asked u) u
 again look equation q u on = subst (λ x. ChainIsOn look equation x u) (sym on.starts) on

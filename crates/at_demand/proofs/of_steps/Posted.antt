@@ -1,8 +1,7 @@
 -- A question as it is posted.
-use Rattle.std.proofs.Common.{◌≡◌, ◌⊎◌, ◌+◌, ◌*◌, ◌≤◌, ℕ, List, [], ◌∷◌, ◌++◌, Option, Some, None, inl, inr, refl, sym, ap, ◌∙◌, subst, arith}
+use Rattle.std.proofs.Common.{◌≡◌, ◌⊎◌, ◌+◌, ℕ, List, [], ◌∷◌, ◌++◌, Option, Some, None, inl, inr, refl, sym, ap, ◌∙◌, subst, arith}
 use Rattle.std.specs.Prelude.{IsSome}
 use Rattle.std.specs.Map.{keys_of, lookup}
-use Rattle.std.specs.Option.{option_map}
 use Rattle.at_model.proofs.of_searching.LookedSteps.{looked_begun}
 use Rattle.at_model.specs.Instances.{AnyText}
 use Rattle.at_model.specs.Meaning.{Among}
@@ -11,11 +10,10 @@ use Rattle.at_model.specs.Run.{Value, Instance, Contents, Known}
 use Rattle.at_model.specs.Turning.{UnderWay, asked, turns_of}
 use Rattle.at_model.specs.Turning.{posted as chain_posted, IsOn as ChainIsOn}
 use Rattle.at_model.specs.TypedRuns.{IsWellTyped}
-use Rattle.at_model.specs.of_fixpoints.Formulas.{Forms}
 use Rattle.at_model.specs.of_fixpoints.Met.{HaveLookedAt}
 use Rattle.at_model.specs.of_fixpoints.Resting.{Leads, stays}
-use Rattle.at_model.specs.of_fixpoints.Searched.{IsFresh, IsOn, tried_at}
-use Rattle.at_model.specs.of_fixpoints.Searching.{Level, Search, begun, posted, under}
+use Rattle.at_model.specs.of_fixpoints.Searched.{IsFresh, IsOn}
+use Rattle.at_model.specs.of_fixpoints.Searching.{Level, begun, posted, under}
 use Rattle.at_model.proofs.of_machines.Bounded.{begun as chain_begun}
 use Rattle.at_model.proofs.of_searching.Turned.{begun_on}
 use Rattle.at_store.specs.Shown.{Shown, contents}
@@ -28,7 +26,7 @@ use Rattle.at_demand.specs.declared.question.Question.{Question}
 use Rattle.at_demand.specs.Known.{equations, found_values, kept_values, known_in, meaning}
 use Rattle.at_demand.specs.Levels.{IsAbout, IsLevel, IsSearch, LevelCode, StandsFor, asked_by, known_to, level_of, levels_of, root_in, todo_in}
 use Rattle.at_demand.specs.Sound.{AreSound}
-use Rattle.at_demand.specs.Turns.{HaveMet, IsBehind, IsSparingTurns, IsStanding, IsStandingPlainly, found_of, passed_of, under_way}
+use Rattle.at_demand.specs.Turns.{HaveMet, IsBehind, IsSparingTurns, IsStanding, found_of, passed_of, under_way}
 use Rattle.at_demand.specs.Covering.{AreWhole}
 use Rattle.at_demand.specs.Known.{FoundKept}
 use Rattle.at_demand.specs.Only.{AreLean}

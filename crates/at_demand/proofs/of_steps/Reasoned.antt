@@ -1,5 +1,5 @@
 -- What turns of a search let come to be kept has a reason, where a circle answers the question; so it was met, or was kept before.
-use Rattle.std.proofs.Common.{◌≡◌, ◌⊎◌, ℕ, Option, None, Some, Ok, inl, inr, refl, sym, ◌∙◌, subst}
+use Rattle.std.proofs.Common.{◌≡◌, ℕ, Option, None, Some, Ok, inl, inr, refl, sym, ◌∙◌, subst}
 use Rattle.std.specs.declared.alloc.AllocError.{AllocError}
 use Rattle.at_model.specs.Rules.{Rules}
 use Rattle.at_model.specs.Run.{Instance, Known, Value}

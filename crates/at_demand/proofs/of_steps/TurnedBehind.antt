@@ -1,5 +1,5 @@
 -- A turn behind what was kept again for the last instance.
-use Rattle.std.proofs.Common.{◌≡◌, ◌<◌, ◌^◌, ℕ, Bool, [], Option, Result}
+use Rattle.std.proofs.Common.{◌<◌, ◌^◌, ℕ, Bool, [], Option, Result}
 use Rattle.std.specs.declared.alloc.AllocError.{AllocError}
 use Rattle.at_model.specs.Rules.{Rules}
 use Rattle.at_store.specs.Shown.{Shown, contents}

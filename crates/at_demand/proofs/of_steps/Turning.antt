@@ -1,10 +1,8 @@
 -- What a turn comes to where nothing has changed, and where memory is wanting.
 use Rattle.std.proofs.Common.{◌≡◌, ◌<◌, ◌^◌, ℕ, Bool, Option, Some, None, Result, Ok, Err, inl, refl, sym, ap, ◌∙◌, subst}
-use Rattle.std.specs.Prelude.{IsTrue, IfOk, IfSome}
 use Rattle.std.specs.declared.alloc.AllocError.{AllocError}
 use Rattle.at_model.specs.Meaning.{Finds}
 use Rattle.at_model.specs.Rules.{Rules}
-use Rattle.at_model.specs.Run.{Instance}
 use Rattle.at_model.specs.Turning as chain
 use Rattle.at_model.specs.Turning.{asked}
 use Rattle.at_model.specs.of_fixpoints.Searching as search

@@ -1,25 +1,23 @@
 -- A question of which nothing has changed stands as it stood.
-use Rattle.std.proofs.Common.{◌≡◌, ◌⊎◌, ◌≤◌, ℕ, List, [], ◌∷◌, ◌++◌, Option, Some, None, inl, inr, refl, sym, ap, ◌∙◌, subst, append-nil}
+use Rattle.std.proofs.Common.{◌≡◌, ◌⊎◌, ◌≤◌, ℕ, List, [], ◌∷◌, ◌++◌, inl, inr, refl, sym, ap, ◌∙◌, subst, append-nil}
 use Rattle.std.specs.Prelude.{IsSome}
-use Rattle.std.specs.Map.{keys_of, lookup}
+use Rattle.std.specs.Map.{keys_of}
 use Rattle.at_model.specs.Meaning.{Among}
 use Rattle.at_model.specs.Rules.{Rules}
-use Rattle.at_model.specs.Run.{Value, Instance, Contents}
+use Rattle.at_model.specs.Run.{Value, Instance}
 use Rattle.at_model.specs.Turning.{UnderWay, IsOn as ChainIsOn, asked, turns_of}
 use Rattle.at_model.specs.of_fixpoints.Resting.{Leads}
 use Rattle.at_model.specs.of_fixpoints.Searched.{IsFresh, IsOn, tried_at}
 use Rattle.at_model.specs.of_fixpoints.Searching.{Search, most_turns, under}
-use Rattle.at_rules.specs.Circular.{HasNoneCircular}
 use Rattle.at_store.specs.Shown.{Shown, contents}
 use Rattle.at_cache.specs.Kept.{Entries}
 use Rattle.at_search.specs.Recorded.{IsMarked}
 use Rattle.at_demand.proofs.of_levels.Followed.{followed_same}
-use Rattle.at_demand.specs.declared.evaluation.Find.{Find}
 use Rattle.at_demand.specs.declared.question.Question.{Question}
 use Rattle.at_demand.specs.ChainSteps.{IsUnchanged}
 use Rattle.at_demand.specs.Covering.{AreWhole}
-use Rattle.at_demand.specs.Known.{FoundKept, equations, kept_values, known_in, meaning}
-use Rattle.at_demand.specs.Levels.{IsAbout, IsLevel, LeadsToFault, LevelCode, StandsFor, all_levels, asked_by, known_to, level_of, levels_of, root_in, seen_in, todo_in}
+use Rattle.at_demand.specs.Known.{FoundKept, equations, known_in, meaning}
+use Rattle.at_demand.specs.Levels.{IsAbout, IsLevel, LeadsToFault, LevelCode, StandsFor, all_levels, asked_by, known_to, level_of, levels_of, root_in, todo_in}
 use Rattle.at_demand.specs.Only.{AreLean}
 use Rattle.at_demand.specs.Sparing.{AreSettled}
 use Rattle.at_demand.specs.Turns.{HaveMet, IsSparingTurns, IsStanding, IsStandingPlainly, found_of, passed_of, under_way}

@@ -1,5 +1,5 @@
--- What is settled for an instance is worth keeping for it, and stays right, spare and counted.
-use Rattle.std.proofs.Common.{◌≡◌, ℕ, suc, ◌+◌, ◌-◌, ◌^◌, ◌<◌, min, Bool, true, false, List, [], Some, None, inl, refl, sym, ap, ◌∙◌, subst, arith, if◌then◌else◌, true≢false}
+-- What is settled for an instance is worthy of it, and stays right, spare and counted.
+use Rattle.std.proofs.Common.{◌≡◌, ℕ, suc, ◌+◌, ◌-◌, ◌^◌, ◌<◌, min, Bool, true, false, List, Some, None, inl, refl, sym, ap, ◌∙◌, subst, arith, if◌then◌else◌, true≢false}
 use Rattle.std.specs.List.{list_any}
 use Rattle.at_model.specs.Run.{Value, Instance, Location}
 use Rattle.at_model.specs.Rules.{Rules}

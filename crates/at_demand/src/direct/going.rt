@@ -65,7 +65,7 @@ impl Level {
 
 impl Direct {
     // The value of an instance that isn't kept, by expressions that nest so deep at most, with those of the instances that they demand; then all
-    // that is worth keeping for it is kept.
+    // that is worthy of it is kept.
     pub fn answer<K: Keeper>(
         &mut self,
         keeper: &mut K,

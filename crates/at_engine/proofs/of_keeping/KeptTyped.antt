@@ -7,7 +7,7 @@ use Rattle.at_model.specs.Instances.{AnyText}
 use Rattle.at_model.specs.Paths.{Node, tree_at}
 use Rattle.at_model.specs.Rules.{Rules, Kind}
 use Rattle.at_model.specs.Rules as model
-use Rattle.at_model.specs.Run.{Value, Int, Truth, Text, Ref, Instance, Location}
+use Rattle.at_model.specs.Run.{Value, Int, Truth, Text, Instance, Location}
 use Rattle.at_model.specs.Trees.{Tree, class_of, conforms}
 use Rattle.at_model.specs.Touches.{touches}
 use Rattle.at_model.specs.TypedRuns.{AreArguments, IsOfKind, IsWellTyped, class_at}

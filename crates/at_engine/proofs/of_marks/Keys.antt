@@ -1,5 +1,5 @@
 -- Marks in their map: what is found of a key, and what is left when it is taken out.
-use Rattle.std.proofs.Common.{◌≡◌, ◌∙◌, ◌+◌, ◌≤◌, ℕ, suc, zero, Bool, true, false, cond, not, ◌&&◌, nat_eq, nat_lt, List, [], ◌∷◌, ◌++◌, length, filter, map, position, Option, Some, None, is_some, option_map, slice_get, arith, refl, sym, ap, subst}
+use Rattle.std.proofs.Common.{◌≡◌, ◌∙◌, ◌+◌, ◌≤◌, ℕ, suc, zero, Bool, true, false, cond, not, ◌&&◌, nat_eq, nat_lt, List, [], ◌∷◌, ◌++◌, length, filter, position, Option, Some, None, is_some, option_map, slice_get, arith, refl, sym, ap, subst}
 use Rattle.std.specs.Prelude.{MatchOption, remove}
 use Rattle.std.specs.Cow.{cow_str_bytes}
 use Rattle.std.specs.List.{find, position_or_len, AllByRecursion, IsDistinct}

@@ -28,7 +28,7 @@ use Rattle.at_engine.specs.Making.{WentOn}
 use Rattle.at_engine.specs.Serving.{Calls}
 use Rattle.at_engine.specs.Hearing.{IsClosed}
 use Rattle.at_engine.specs.Telling.{IsAnswerTo, IsSaid}
-use Rattle.at_engine.specs.Turned.{HasGiven, HasTried, HasTurned, gives, is_memory, none_open}
+use Rattle.at_engine.specs.Turned.{HasGiven, HasTried, HasTurned, gives, none_open}
 use Rattle.at_engine.specs.Turning.{Attends, Came, CountsTurns, EndsSo, HasEnded, HasGone, Reopens, RunsOut, StandsAt, TakesOff, told_of}
 use Rattle.at_engine.specs.declared.engine.Engine.{Engine}
 use Rattle.at_engine.specs.declared.engine.saying.Told.{Told}
@@ -38,7 +38,7 @@ use Rattle.at_engine.proofs.of_keeping.GoneOn.{went_along}
 use Rattle.at_engine.proofs.of_turns.Counted.{counts_refused, counts_same, out_behind, silent_same, some_given, some_silent}
 use Rattle.at_engine.proofs.of_turns.Openings.{TurnTold, gone, is_numbered, told_err, told_ok}
 use Rattle.at_engine.proofs.Positions.{get_set, there_at}
-use Rattle.at_engine.proofs.of_turns.Turnings.{answered_at, ran_out_at, silent_one, silent_turns, told_turns, without_it}
+use Rattle.at_engine.proofs.of_turns.Turnings.{answered_at, ran_out_at, silent_turns, told_turns, without_it}
 
 -- the list begins with an element
 pub first_there : {A : Type 0} (xs : List A) → 0 < length xs → (x : A) × (rest : List A) × (xs ≡ x ∷ rest)

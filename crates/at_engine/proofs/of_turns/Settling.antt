@@ -1,6 +1,6 @@
 -- A question that is given all turns that it needs.
 use Rattle.std.proofs.Common.{◌≡◌, ℕ, ◌+◌, ◌-◌, ◌*◌, ◌<◌, ◌≤◌, List, [], ◌∷◌, length, Option, Some, None, ap, arith, refl, subst, sym}
-use Rattle.std.specs.Prelude.{Bool, IfNone, IfOk, IfSome, OnErr, Result, Ok, Err}
+use Rattle.std.specs.Prelude.{Bool, IfNone, IfOk, OnErr, Result, Ok, Err}
 use Rattle.std.specs.Option.{option_map}
 use Rattle.std.specs.List.{flat_map}
 use Rattle.at_model.specs.Alike.{ListLike, ValueLike, end, int, more, ref, text, truth}

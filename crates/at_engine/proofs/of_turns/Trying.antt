@@ -1,19 +1,18 @@
 -- What comes of turns of the question at a position.
-use Rattle.std.proofs.Common.{◌≡◌, ℕ, ◌+◌, ◌<◌, ◌≤◌, Bool, List, [], length, Option, Some, None, Result, Ok, Err, IfOk, refl, sym, ap, ◌∙◌, subst, arith, inl, inr}
-use Rattle.std.specs.Prelude.{slice_get, slice_set, IsSome, IfSome, IsTrue}
-use Rattle.std.specs.Option.{option_map}
+use Rattle.std.proofs.Common.{◌≡◌, ℕ, ◌<◌, Bool, List, [], length, Option, Some, None, Result, Ok, Err, refl, sym, ap, ◌∙◌, subst, arith, inl, inr}
+use Rattle.std.specs.Prelude.{slice_get, slice_set, IfSome, IsTrue}
 use Rattle.at_model.specs.Edits.{max_nodes}
 use Rattle.at_model.specs.Alike.{AnswerLike, InstanceLike, Names}
-use Rattle.at_model.specs.Machine.{Refuses, answer_form, line_of}
+use Rattle.at_model.specs.Machine.{answer_form, line_of}
 use Rattle.at_model.specs.Meaning.{Answer}
 use Rattle.at_model.specs.Paths.{Node}
-use Rattle.at_model.specs.Replies.{Form as FormOf, Refused}
+use Rattle.at_model.specs.Replies.{Refused}
 use Rattle.at_model.specs.Run.{Instance}
 use Rattle.at_protocol.specs.ReplyView.{code_view}
 use Rattle.at_protocol.specs.declared.reply.Form.{Form}
 use Rattle.at_protocol.specs.declared.reply.Form.TheVariants as form
 use Rattle.at_protocol.specs.declared.reply.Refusal.{Refusal}
-use Rattle.at_store.specs.Shown.{Shown, contents, path, tree}
+use Rattle.at_store.specs.Shown.{contents, path, tree}
 use Rattle.at_cache.specs.Kept.{Entries}
 use Rattle.at_cache.specs.Traced.{Memories}
 use Rattle.at_demand.specs.Known.{answer_view}
@@ -26,11 +25,11 @@ use Rattle.at_demand.specs.declared.answer.Answer.{Answer as AnswerCode}
 use Rattle.at_demand.specs.declared.demand.Demand.{Demand}
 use Rattle.at_demand.specs.declared.question.Question.{Question}
 use Rattle.at_engine.specs.Engines.{marks_of, rules_of, state_of, IsHeld, IsTyped}
-use Rattle.at_engine.specs.Holding.{AreKeptTyped, HasBegun, IsBegunFor, IsPostedOn, IsSoundWith, words_verdict}
+use Rattle.at_engine.specs.Holding.{AreKeptTyped, HasBegun, IsBegunFor, IsPostedOn, IsSoundWith}
 use Rattle.at_engine.specs.Keeping.{IsSpare, IsSpareWith, IsSparingOn}
 use Rattle.at_engine.specs.Posted.{posted_view}
 use Rattle.at_engine.specs.Telling.{IsAnswerTo, IsToldAs}
-use Rattle.at_engine.specs.Turning.{Attends, Begins, BeginsSparing, BreaksOffIn, Came, CameFrom, CanAnswer, CanTurn, CountsTurns, HasGone, HasTurnedUpTo, IsBegun, Reopens, TakesOut, StandsAt}
+use Rattle.at_engine.specs.Turning.{Attends, Begins, BeginsSparing, BreaksOffIn, Came, CameFrom, CanAnswer, CanTurn, HasGone, HasTurnedUpTo, IsBegun, Reopens, TakesOut, StandsAt}
 use Rattle.at_engine.specs.declared.engine.Engine.{Engine}
 use Rattle.at_engine.specs.declared.engine.turning.Begun.{Begun}
 use Rattle.at_engine.specs.declared.engine.turning.Begun.TheVariants as begun

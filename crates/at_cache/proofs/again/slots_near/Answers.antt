@@ -1,4 +1,4 @@
-use Rattle.std.proofs.Common.{◌++◌, ◌∙◌, ◌∷◌, [], List, ℕ, arith, ap, sym, refl, subst, take_all}
+use Rattle.std.proofs.Common.{◌++◌, ◌∙◌, ◌∷◌, [], ℕ, arith, ap, sym, refl, subst, take_all}
 use Rattle.at_cache.specs.Info.{memory_of}
 use Rattle.at_cache.specs.Putting.{AreTaken}
 use Rattle.at_cache.specs.Recorded.{AreOf}

@@ -1,4 +1,4 @@
-use Rattle.std.proofs.Common.{◌≡◌, ℕ, Contains, Some, subst, sym, take_all}
+use Rattle.std.proofs.Common.{◌≡◌, Contains, Some, subst, sym, take_all}
 use Rattle.at_cache.specs.Folding.{FoldsAt, slots_at}
 use Rattle.at_cache.specs.Info.{Info, memory_of}
 use Rattle.at_cache.proofs.Taking.{none_in}

@@ -1,10 +1,9 @@
-use Rattle.std.proofs.Common.{◌≡◌, ◌∙◌, ap, append-nil, sym, subst, List, [], ℕ, refl}
+use Rattle.std.proofs.Common.{◌∙◌, ap, append-nil, sym, subst, List, [], refl}
 use Rattle.at_cache.specs.declared.edge.Edge.{Edge}
 use Rattle.at_cache.specs.Edges.{edges_in}
 use Rattle.at_cache.specs.Flushing.{Work}
 use Rattle.at_cache.specs.Info.{Memory, memory_of}
 use Rattle.at_cache.specs.Marking.{Aside, seen_among, seen_by}
-use Rattle.at_cache.specs.Putting.{users_at}
 use Rattle.at_cache.specs.Standings.{seen}
 use Rattle.at_cache.proofs.of_cut.Passing.{past_aside, seen_out, users_come}
 use Rattle.at_cache.proofs.cutting.doom_users.Goals as goal

@@ -1,6 +1,6 @@
-use Rattle.std.proofs.Common.{◌≡◌, ◌∙◌, ◌+◌, ap, sym, subst, length, slice_set, arith, true≢false}
+use Rattle.std.proofs.Common.{◌∙◌, ◌+◌, ap, sym, length, slice_set, arith, true≢false}
 use Rattle.at_cache.specs.Marking.{seen_among}
-use Rattle.at_cache.specs.Standings.{but_for, is_shown, standing_of}
+use Rattle.at_cache.specs.Standings.{but_for, is_shown}
 use Rattle.at_cache.proofs.of_cut.Seeing.{nothing_shown, past_nothing, set_fewer, set_room, taken_past, taken_set}
 use Rattle.at_cache.proofs.cutting.take_from.Goals as goal
 

@@ -1,4 +1,4 @@
-use Rattle.std.proofs.Common.{◌≡◌, ◌↔◌, ℕ, None, nat_eq, sym, subst}
+use Rattle.std.proofs.Common.{◌↔◌, ℕ, nat_eq, sym, subst}
 use Rattle.at_model.specs.Meaning as plain
 use Rattle.at_model.specs.Support as support
 use Rattle.at_model.specs.of_fixpoints.Circles.{Answers}

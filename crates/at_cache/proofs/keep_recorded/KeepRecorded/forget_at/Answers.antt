@@ -1,4 +1,4 @@
-use Rattle.std.proofs.Common.{ap, subst, sym}
+use Rattle.std.proofs.Common.{subst, sym}
 use Rattle.at_cache.specs.Finding.{edges_to}
 use Rattle.at_cache.specs.Kept.{Answers, LeavesUntouched, LosesTouched}
 use Rattle.at_cache.specs.Recorded.{IsIndexed, kept_in}

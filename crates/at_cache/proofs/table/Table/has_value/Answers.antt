@@ -1,6 +1,3 @@
-use Rattle.std.proofs.Common.{ap, option_map, sym, ◌∙◌}
-use Rattle.std.proofs.lemmas.Option.{none-some}
-use Rattle.at_cache.specs.Info.{info}
 use Rattle.at_cache.proofs.Telling.{value_other, value_told}
 use Rattle.at_cache.proofs.table.Table.has_value.Goals as goal
 

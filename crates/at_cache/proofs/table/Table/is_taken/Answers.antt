@@ -1,4 +1,4 @@
-use Rattle.std.proofs.Common.{◌≡◌, ℕ, Option, ap, is_some, option_map}
+use Rattle.std.proofs.Common.{ℕ, Option, ap, is_some, option_map}
 use Rattle.at_model.specs.Run.{Instance}
 use Rattle.at_cache.specs.declared.entry.Entry.{Entry}
 use Rattle.at_cache.specs.Info.{info}

@@ -1,7 +1,7 @@
 use Rattle.std.proofs.Common.{ap, option_map, refl}
 use Rattle.slab.specs.Slab.{get}
 use Rattle.at_cache.specs.Info.{info}
-use Rattle.at_cache.proofs.Moving.{at_same, placed_same}
+use Rattle.at_cache.proofs.Moving.{at_same}
 use Rattle.at_cache.proofs.table.Table.order_slots.Goals as goal
 
 pub returns-then-len-before-clause-same : goal.returns-then-len-before-clause-same

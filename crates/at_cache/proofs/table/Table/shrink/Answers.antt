@@ -1,4 +1,4 @@
-use Rattle.std.proofs.Common.{ℕ, List, None, ap, option_map, subst, sym}
+use Rattle.std.proofs.Common.{ℕ, List, ap, option_map, subst, sym}
 use Rattle.slab.specs.Slab.{get}
 use Rattle.at_model.specs.Run.{Instance}
 use Rattle.at_cache.specs.Attributes.{HaveCome}

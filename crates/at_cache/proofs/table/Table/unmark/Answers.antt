@@ -1,4 +1,4 @@
-use Rattle.std.proofs.Common.{◌∙◌, ap, sym, refl}
+use Rattle.std.proofs.Common.{sym, refl}
 use Rattle.slab.specs.Slab.{get}
 use Rattle.at_cache.specs.declared.mark.Mark.TheVariants as mark
 use Rattle.at_cache.specs.Marking.{unmarked}

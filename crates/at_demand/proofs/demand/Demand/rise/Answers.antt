@@ -1,5 +1,4 @@
-use Rattle.std.proofs.Common.{ap, refl, ◌∙◌}
-use Rattle.at_model.specs.Meaning.{Finds, Outcomes}
+use Rattle.std.proofs.Common.{refl, ◌∙◌}
 use Rattle.at_body.specs.Values.{value_view}
 use Rattle.at_demand.proofs.of_levels.Resolving.{none_waits, rise_none, risen_value}
 use Rattle.at_demand.proofs.demand.Demand.rise.Goals as goal

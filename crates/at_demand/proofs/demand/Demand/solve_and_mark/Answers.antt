@@ -1,4 +1,3 @@
-use Rattle.std.proofs.Common.{Ok, subst}
 use Rattle.std.specs.Map.{keys_of}
 use Rattle.at_demand.proofs.of_groups.MarkedSolved.{marked_solved, solving_broke}
 use Rattle.at_demand.proofs.demand.Demand.solve_and_mark.Goals as goal

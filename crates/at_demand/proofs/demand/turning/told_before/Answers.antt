@@ -1,5 +1,5 @@
 use Rattle.std.proofs.Common.{◌≡◌, ℕ, Bool, true, false, List, Option, Some, None, Result, Ok, Err, sym, ap, ◌∙◌, true≢false}
-use Rattle.std.specs.Prelude.{IfOk, IfSome, IsSome, is_some, not}
+use Rattle.std.specs.Prelude.{IfOk, IfSome, IsSome, not}
 use Rattle.std.specs.Map.{keys_of, lookup}
 use Rattle.std.specs.Option.{option_map}
 use Rattle.std.specs.declared.alloc.AllocError.{AllocError}

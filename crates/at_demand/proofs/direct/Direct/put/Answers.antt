@@ -1,4 +1,4 @@
-use Rattle.std.proofs.Common.{◌≡◌, ℕ, Some, None, map, subst}
+use Rattle.std.proofs.Common.{ℕ, Some, map, subst}
 use Rattle.at_model.specs.Run.{Instance}
 use Rattle.at_store.specs.Located.{loc_view}
 use Rattle.at_body.specs.Values.{value_view}

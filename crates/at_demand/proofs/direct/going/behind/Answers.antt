@@ -1,4 +1,4 @@
-use Rattle.std.proofs.Common.{◌≡◌, IfSome, List, inr, refl, subst}
+use Rattle.std.proofs.Common.{IfSome, List, inr, refl, subst}
 use Rattle.std.proofs.lemmas.Result.{IfOk-weaker}
 use Rattle.at_store.specs.Shown.{contents}
 use Rattle.at_body.specs.declared.value.Value.{Value}

@@ -1,4 +1,4 @@
-use Rattle.std.proofs.Common.{◌≡◌, IfSome, subst}
+use Rattle.std.proofs.Common.{IfSome, subst}
 use Rattle.at_apply.specs.Place.{place_at}
 use Rattle.at_demand.specs.InParts.{AsksInner}
 use Rattle.at_demand.proofs.of_parts.AtOnce.{plain_come}

@@ -1,4 +1,4 @@
-use Rattle.std.proofs.Common.{◌≡◌, false, sym, rules}
+use Rattle.std.proofs.Common.{◌≡◌, false, rules}
 use Rattle.at_model.specs.Rules.{is_lazy}
 use Rattle.at_demand.proofs.of_nesting.Ground.{own_of}
 use Rattle.at_demand.proofs.direct.keeping.is_inner.Goals as goal

@@ -1,5 +1,5 @@
-use Rattle.std.proofs.Common.{◌≡◌, Bool, true, false, Option, Some, None, inl, inr, refl, sym, ap, ◌∙◌, true≢false}
-use Rattle.std.specs.Prelude.{IsSome, is_some, not}
+use Rattle.std.proofs.Common.{◌≡◌, Bool, true, false, Option, Some, None, inl, inr, refl, ap, ◌∙◌, true≢false}
+use Rattle.std.specs.Prelude.{is_some, not}
 use Rattle.at_demand.proofs.trials.Trials.end_last.Goals as goal
 
 none_of : {A : Type 0} (o : Option A) (b : Bool) → is_some o ≡ not b → b ≡ true → o ≡ None

@@ -1,4 +1,4 @@
-use Rattle.std.proofs.Common.{Option, None, Some, Ok, refl, subst, ℕ}
+use Rattle.std.proofs.Common.{Option, Ok, refl, subst}
 use Rattle.std.proofs.lemmas.Result.{err_from_is_err_and}
 use Rattle.std.specs.declared.alloc.AllocError.{AllocError}
 use Rattle.at_demand.specs.declared.answer.Answer.{Answer as AnswerCode}

@@ -1,4 +1,4 @@
-use Rattle.std.proofs.Common.{Some, refl, sym}
+use Rattle.std.proofs.Common.{refl, sym}
 use Rattle.at_store.specs.Shown.{path}
 use Rattle.at_engine.specs.Marks.{listed, mark_of}
 use Rattle.at_engine.proofs.of_marks.Keys.{listed_at, listed_past}
