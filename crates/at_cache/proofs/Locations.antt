@@ -1,12 +1,11 @@
 -- The test of locations is equality; what a facet stands for.
-use Rattle.std.proofs.Common.{◌≡◌, inl, inr, ℕ, zero, suc, ◌+◌, ◌*◌, ◌/◌, ◌%◌, ◌^◌, ◌<◌, ◌≤◌, max, List, ◌∷◌, Bool, true, false, true≢false, not, ◌&&◌, ◌||◌, Option, None, Some, Contains, length, map, nat_eq, if◌then◌else◌, bit_or, refl, sym, ap, ◌∙◌, subst, arith}
+use Rattle.std.proofs.Common.{◌≡◌, inl, inr, ℕ, zero, suc, ◌+◌, ◌*◌, ◌/◌, ◌%◌, ◌^◌, ◌<◌, ◌≤◌, max, List, ◌∷◌, Bool, true, false, true≢false, not, ◌&&◌, ◌||◌, Option, None, Some, Contains, map, nat_eq, if◌then◌else◌, bit_or, refl, sym, ap, ◌∙◌, subst, arith}
 use Rattle.std.specs.Int.{bit_at}
 use Rattle.std.proofs.lemmas.Bool.{and_from, cases_eq, eqb-true, eq-eqb, ne_eqb, or_cases, or_left, or_right}
 use native.Mathlib.Nat.{div-add-mod', mod-lt}
 use Rattle.std.proofs.Math.Pow.{pow_pos}
 use Rattle.std.proofs.lemmas.Nat.{one_shl}
 use Rattle.std.proofs.lemmas.Nat.Bits.{bit_at-lt, bit_at_above, bit_at-pow_other, bit_at-pow_same, bit_at_or}
-use Rattle.std.proofs.lemmas.List.{length-map}
 use Rattle.std.proofs.lemmas.Option.{none-some, same_Some}
 use Rattle.slab.proofs.SlabLemmas.{Contains-cons, Contains-cons_cases}
 use Rattle.at_model.specs.Run.{Location, Is, Tok, Slot, Up, Idx}

@@ -1,5 +1,5 @@
 -- Runs: one edge tells of all that sit behind a place of a run, up to another one.
-use Rattle.std.specs.Prelude.{◌≡◌, ◌≤◌, ◌<◌, ◌+◌, ◌&&◌, ◌||◌, ◌⊎◌, ℕ, Bool, true, false, not, List, [], ◌∷◌, Option, None, Some, Contains, if◌then◌else◌, length, nat_eq, nat_lt, slice_get}
+use Rattle.std.specs.Prelude.{◌≡◌, ◌≤◌, ◌<◌, ◌&&◌, ◌||◌, ◌⊎◌, ℕ, Bool, true, false, not, List, [], ◌∷◌, None, Some, Contains, if◌then◌else◌, nat_eq, nat_lt, slice_get}
 use Rattle.std.specs.List.{flat_map}
 use Rattle.at_model.specs.Run.{Location}
 use Rattle.at_cache.specs.declared.edge.Edge.{Edge}

@@ -1,8 +1,7 @@
 //! One edge for locations that are looked at as they were before.
 
-ghost use Rattle.std.specs.Prelude.{◌≡◌, ◌≤◌, ◌<◌, ◌^◌, ℕ, false, true, Some, Contains, IfOk, IsTrue, OnOk, length, map, nat_eq, slice_get};
+ghost use Rattle.std.specs.Prelude.{◌≡◌, ◌≤◌, ◌<◌, ◌^◌, ℕ, false, true, Some, Contains, IfOk, IsTrue, OnOk, length, map};
 ghost use Rattle.at_store.specs.Located.{loc_view};
-ghost use Rattle.at_model.specs.Run.{Location};
 ghost use Rattle.at_cache.specs.Info.{memory_of};
 ghost use Rattle.at_cache.specs.declared.run.Seat.{Seat};
 ghost use Rattle.at_cache.specs.Runs.{Adds, AddsReads, AreApart, ArePast, AreSeated, Follows, Gains, HoldsReach, ListsBut, Lose, SitsAt, count_of, edges_on, edges_over, is_within};

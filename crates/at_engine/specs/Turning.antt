@@ -160,7 +160,7 @@ TurnsLead entries memories e d p given i end o =
     AreTurns (rules_of e) e.store (memories e.demand.keeper) given (entries e.demand.keeper) p.question i
     (entries d.keeper) end o
 
--- They led to the answer that is told so. With an exact keeper, all that is worth keeping for the instance is kept; for a circle, where
+-- They led to the answer that is told so. With an exact keeper, all that is worthy of the instance is kept; for a circle, where
 -- no attribute is circular.
 pub record ComesToEnd {K : Type 0} (exact : Bool) (entries : K → Entries) (memories : K → Memories) (e : Engine K) (d : Demand K)
     (p : Posted) (given : ℕ) (told : FormOf) (i : Instance ℕ) : Type 0 where
@@ -281,7 +281,7 @@ pub record CanAnswer (rules : Rules) (s : Shown) (entries : Entries) (q : Questi
   pub named : IsAskedOf rules s (asked_by q)
 
 -- It was given turns: so many, or fewer where one of them answers it, or, without a limit, until one does. What is kept is right still,
--- with an exact keeper spare where groups are kept whole, and where it was answered all that is worth keeping for it is kept; and nothing
+-- with an exact keeper spare where groups are kept whole, and where it was answered all that is worthy of it is kept; and nothing
 -- is traced anew.
 pub record HasTurnedUpTo {E : Type 0} (exact : Bool) (rules : Rules) (s : Shown) (limit : Option ℕ) (before after : Entries)
     (earlier later : Memories) (old new : Question) (r : Result (ℕ × Option AnswerCode) E) : Type 0 where

@@ -26,7 +26,7 @@ pub fn turns_where_none_is_circular()
         → BreaksOff rules s m limit before o i after → BreaksOffChain rules s m limit before (came_to o i) after }
 {}
 
-/// Where no attribute is circular, all that is worth keeping is kept for each answer, and what belongs together is kept together, whether memory
+/// Where no attribute is circular, all that is worthy of a question is kept for each answer, and what belongs together is kept together, whether memory
 /// ran out or not.
 pub fn where_none_is_circular()
     ensures worthy { (rules : Rules) → HasNoneCircular rules → (look : Contents ℕ) (i : Instance ℕ) (a : Answer ℕ) (entries : Entries)

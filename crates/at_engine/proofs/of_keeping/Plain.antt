@@ -9,7 +9,7 @@ use Rattle.at_demand.specs.Answered.{HasWorthyFor}
 use Rattle.at_demand.specs.Sparing.{HasWorthy}
 use Rattle.at_engine.specs.Keeping.{KeepsWhole}
 
--- all that is worth keeping is kept, whatever the answer is
+-- all that is worthy of the question is kept, whatever the answer is
 pub worthy_plainly : (rules : Rules) → HasNoneCircular rules → (look : Contents ℕ) (i : Instance ℕ) (a : Answer ℕ) (entries : Entries)
     → HasWorthyFor rules look i a entries → HasWorthy rules look i entries
 worthy_plainly rules none look i (Outcomes o) entries h = h

@@ -1,4 +1,4 @@
-use Rattle.std.proofs.Common.{[], append-nil, ap, sym, subst}
+use Rattle.std.proofs.Common.{[], append-nil}
 use Rattle.at_cache.proofs.forgetting.doom_listed.Goals as goal
 
 pub returns-in-Empty-clause-works : goal.returns-in-Empty-clause-works

@@ -1,5 +1,4 @@
-use Rattle.std.proofs.Common.{◌≡◌, ◌<◌, ◌≤◌, ℕ, inl, inr, arith, refl}
-use Rattle.at_cache.specs.Info.{table_len}
+use Rattle.std.proofs.Common.{inl, inr, arith, refl}
 use Rattle.at_cache.proofs.forgetting.forget_all.Goals as goal
 
 pub loop-first-init : goal.loop-first-init

@@ -1,7 +1,5 @@
-use Rattle.std.proofs.Common.{◌≡◌, ◌∷◌, ◌∙◌, [], IfSome, Option, None, Some, refl, sym}
-use Rattle.at_cache.specs.declared.edge.Edges.{Edges}
-use Rattle.at_cache.specs.Edges.{edges_in}
-use Rattle.at_cache.specs.Folding.{Refolded, slots_at}
+use Rattle.std.proofs.Common.{◌∙◌, [], refl, sym}
+use Rattle.at_cache.specs.Folding.{slots_at}
 use Rattle.at_cache.specs.Info.{memory_of}
 use Rattle.at_cache.specs.Putting.{is_current}
 use Rattle.at_cache.proofs.of_folding.Single.{refolded_stale, refolded_to}

@@ -1,5 +1,3 @@
-use Rattle.std.proofs.Common.{IfSome, sym}
-use Rattle.at_cache.specs.Edges.{edges_in}
 use Rattle.at_cache.proofs.rewriting.edges_in_place.Goals as goal
 
 pub returns-in-Some : goal.returns-in-Some

@@ -1,4 +1,4 @@
-use Rattle.std.proofs.Common.{◌≡◌, ◌⊎◌, get_or, length-set, slice_set}
+use Rattle.std.proofs.Common.{◌≡◌, get_or, length-set, slice_set}
 use Rattle.smallvec.proofs.SmallVecLemmas.{items-with_items}
 use Rattle.at_cache.specs.declared.facet.Readers.{Readers}
 use Rattle.at_cache.specs.Folding.{slots_at}

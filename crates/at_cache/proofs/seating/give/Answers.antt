@@ -1,4 +1,4 @@
-use Rattle.std.proofs.Common.{◌≡◌, ◌∙◌, inl, Some, arith, refl, slice_get, sym}
+use Rattle.std.proofs.Common.{inl, arith, refl, sym}
 use Rattle.at_cache.specs.declared.run.Run.{Run}
 use Rattle.at_cache.proofs.of_runs.Seats.{count_is, lent, set_given, set_here, set_on, set_past}
 use Rattle.at_cache.proofs.seating.give.Goals as goal

@@ -1,4 +1,4 @@
-use Rattle.std.proofs.Common.{◌≡◌, ◌∙◌, [], arith, eqb-true, length, refl, sym}
+use Rattle.std.proofs.Common.{◌≡◌, ◌∙◌, arith, eqb-true, length, refl, sym}
 use Rattle.at_cache.specs.declared.run.Run.{Run}
 use Rattle.at_cache.proofs.of_runs.Seats.{lent, none_long, set_idle, set_keeps}
 use Rattle.at_cache.proofs.seating.is_idle.Goals as goal

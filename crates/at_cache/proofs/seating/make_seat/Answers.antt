@@ -1,4 +1,4 @@
-use Rattle.std.proofs.Common.{◌≡◌, ◌+◌, ◌≤◌, ◌^◌, ◌∙◌, length, refl, rules, subst, sym}
+use Rattle.std.proofs.Common.{◌≡◌, ◌∙◌, refl, rules, subst, sym}
 use Rattle.at_cache.specs.Runs.{AreApart, AreGiven, IsFree, edges_over}
 use Rattle.at_cache.proofs.of_runs.Seats.{apart_pushed, free_pushed, given_pushed, over_pushed}
 use Rattle.at_cache.proofs.seating.make_seat.Goals as goal

@@ -1,5 +1,4 @@
-use Rattle.std.proofs.Common.{◌<◌, ◌≤◌, arith}
-use Rattle.at_cache.specs.Runs.{count_of}
+use Rattle.std.proofs.Common.{◌<◌, arith}
 use Rattle.at_cache.proofs.of_runs.Along.{adds_along, lists_along}
 use Rattle.at_cache.proofs.of_runs.Seats.{counted, has_run}
 use Rattle.at_cache.proofs.of_runs.Stretches.{adds_before, lists_kept}

@@ -1,5 +1,4 @@
 use Rattle.std.proofs.Common.{refl}
-use Rattle.at_cache.specs.declared.facet.Facet.TheVariants as facet
 use Rattle.at_cache.proofs.Beginning.{told_of_one}
 use Rattle.at_cache.proofs.facet.Facet.is_touched.Goals as goal
 

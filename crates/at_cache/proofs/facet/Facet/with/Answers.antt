@@ -1,6 +1,3 @@
-use Rattle.std.proofs.Common.{◌∙◌, ap}
-use Rattle.at_cache.specs.declared.facet.Facet.{Facet}
-use Rattle.at_cache.specs.Readers.{stands_for}
 use Rattle.at_cache.proofs.Locations.{stands_with}
 use Rattle.at_cache.proofs.facet.Facet.with.Goals as goal
 
