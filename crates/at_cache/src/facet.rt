@@ -36,22 +36,25 @@ pub struct Readers {
     pub edges: Edges,
 }
 
-/// What is looked at of a node. Of most nodes that is no more than two facets: these stand inline.
-pub type Facets = SmallVec<Readers, 2>;
-
-/// How many stand there.
+/// How many facets of a node stand inline: most nodes have no more.
 pub const INLINE: usize = 2;
 
-// So many numbers a set may have, and so many tokens and components have one of these.
+/// What is looked at of a node.
+pub type Facets = SmallVec<Readers, INLINE>;
+
+// The numbers that a set may have are below this one.
 const NUMBERS: u32 = 32;
 
+// Tokens and components before this one have such numbers.
 const NEAR: usize = 15;
 
-// The sets of the class, of the parent, and of all tokens.
+// The set of the class alone.
 const CLASS: u32 = 1;
 
+// The set of the parent alone.
 const PARENT: u32 = 2;
 
+// The set of all tokens.
 const TOKENS: u32 = 0x5555_5554;
 
 /// The number in four bytes; want of memory where it is too great for that.
