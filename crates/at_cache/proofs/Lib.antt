@@ -28,8 +28,6 @@ pub mod RowLists
 pub mod Replaced
 pub mod NoRows
 pub mod Came
-pub mod Joined
-pub mod SameRows
 pub mod of_cut
 mod of_folding
 mod of_runs

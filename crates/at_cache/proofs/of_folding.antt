@@ -2,6 +2,7 @@
 pub mod Distinct
 pub mod Folded
 pub mod Gathering
+pub mod Joined
 pub mod Linking
 pub mod Made
 pub mod Nodes
@@ -10,6 +11,7 @@ pub mod Places
 pub mod Reheld
 pub mod Relinking
 pub mod Rerun
+pub mod SameRows
 pub mod Single
 pub mod Taken
 pub mod Walking

@@ -1,7 +1,7 @@
 use Rattle.std.proofs.Common.{◌≡◌, length, nat_eq, subst, sym, true}
 use Rattle.at_cache.specs.Edges.{edges_in}
 use Rattle.at_cache.specs.declared.facet.Readers.{Readers}
-use Rattle.at_cache.proofs.Joined.{left_out}
+use Rattle.at_cache.proofs.of_folding.Joined.{left_out}
 use Rattle.at_cache.proofs.joining.is_left_out.Goals as goal
 
 pub returns-clause-same : goal.returns-clause-same

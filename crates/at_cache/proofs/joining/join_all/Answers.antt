@@ -1,4 +1,4 @@
-use Rattle.at_cache.proofs.Joined.{same_none, same_then}
+use Rattle.at_cache.proofs.of_folding.Joined.{same_none, same_then}
 use Rattle.at_cache.proofs.joining.join_all.Goals as goal
 
 pub loop-place-init : goal.loop-place-init

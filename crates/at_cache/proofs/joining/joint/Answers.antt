@@ -1,4 +1,4 @@
-use Rattle.at_cache.proofs.Joined.{are_joint}
+use Rattle.at_cache.proofs.of_folding.Joined.{are_joint}
 use Rattle.at_cache.proofs.joining.joint.Goals as goal
 
 pub returns : goal.returns

@@ -1,4 +1,4 @@
-use Rattle.at_cache.proofs.Joined.{joins_at}
+use Rattle.at_cache.proofs.of_folding.Joined.{joins_at}
 use Rattle.at_cache.proofs.joining.joint_before.Goals as goal
 
 pub returns-in-Some : goal.returns-in-Some

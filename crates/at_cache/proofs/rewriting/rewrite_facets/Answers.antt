@@ -1,7 +1,7 @@
 use Rattle.at_cache.specs.Folding.{slots_at}
 use Rattle.at_cache.specs.Info.{memory_of}
 use Rattle.at_cache.specs.Putting.{is_current}
-use Rattle.at_cache.proofs.Joined.{refolded_same}
+use Rattle.at_cache.proofs.of_folding.Joined.{refolded_same}
 use Rattle.at_cache.proofs.rewriting.rewrite_facets.Goals as goal
 
 pub returns : goal.returns
