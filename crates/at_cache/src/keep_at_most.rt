@@ -18,8 +18,8 @@ use std::alloc::{AllocError, Global};
 use std::mem;
 
 /// Keeps what a `KeepRecorded` keeps, but folds entries into those that used them at an edit that finds more than a number, so that about two
-/// thirds of it are left, three quarters where it finds many more, or fewer; where that can't be all is forgotten. One wants it where a session
-/// is long: values that are asked no more, and that no edit touches, else stay for ever.
+/// thirds of it are left, three quarters where it finds many more but not twice as many, or fewer; where that can't be all is forgotten. One
+/// wants it where a session is long: values that are asked no more, and that no edit touches, else stay for ever.
 pub struct KeepAtMost {
     alloc: Global,
     most: usize,
@@ -43,9 +43,10 @@ impl Drop for KeepAtMost {
 }
 
 // How many entries are to be left of so many. Where there are more than an eighth beyond the bound, edits like the last one fold each,
-// however few are left, and so more are.
+// however few are left, and so more are; but not where there are twice as many, since what was asked doesn't fit then.
 fn count_left(most: usize, count: usize) -> usize {
-    let room = if count.saturating_sub(most) > most / 8 {
+    let beyond = count.saturating_sub(most);
+    let room = if beyond > most / 8 && beyond < most {
         most / 4
     } else {
         most / 3
