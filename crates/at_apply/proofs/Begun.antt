@@ -1,8 +1,8 @@
 -- The beginning of an evaluation.
-use Rattle.std.proofs.Common.{◌≡◌, ◌<◌, ◌-◌, ℕ, zero, suc, Bool, true, false, List, [], ◌∷◌, ◌++◌, Option, Some, None, option_map, refl, sym, ap, ◌∙◌, subst, append_assoc, append-nil, nat_eq, map, arith}
+use Rattle.std.proofs.Common.{◌≡◌, ◌-◌, ℕ, suc, Bool, true, false, List, [], ◌∷◌, ◌++◌, Option, Some, None, refl, sym, ap, ◌∙◌, subst, append_assoc, append-nil, nat_eq, map}
 use Rattle.at_model.specs.Run.{Value, Instance, Location, Contents, Run, Is, Up, Demands, Gives, Fails, Looks, LooksTo, Null}
-use Rattle.at_model.specs.Bodies.{Expr, ref_of}
-use Rattle.at_model.specs.Rules.{Rules, attribute_name, by_equation, by_inherited, by_own, inherited_equation, is_inherited, own_equation, past_arguments}
+use Rattle.at_model.specs.Bodies.{Expr, mentioned}
+use Rattle.at_model.specs.Rules.{Rules, attribute_name, by_equation, by_inherited, by_own, inherited_equation, is_inherited, own_equation, past_arguments, past_nodes}
 use Rattle.at_model.specs.Support.{argument_classes}
 use Rattle.at_model.specs.Terms.{max_depth}
 use Rattle.at_rules.specs.Bodies.{body_view}
@@ -30,14 +30,18 @@ begun_on look old mid new r q t a b = record {
   reads = b.reads ∙ ap (λ z. z ++ b.looks) a.reads ∙ append_assoc old a.looks b.looks;
 }
 
+-- the classes of these nodes are looked at
+past_these : {A : Type 0} (look : Contents ℕ) (ns : List ℕ) (r : Run ℕ A) → LooksTo look (past_nodes ns r) (map (λ n. Is n) ns) r
+past_these look [] r = refl
+past_these look (n ∷ ns) r = (refl, past_these look ns r)
+
 -- the arguments are passed
-past_with : {A : Type 0} (look : Contents ℕ) (r q : Run ℕ A) (ls : List (Location ℕ)) → LooksTo look q ls r → (o : Option ℕ) → LooksTo look (elim o [ None ↦ q | Some n ↦ Looks (Is n) (λ c. q) ]) (elim o [ None ↦ ls | Some n ↦ Is n ∷ ls ]) r
-past_with look r q ls h None = h
-past_with look r q ls h (Some n) = (refl, h)
 
 past : {A : Type 0} (look : Contents ℕ) (vs : List (Value ℕ)) (r : Run ℕ A) → LooksTo look (past_arguments vs r) (argument_classes vs) r
 past look [] r = refl
-past look (v ∷ vs) r = past_with look r (past_arguments vs r) (argument_classes vs) (past look vs r) (ref_of v)
+past look (v ∷ vs) r =
+    looks_on look (past_nodes (mentioned v) (past_arguments vs r)) (map (λ n. Is n) (mentioned v)) (past_arguments vs r) (argument_classes vs) r
+    (past_these look (mentioned v) (past_arguments vs r)) (past look vs r)
 
 -- an evaluation by an equation of that instance, where its attribute is inherited, and where it isn't
 abbrev pub by_rule : Rules → Instance ℕ → Bool → ℕ → Run ℕ (Value ℕ)

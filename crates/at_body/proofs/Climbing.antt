@@ -2,8 +2,8 @@
 use Rattle.std.proofs.Common.{◌≡◌, ℕ, suc, List, [], ◌∷◌, ◌++◌, refl, ap, sym, ◌∙◌, nat_eq, map, Option, Some, None, append_assoc, append-nil}
 use Rattle.at_model.specs.Classes.{Classes}
 use Rattle.at_model.specs.Run.{Value, Instance, Location, Is, Up, Contents, Null, Run, Fails, Looks}
-use Rattle.at_model.specs.Bodies.{Expr, ref_of, eval}
-use Rattle.at_model.specs.Rules.{Rules, by_inherited, by_equation, inherited_equation, past_arguments, evaluation}
+use Rattle.at_model.specs.Bodies.{Expr, mentioned, eval}
+use Rattle.at_model.specs.Rules.{Rules, by_inherited, by_equation, inherited_equation, past_arguments, past_nodes, evaluation}
 use Rattle.at_model.specs.Support.{argument_classes}
 use Rattle.at_body.specs.declared.trial.Trial.{Trial}
 use Rattle.at_body.specs.Values.{value_view}
@@ -22,17 +22,20 @@ alone classes t e n vs child idle unbound this passed down =
     let p : scope (place_of t) ≡ record { this = n; names = vs; child = child } = rw (unbound, this, passed, down) refl in
     s ∙ ap (eval classes nat_eq e) p
 
--- one argument more, where it is a node or none
-past_with : {A : Type 0} (tree : Contents ℕ) (seen : List (Location ℕ)) (vs : List (Value ℕ)) (r : Run ℕ A) →
-    follow tree seen (past_arguments vs r) ≡ follow tree (seen ++ argument_classes vs) r → ((n : ℕ) → follow tree (seen ++ Is n ∷ []) (past_arguments vs r) ≡ follow tree ((seen ++ Is n ∷ []) ++ argument_classes vs) r) → (n : Option ℕ) →
-    follow tree seen (elim n [ None ↦ past_arguments vs r | Some m ↦ Looks (Is m) (λ c. past_arguments vs r) ]) ≡ follow tree (seen ++ elim n [ None ↦ argument_classes vs | Some m ↦ Is m ∷ argument_classes vs ]) r
-past_with tree seen vs r h k None = h
-past_with tree seen vs r h k (Some m) = k m ∙ ap (λ ls. follow tree ls r) (append_assoc seen (Is m ∷ []) (argument_classes vs))
+-- the classes of these nodes are looked at
+past_these : {A : Type 0} (tree : Contents ℕ) (seen : List (Location ℕ)) (ns : List ℕ) (r : Run ℕ A) →
+    follow tree seen (past_nodes ns r) ≡ follow tree (seen ++ map (λ n. Is n) ns) r
+past_these tree seen [] r = ap (λ ls. follow tree ls r) (sym (append-nil seen))
+past_these tree seen (n ∷ ns) r =
+    past_these tree (seen ++ Is n ∷ []) ns r ∙ ap (λ ls. follow tree ls r) (append_assoc seen (Is n ∷ []) (map (λ n. Is n) ns))
 
 -- the arguments are passed
 pub past : {A : Type 0} (tree : Contents ℕ) (seen : List (Location ℕ)) (vs : List (Value ℕ)) (r : Run ℕ A) → follow tree seen (past_arguments vs r) ≡ follow tree (seen ++ argument_classes vs) r
 past tree seen [] r = ap (λ ls. follow tree ls r) (sym (append-nil seen))
-past tree seen (v ∷ vs) r = past_with tree seen vs r (past tree seen vs r) (λ n. past tree (seen ++ Is n ∷ []) vs r) (ref_of v)
+past tree seen (v ∷ vs) r =
+    let first : List (Location ℕ) = map (λ n. Is n) (mentioned v) in
+    past_these tree seen (mentioned v) (past_arguments vs r) ∙ past tree (seen ++ first) vs r
+    ∙ ap (λ ls. follow tree ls r) (append_assoc seen first (argument_classes vs))
 
 -- the equation stands at the parent
 pub found : (rules : Rules) (tree : Contents ℕ) (seen : List (Location ℕ)) (name : List ℕ) (vs : List (Value ℕ)) (height h n p part : ℕ) (e : Expr) (t : Trial) →

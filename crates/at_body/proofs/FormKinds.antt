@@ -1,32 +1,31 @@
 -- A formula under way keeps to the kinds.
-use Rattle.std.proofs.Common.{◌≡◌, ℕ, Bool, true, false, not, cond, List, [], ◌∷◌, ◌++◌, map, Option, Some, None, refl, ap, sym, ◌∙◌, subst, Result, Ok, Err, IfOk, Bor, append_assoc, append-nil, length}
-use Rattle.std.specs.Prelude.{IfSome, OnOk, option_and_then, ⊤}
+use Rattle.std.proofs.Common.{◌≡◌, ℕ, Bool, true, false, cond, List, [], ◌∷◌, ◌++◌, map, Option, Some, None, refl, ap, sym, ◌∙◌, subst, Result, Ok, Err, IfOk, Bor, append_assoc, append-nil, length}
+use Rattle.std.specs.Prelude.{IfSome, option_and_then, ⊤}
 use Rattle.std.specs.Global.{Box}
-use Rattle.std.specs.List.{slice_get, AllByRecursion}
-use Rattle.at_model.specs.Classes.{is_sub, class_in}
-use Rattle.at_model.specs.Bodies.{Expr, Exprs, Not, And, Or, Choose, Call, Exists, no_exprs, expr, ref_of, truth_of}
+use Rattle.std.specs.List.{AllByRecursion}
+use Rattle.at_model.specs.Classes.{class_in}
+use Rattle.at_model.specs.Bodies.{Expr, And, Or, Choose, Call, Exists, no_exprs, expr, ref_of, truth_of}
 use Rattle.at_model.specs.Follow.{Reached, Ends, Stops, Waits, follow}
 use Rattle.at_model.specs.Instances.{AnyText}
 use Rattle.at_model.specs.Kinds.{AreTyped, HasKind, HaveKinds, IsDeclarationTyped}
 use Rattle.at_model.specs.Kinds as form
 use Rattle.at_model.specs.Rules.{Rules, Kind, Attribute, start_of}
 use Rattle.at_model.specs.Rules as model
-use Rattle.at_model.specs.Run.{Value, Int, Truth, Text, Ref, Instance, Location, Contents, Slot, Run, Gives, Fails, Looks, Demands, ◌>>=◌}
+use Rattle.at_model.specs.Run.{Value, Int, Truth, Text, Ref, Nodes, Instance, Location, Contents, Slot, Run, Gives, Fails, Looks, Demands}
 use Rattle.at_model.specs.TypedRuns.{ClassAt, IsNodeOf, IsOfKind, AreArguments, IsOfItsKind, IsTypedRun, IsWellTyped}
-use Rattle.at_model.specs.of_fixpoints.Formulas.{Formula, Known, Asks, Both, Either, is_known_as, turned}
+use Rattle.at_model.specs.of_fixpoints.Formulas.{Formula, Known, Asks, is_known_as}
 use Rattle.at_model.proofs.Below.{asked_below, sub_sub}
 use Rattle.at_model.proofs.Chained.{chained}
 use Rattle.at_model.proofs.of_typing.TypedTogether.{any_text}
 use Rattle.at_rules.specs.Bodies.{body_view, bodies_view}
 use Rattle.at_rules.specs.declared.body.Body.{Body}
 use Rattle.at_body.specs.declared.forming.Forming.{Forming}
-use Rattle.at_body.specs.declared.forming.Progress.TheVariants as progress
 use Rattle.at_body.specs.declared.task.Purpose.{Purpose}
 use Rattle.at_body.specs.declared.task.Purpose.TheVariants as purpose
 use Rattle.at_body.specs.declared.task.Task.{Task}
 use Rattle.at_body.specs.declared.task.Task.TheVariants.{Right, Join, Element}
 use Rattle.at_body.specs.declared.task.Doing.{Doing}
-use Rattle.at_body.specs.declared.task.Doing.TheVariants.{Form, Evaluate, Use, Made, Fail, Wait}
+use Rattle.at_body.specs.declared.task.Doing.TheVariants.{Form, Made}
 use Rattle.at_body.specs.declared.todo.Asking.{Asking}
 use Rattle.at_body.specs.declared.todo.Now.TheVariants.{Enter}
 use Rattle.at_body.specs.declared.trial.Step.{Step}
@@ -37,15 +36,15 @@ use Rattle.at_body.specs.Values.{value_view}
 use Rattle.at_body.specs.ValueKinds.{IsTruth, IsRef}
 use Rattle.at_body.specs.Stacked.{below}
 use Rattle.at_body.specs.Standing.{scope}
-use Rattle.at_body.specs.Pieces.{AreTwo, HasTop, IsMade, combined, put_together, together, top_of}
+use Rattle.at_body.specs.Pieces.{HasTop, combined, put_together, together, top_of}
 use Rattle.at_body.specs.Rest.{ev, resumed, reached}
 use Rattle.at_body.specs.Rest as trial
-use Rattle.at_body.specs.Typed.{PlaceKinds, scope_kinds, kinds_inside, AreBound, IsOver, IsPlaceOf, IsTypedStep, WaitsFor}
+use Rattle.at_body.specs.Typed.{PlaceKinds, scope_kinds, kinds_inside, AreBound, IsOver, IsPlaceOf, IsTypedStep}
 use Rattle.at_body.specs.Typed as typed
 use Rattle.at_body.specs.Forms.{place_of, stepped}
-use Rattle.at_body.specs.TypedForms.{AreTasks, Awaits, Calls, Completes, Continues, Decides, Evaluates, Folds, Forms, GoesOver, IsForm, IsPurpose, IsTypedDoing, IsTypedProgress, Stands, Uses}
+use Rattle.at_body.specs.TypedForms.{AreTasks, Calls, Completes, Continues, Decides, Evaluates, Folds, Forms, GoesOver, IsForm, IsPurpose, IsTypedDoing, Stands, Uses}
 use Rattle.at_body.specs.TypedForms as kinds
-use Rattle.at_body.proofs.TypedUses.{is_truth, is_ref, node_of_class, told}
+use Rattle.at_body.proofs.TypedUses.{is_truth, is_ref, node_of_class}
 use Rattle.at_body.proofs.TypedAnswers.{evaluated, scope_typed}
 use Rattle.at_body.proofs.TypedSteps.{none_more}
 use Rattle.at_body.proofs.FormRuns.{alone_there}
@@ -61,18 +60,12 @@ module _ (rules : Rules) (at : ClassAt ℕ) where
 
   -- expressions -------------------------------------------------------------------------------------------------------
 
-  opposed : (s : PlaceKinds) (a : Expr) → Has s (Not a) model.Truth → Has s a model.Truth
-  opposed s a x = by_kind model.Truth x
-    where
-      by_kind : (k : Kind) → Has s (Not a) k → Has s a model.Truth
-      by_kind _ (form.widened c d sub x) = by_kind (model.Class c) x
-      by_kind _ (form.opposite x) = x
-
   both_of : (s : PlaceKinds) (a b : Expr) → Has s (And a b) model.Truth → Has s a model.Truth × Has s b model.Truth
   both_of s a b x = by_kind model.Truth x
     where
       by_kind : (k : Kind) → Has s (And a b) k → Has s a model.Truth × Has s b model.Truth
       by_kind _ (form.widened c d sub x) = by_kind (model.Class c) x
+      by_kind _ (form.widened_all c d sub x) = by_kind (model.Nodes c) x
       by_kind _ (form.and x y) = (x, y)
 
   either_of : (s : PlaceKinds) (a b : Expr) → Has s (Or a b) model.Truth → Has s a model.Truth × Has s b model.Truth
@@ -80,11 +73,8 @@ module _ (rules : Rules) (at : ClassAt ℕ) where
     where
       by_kind : (k : Kind) → Has s (Or a b) k → Has s a model.Truth × Has s b model.Truth
       by_kind _ (form.widened c d sub x) = by_kind (model.Class c) x
+      by_kind _ (form.widened_all c d sub x) = by_kind (model.Nodes c) x
       by_kind _ (form.or x y) = (x, y)
-
-  pub not_forms : (t : Forming) (b a : Body) (e : Expr) → body_view b ≡ e → e ≡ Not (body_view a) → Forms rules at t b → Forms rules at t a
-  not_forms t b a e is shape h =
-      record { kinds = h.kinds; is = opposed h.kinds (body_view a) (subst (λ x. Has h.kinds x model.Truth) (is ∙ shape) h.is); stands = h.stands }
 
   pub and_forms : (t : Forming) (c p : Bool) (b l : Body) (r : Bor Body) → body_view b ≡ And (body_view l) (body_view r.now) → Forms rules at t b →
       Forms rules at (record t { tasks = Right c p r ∷ t.tasks }) l
@@ -104,6 +94,7 @@ module _ (rules : Rules) (at : ClassAt ℕ) where
     where
       by_kind : (k : Kind) → k ≡ model.Truth → Has h.kinds (Choose (body_view test) (body_view l.now) (body_view r.now)) k → Evaluates rules at t (purpose.Choose p l r) test
       by_kind _ e (form.widened c d sub x) = absurd cc
+      by_kind _ e (form.widened_all c d sub x) = absurd cc
       by_kind k e (form.choose _ x y z) = record {
         kinds = h.kinds;
         kind = model.Truth;
@@ -118,6 +109,7 @@ module _ (rules : Rules) (at : ClassAt ℕ) where
     where
       by_kind : (k : Kind) → Has h.kinds (Exists (body_view node) part (body_view e.now)) k → Evaluates rules at t (purpose.Elements p part e) node
       by_kind _ (form.widened c d sub x) = by_kind (model.Class c) x
+      by_kind _ (form.widened_all c d sub x) = by_kind (model.Nodes c) x
       by_kind _ (form.exists c _ d is x y) = record { kinds = h.kinds; kind = model.Class c; is = x; does = kinds.elements p c part d e is y; stands = h.stands }
 
   pub call_evaluates : (t : Forming) (b receiver : Body) (attribute : ℕ) (bs : Bor (List Body)) → body_view b ≡ Call (body_view receiver) attribute (bodies_view bs.now) →
@@ -126,6 +118,7 @@ module _ (rules : Rules) (at : ClassAt ℕ) where
     where
       by_kind : (k : Kind) → k ≡ model.Truth → Has h.kinds (Call (body_view receiver) attribute (bodies_view bs.now)) k → Evaluates rules at t (purpose.Arguments attribute bs) receiver
       by_kind _ e (form.widened c d sub x) = absurd cc
+      by_kind _ e (form.widened_all c d sub x) = absurd cc
       by_kind k e (form.call c _ d is sub x xs) = record { kinds = h.kinds; kind = model.Class c; is = x; does = kinds.arguments c attribute d bs is e sub xs; stands = h.stands }
 
   pub evaluates_it : (t : Forming) (p : Bool) (b : Body) → Forms rules at t b → Evaluates rules at t (purpose.Formula p) b
@@ -186,6 +179,7 @@ module _ (rules : Rules) (at : ClassAt ℕ) where
   truth_is (Truth b) h = refl
   truth_is (Text bytes) h = absurd h
   truth_is (Ref n) h = absurd h
+  truth_is (Nodes ns) h = absurd h
 
   pub formula_truth : (t : Forming) (p : Bool) (v : Value ℕ) → Uses rules at t (purpose.Formula p) v → IsTruth v
   formula_truth t p v h = by_purpose h.kind h.is h.does
@@ -350,15 +344,6 @@ module _ (rules : Rules) (at : ClassAt ℕ) where
           (s : PlaceKinds) × IsPlaceOf rules.classes at s (place_of t) × HasKind rules (scope_kinds s) (body_view e.now) model.Truth × AreTasks rules at s t.tasks (below t.pile)
       by_tasks s fs top place (kinds.right _ _ _ _ _ _ x more) = (s, place, x, subst (AreTasks rules at s t.tasks) (sym (ap below top)) more)
 
-  pub completes_top : (t : Forming) (s : PlaceKinds) → HasTop t.pile → IsForm rules at (top_of t.pile) → IsPlaceOf rules.classes at s (place_of t) → AreTasks rules at s t.tasks (below t.pile) → Completes rules at t
-  completes_top t s top is place tasks = record { kinds = s; formula = top_of t.pile; others = below t.pile; top = top; is = is; stands = record { place = place; tasks = tasks } }
-
-  pub two_there : (t : Forming) (c : Bool) → Continues rules at t (Join c) → AreTwo t.pile
-  two_there t c h = by_tasks h.kinds h.others h.top h.tasks
-    where
-      by_tasks : (s : PlaceKinds) (fs : List (Formula ℕ)) → t.pile ≡ h.formula ∷ fs → AreTasks rules at s (Join c ∷ t.tasks) fs → AreTwo t.pile
-      by_tasks s _ top (kinds.join _ _ f _ fs x more) = record { left = f; right = h.formula; others = fs; are = top }
-
   pub joins_completes : (t : Forming) (c : Bool) (pile : List (Formula ℕ)) → pile ≡ put_together c t.pile → Continues rules at t (Join c) → Completes rules at (record t { pile = pile })
   joins_completes t c pile becomes h = by_tasks h.kinds h.others h.top h.place h.tasks
     where
@@ -410,16 +395,6 @@ module _ (rules : Rules) (at : ClassAt ℕ) where
     place = h.stands.place;
     tasks = subst (λ ts. AreTasks rules at h.kinds ts h.others) is h.stands.tasks;
   }
-
-  -- where there is none the formula is there
-  pub made_whole : (t : Forming) → t.tasks ≡ [] → Completes rules at t → IsMade t.pile
-  made_whole t is h = by_tasks h.kinds h.others h.top (subst (λ ts. AreTasks rules at h.kinds ts h.others) is h.stands.tasks)
-    where
-      by_tasks : (s : PlaceKinds) (fs : List (Formula ℕ)) → t.pile ≡ h.formula ∷ fs → AreTasks rules at s [] fs → IsMade t.pile
-      by_tasks _ _ top (kinds.ended _) = record { formula = h.formula; is = top }
-
-  pub made_form : (t : Forming) (f : Formula ℕ) → t.pile ≡ f ∷ [] → Completes rules at t → IsForm rules at f
-  made_form t f is h = let e : h.formula ≡ f = ap top_of (sym h.top ∙ is) in subst (IsForm rules at) e h.is
 
 -- evaluations ---------------------------------------------------------------------------------------------------------
 
@@ -477,25 +452,6 @@ evaluates_typed rules at look over t u b s stood new doing same idle still found
     (alone_there rules look t.trial.reads b stood (place_of t) same idle ∙ ap (λ l. follow look l (trial.rest rules.classes (Enter b) stood)) (sym still) ∙ found) is)
 
 module _ (rules : Rules) (at : ClassAt ℕ) (look : Contents ℕ) where
-  -- where a value is wanted
-  pub waits_typed : (t : Forming) (u : Purpose) (j : Instance ℕ) → Awaits rules at look t u j → IsTypedProgress rules at look (progress.Need j) (record t { purpose = Some u })
-  waits_typed t u j h = (
-    u,
-    refl,
-    record {
-      kinds = h.kinds;
-      kind = h.kind;
-      does = h.does;
-      waits = h.waits;
-      comes = h.comes;
-      stands = record { place = h.stands.place; tasks = h.stands.tasks };
-    },
-  )
-
-  -- a formula that waits is told a value
-  pub trial_takes : (t : Forming) (v : Value ℕ) → kinds.Takes rules at look t v → typed.Takes rules at t.trial v
-  trial_takes t v (u, j, is, h, its) = told rules at t.trial j v h.waits its
-
   pub told_typed : (t : Forming) (v : Value ℕ) (u : Purpose) (s : Step) (new : Trial) (doing : Doing) → t.purpose ≡ Some u → kinds.Takes rules at look t v →
       follow look t.trial.reads (resumed rules.classes t.trial v) ≡ (reached rules.classes s new, new.reads) → IsTypedStep rules at s new → doing ≡ stepped u s →
       IsTypedDoing rules at look doing (record t { purpose = None; trial = new })

@@ -1,16 +1,15 @@
 -- A formula under way goes as far as the evaluation of its instance.
-use Rattle.std.proofs.Common.{◌≡◌, ◌<◌, ◌≤◌, ◌+◌, ℕ, Bool, true, false, not, cond, ◌&&◌, nat_eq, List, [], ◌∷◌, ◌++◌, map, length, Option, Some, None, refl, ap, sym, ◌∙◌, subst, Result, Ok, Err, IfOk, Bor, append_assoc, append-nil, arith}
-use Rattle.std.specs.Prelude.{OnOk}
+use Rattle.std.proofs.Common.{◌≡◌, ◌<◌, ◌≤◌, ◌+◌, ℕ, Bool, true, false, not, cond, ◌&&◌, List, [], ◌∷◌, ◌++◌, map, length, Option, Some, None, refl, ap, sym, ◌∙◌, subst, Result, Ok, Err, IfOk, Bor, append_assoc, append-nil, arith}
 use Rattle.std.specs.Global.{Box}
 use Rattle.std.proofs.lemmas.List.{map-append}
 use Rattle.at_body.specs.declared.todo.Asking.{Asking}
 use Rattle.at_body.specs.declared.todo.Now.TheVariants.{Enter}
 use Rattle.at_body.specs.declared.value.Value.{Value as ValueCode}
-use Rattle.at_model.specs.Bodies.{Expr, Exprs, Not, And, Or, Choose, Call, Exists, no_exprs, expr, truth_of, node_of, elements_of, demand_of, eval, eval_all}
+use Rattle.at_model.specs.Bodies.{Expr, Exprs, Choose, Call, Exists, expr, node_of, demand_of}
 use Rattle.at_model.specs.Follow.{Reached, Ends, Stops, Waits, follow}
-use Rattle.at_model.specs.Run.{Value, Instance, Int, Truth, Text, Ref, Location, Contents, Slot, FaultKind, Null, Run, Gives, Fails, Looks, Demands, ◌>>=◌}
+use Rattle.at_model.specs.Run.{Value, Instance, Ref, Location, Contents, Slot, Null, Run, Gives, Fails, Looks, Demands, ◌>>=◌}
 use Rattle.at_model.specs.Rules.{Rules, start_of}
-use Rattle.at_model.specs.of_fixpoints.Formulas.{Formula, Known, Asks, is_surely, is_known_as, joined, turned, starts_from, demanded, fold_form, two_sides, form}
+use Rattle.at_model.specs.of_fixpoints.Formulas.{Formula, Known, Asks, is_surely, is_known_as, joined, turned, starts_from, demanded, two_sides}
 use Rattle.at_rules.specs.Bodies.{body_view, bodies_view}
 use Rattle.at_rules.specs.declared.body.Body.{Body}
 use Rattle.at_body.specs.declared.forming.Forming.{Forming}
@@ -20,15 +19,15 @@ use Rattle.at_body.specs.declared.task.Purpose.TheVariants as purpose
 use Rattle.at_body.specs.declared.task.Task.{Task}
 use Rattle.at_body.specs.declared.task.Task.TheVariants.{Right, Join, Element}
 use Rattle.at_body.specs.declared.task.Doing.{Doing}
-use Rattle.at_body.specs.declared.task.Doing.TheVariants.{Form, Evaluate, Use, Made, Fail, Wait}
+use Rattle.at_body.specs.declared.task.Doing.TheVariants.{Form}
 use Rattle.at_body.specs.declared.trial.Step.{Step}
 use Rattle.at_body.specs.declared.trial.Step.TheVariants as step
 use Rattle.at_body.specs.declared.trial.Trial.{Trial}
-use Rattle.at_body.specs.Values.{value_view, fault_view}
+use Rattle.at_body.specs.Values.{value_view}
 use Rattle.at_body.specs.Stacked.{below}
 use Rattle.at_body.specs.Starting.{formula_at}
-use Rattle.at_body.specs.Standing.{Place, scope, outside, inside}
-use Rattle.at_body.specs.Pieces.{HasTop, together, top_of, put_together}
+use Rattle.at_body.specs.Standing.{Place, inside}
+use Rattle.at_body.specs.Pieces.{HasTop, together, top_of}
 use Rattle.at_body.specs.Rest.{ev, ev_all}
 use Rattle.at_body.specs.Rest as trial
 use Rattle.at_body.specs.Forms.{CarriesOn, GoesOn, formed, among, asking, put_to, decided, onward, place_of, carried, completed, used, rest, stepped, called, asked_of, gone_over, folded, followed, joining, load, settled, told, weight}
@@ -147,13 +146,7 @@ module _ (rules : Rules) where
       regroup r (λ g. Gives (joined c (top_of t.pile) g)) (onward rules t.start t.tasks (below t.pile) (place_of t))
       ∙ ap (λ (k : Formula ℕ → Run ℕ (Formula ℕ)). r >>= k) (fun_ext (λ g. joins_on t.start c t.tasks t.pile (place_of t) g top is))
 
-  -- the formula on top is all that is left of what is decided
-  pub settled_surely : (t : Forming) (d c : Bool) (r : Run ℕ (Formula ℕ)) → HasTop t.pile → is_surely d (top_of t.pile) ≡ true →
-      settled rules t d c r ≡ completed rules t.start t.tasks t.pile (place_of t)
-  settled_surely t d c r top is =
-      ap (λ b. cond b (Gives (top_of t.pile)) (r >>= λ g. Gives (joined c (top_of t.pile) g)) >>= onward rules t.start t.tasks (below t.pile) (place_of t)) is
-      ∙ ap (λ fs. completed rules t.start t.tasks fs (place_of t)) (sym top)
-
+  -- where the formula on top doesn't decide, it is put together with what follows
   pub settled_else : (t : Forming) (d c : Bool) (r : Run ℕ (Formula ℕ)) → is_surely d (top_of t.pile) ≡ false →
       settled rules t d c r ≡ (r >>= λ g. Gives (joined c (top_of t.pile) g)) >>= onward rules t.start t.tasks (below t.pile) (place_of t)
   settled_else t d c r is =
@@ -168,10 +161,6 @@ module _ (rules : Rules) where
       completed rules t.start (Element p e ns ∷ t.tasks) t.pile (place_of t)
       ≡ settled rules (record t { bound = bound }) p (not p) (among rules t.start p (body_view e.now) (place_of (record t { bound = bound })) ns.now)
   element_done t p e ns bound is top = rw is (ap (λ fs. completed rules t.start (Element p e ns ∷ t.tasks) fs (place_of t)) top)
-
-  pub join_done : (t : Forming) (c : Bool) (f g : Formula ℕ) (fs : List (Formula ℕ)) → t.pile ≡ g ∷ f ∷ fs →
-      completed rules t.start (Join c ∷ t.tasks) t.pile (place_of t) ≡ completed rules t.start t.tasks (put_together c t.pile) (place_of t)
-  join_done t c f g fs are = rw are refl
 
 -- one argument more
 pub one_argument : (rules : Rules) (t : Forming) (a : ℕ) (v w : Value ℕ) (done : List (Value ℕ)) (es : Exprs) →
@@ -191,11 +180,6 @@ pub as_demanded : (rules : Rules) (t : Forming) (p : Bool) (e receiver : Expr) (
     formed rules t.start p e (place_of t) >>= carried rules t ≡ ev rules.classes e (place_of t) >>= used rules (purpose.Formula p) t
 as_demanded rules t p e receiver a es shape is =
     as_ever rules t p e (ap (λ x. formed rules t.start p x (place_of t)) shape ∙ call_demanded rules t.start p receiver a es (place_of t) is ∙ ap (λ x. ev rules.classes x (place_of t) >>= (λ v. Gives (Known (turned p v)))) (sym shape))
-
--- what is done next goes on with the same, in other words
-pub first_same : {E : Type 0} (res : Result Doing E) (r s : Run ℕ (Formula ℕ)) (rest_of : Doing → Run ℕ (Formula ℕ)) → r ≡ s → IfOk res (λ d. s ≡ rest_of d) → IfOk res (λ d. r ≡ rest_of d)
-first_same (Ok d) r s rest_of e h = e ∙ h
-first_same (Err x) r s rest_of e h = tt
 
 -- what means the same, with no less room, is carried on by the same
 pub carried_by : {E : Type 0} (res : Result Doing E) (q r : Rules → Run ℕ (Formula ℕ)) (n m : ℕ) (s t u : Forming) →
@@ -336,16 +320,6 @@ argument_passed res most t new a v w done items es is h =
     let e : map value_view items ≡ map value_view done ++ value_view w ∷ [] = rw (is, map-append) refl in
     let P : List (Value ℕ) → Type 0 = λ vs. IfOk res (λ d. CarriesOn (λ rules. called rules t a v vs es) most t d new) in
     subst P e h
-
--- where it has come to, once nothing is left to do
-pub made_whole_found : (rules : Rules) (look : Contents ℕ) (t : Forming) (f : Formula ℕ) → t.tasks ≡ [] → t.pile ≡ f ∷ [] →
-    follow look t.trial.reads (completed rules t.start t.tasks t.pile (place_of t)) ≡ (Ends f, t.trial.reads)
-made_whole_found rules look t f idle is = rw (idle, is) refl
-
--- and where a value is wanted
-pub waits_found : (rules : Rules) (look : Contents ℕ) (t : Forming) (u : Purpose) (j : Instance ℕ) →
-    follow look t.trial.reads (rest rules (Wait u j) t) ≡ (Waits j (told rules (record t { purpose = Some u })), t.trial.reads)
-waits_found rules look t u j = refl
 
 -- a formula that waits is told a value
 apart : (rules : Rules) (t : Forming) (u : Purpose) (s : Step) (new : Trial) (after : Option Purpose) →

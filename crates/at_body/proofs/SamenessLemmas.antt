@@ -1,7 +1,7 @@
 -- Instances in the code's words and in the model's.
 use Rattle.std.proofs.Common.{◌≡◌, ℕ, Bool, true, false, not, List, [], ◌∷◌, ◌++◌, map, length, suc, nat_eq, ◌==◌, ap, ◌∙◌, refl, sym}
 use Rattle.std.proofs.Common.{arith, eq-eqb, true≢false}
-use Rattle.std.proofs.lemmas.Bool.{and_parts, eqb-true, false_from_ne_true}
+use Rattle.std.proofs.lemmas.Bool.{and_parts, eqb-true}
 use Rattle.std.specs.List.{fold, flat_map}
 use Rattle.std.specs.Hash.{fed_then}
 use Rattle.std.specs.Hash as fed
@@ -27,16 +27,6 @@ pub same_behind : (i j : Instance ℕ) (xs ys : List ValueCode) {r : Bool}
     → false ≡ not (nat_eq i.node j.node) → false ≡ not (nat_eq i.attribute j.attribute)
     → i.arguments ≡ map value_view xs → j.arguments ≡ map value_view ys → r ≡ same_instance i j
 same_behind i j xs ys {r} is e f g h = same_rest i j xs ys r e f g h is
-
-not_none : (n : ℕ) → suc n ≡ 0 → ⊥
-not_none n h = omega arith
-
--- none are the same as none alone
-pub none_same : (xs ys : List ValueCode) (r : Bool) → (length xs == 0) ≡ true → r ≡ (length ys == 0)
-    → r ≡ pointwise (λ v w. same_value (value_view v) (value_view w)) xs ys
-none_same [] [] r none is = is
-none_same [] (y ∷ ys) r none is = is ∙ false_from_ne_true (length (y ∷ ys) == 0) (λ h. not_none (length ys) (eqb-true (length (y ∷ ys)) 0 h))
-none_same (x ∷ xs) ys r none is = absurd (not_none (length xs) (eqb-true (length (x ∷ xs)) 0 none))
 
 abbrev instance : ℕ → ℕ → List (Value ℕ) → Instance ℕ
 instance n a vs = record { node = n; attribute = a; arguments = vs }

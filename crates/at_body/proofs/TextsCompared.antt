@@ -82,6 +82,7 @@ module _ (rules : Rules) (at : ClassAt ℕ) where
       let others : ts ≡ t.todo = cc in
       todo_tells s s' k k' t o b c h (subst (λ z. IsTodo rules at s k z s' k') same does) (subst (AreTodos rules at s' k') others rest) place
   todos_tell s _ t o b c ts e h (typed.widened c' d sub x) place = todos_tell s (model.Class d) t o b c ts e h x place
+  todos_tell s _ t o b c ts e h (typed.widened_all c' d sub x) place = todos_tell s (model.Nodes d) t o b c ts e h x place
 
   pub comparison_takes : (t : Trial) (o : Binary) (b : Bor Body) (left : Body) (c : Bool) → IsComparison o → Enters rules at (record t { todo = code.Right o b ∷ t.todo }) left → Takes rules at t (Truth c)
   comparison_takes t o b left c h x = todos_tell x.kinds x.kind t o b c (code.Right o b ∷ t.todo) refl h x.stands.todo x.stands.place

@@ -5,7 +5,7 @@ use Rattle.at_model.specs.Instances.{AnyText, all_literals, literals}
 use Rattle.at_model.specs.Kinds.{HasKind, HaveKinds, ScopeKinds}
 use Rattle.at_model.specs.Kinds as form
 use Rattle.at_model.specs.Rules.{Rules, Kind}
-use Rattle.at_model.specs.Run.{Value, Int, Truth, Text, Ref, Contents, Run, Gives, Fails, Looks, Demands}
+use Rattle.at_model.specs.Run.{Value, Int, Truth, Text, Ref, Nodes, Contents, Run, Gives, Fails, Looks, Demands}
 use Rattle.at_model.specs.TypedRuns.{ClassAt, AreArguments, IsOfKind, IsOfScopeKinds, IsTypedRun}
 use Rattle.at_model.proofs.Chained.{chained}
 use Rattle.at_model.proofs.Everywhere.{all_any}
@@ -179,14 +179,17 @@ module _ (rules : Rules) (at : ClassAt ℕ) where
   alike _ _ (Truth b) w form.ints is its = absurd is
   alike _ _ (Text bytes) w form.ints is its = absurd is
   alike _ _ (Ref n) w form.ints is its = absurd is
+  alike _ _ (Nodes ns) w form.ints is its = absurd is
   alike _ _ (Truth b) w form.truths is its = is_truth rules at w its
   alike _ _ (Int n) w form.truths is its = absurd is
   alike _ _ (Text bytes) w form.truths is its = absurd is
   alike _ _ (Ref n) w form.truths is its = absurd is
+  alike _ _ (Nodes ns) w form.truths is its = absurd is
   alike _ _ (Ref n) w (form.nodes c d) is its = is_ref rules at d w its
   alike _ _ (Int n) w (form.nodes c d) is its = absurd is
   alike _ _ (Truth b) w (form.nodes c d) is its = absurd is
   alike _ _ (Text bytes) w (form.nodes c d) is its = absurd is
+  alike _ _ (Nodes ns) w (form.nodes c d) is its = absurd is
 
   -- the values are those with which that may be done
   pub operands_fit : (t : Trial) (o : Binary) (v w : Value ℕ) → Operates rules at t o v w → AreOperands o v w

@@ -1,16 +1,17 @@
 -- A well-typed instance by numbers is one of the tree, and has an equation.
-use Rattle.std.proofs.Common.{◌≡◌, ℕ, true, false, List, [], ◌∷◌, Option, Some, None, refl, sym, subst}
+use Rattle.std.proofs.Common.{◌≡◌, ℕ, suc, true, false, List, [], ◌∷◌, length, Option, Some, None, refl, sym, ap, subst, arith}
+use Rattle.std.specs.List.{AllByRecursion}
 use Rattle.at_model.specs.Classes.{is_sub}
 use Rattle.at_model.specs.Trees.{Tree, class_of}
 use Rattle.at_model.specs.Terms.{max_depth}
 use Rattle.at_model.specs.Paths.{Node, tree_at}
-use Rattle.at_model.specs.Run.{Value, Int, Truth, Text, Ref, Instance}
+use Rattle.at_model.specs.Run.{Value, Int, Truth, Text, Ref, Nodes, Instance}
 use Rattle.at_model.specs.Bodies.{Expr}
 use Rattle.at_model.specs.Rules.{Rules, Kind, own_equation}
 use Rattle.at_model.specs.Rules as model
 use Rattle.at_model.specs.Meaning.{content}
-use Rattle.at_model.specs.Alike.{Names, neither, both, ListLike, end, more, ValueLike, int, truth, text, ref, InstanceLike}
-use Rattle.at_model.specs.TypedRuns.{ClassAt, class_at, class_numbered, IsOfKind, AreArguments, IsWellTyped}
+use Rattle.at_model.specs.Alike.{Names, neither, both, ListLike, end, more, ValueLike, int, truth, text, ref, nodes, InstanceLike}
+use Rattle.at_model.specs.TypedRuns.{ClassAt, class_at, class_numbered, IsNodeOf, IsOfKind, AreArguments, IsWellTyped}
 use Rattle.at_model.specs.Instances.{AnyText}
 use Rattle.at_model.specs.WellFormed.{AreWellFormed, IsTreeSound}
 use Rattle.at_model.proofs.Complete.{has_own, has_source}
@@ -29,12 +30,31 @@ module _ (rules : Rules) (path : ℕ → Option Node) (at : ClassAt Node) where
   abbrev At : ClassAt ℕ
   At = class_numbered path at
 
+  nodes_on : (b : ℕ) (ns : List ℕ) → AllByRecursion (λ n. IsNodeOf rules.classes At n b) ns
+      → (ms : List Node) × ListLike (Names path) ns ms × AllByRecursion (λ m. IsNodeOf rules.classes at m b) ms × (length ms ≡ length ns)
+  nodes_on b [] h = ([], end, tt, refl)
+  nodes_on b (n ∷ ns) ((c, e, sub), hs) =
+      let (m, f, g) = led at (path n) c e in
+      let (ms, alike, are, long) = nodes_on b ns hs in
+      (m ∷ ms, more f alike, ((c, g, sub), are), ap suc long)
+
   value_on : (v : Value ℕ) (k : Kind) → IsOfKind rules.classes At v k → (w : Value Node) × ValueLike (Names path) v w × IsOfKind rules.classes at w k
   value_on (Int n) model.Int h = (Int n, int n, h)
   value_on (Truth b) model.Truth h = (Truth b, truth b, tt)
   value_on (Text bytes) model.Text h = (Text bytes, text bytes, tt)
   value_on (Ref None) (model.Class b) h = (Ref None, ref neither, tt)
   value_on (Ref (Some n)) (model.Class b) (c, e, sub) = let (m, f, g) = led at (path n) c e in (Ref (Some m), ref (both f), (c, g, sub))
+  value_on (Nodes ns) (model.Nodes b) (all, short) =
+      let (ms, alike, are, long) = nodes_on b ns all in
+      (Nodes ms, nodes alike, (are, omega (arith, long, short)))
+  value_on (Int n) (model.Nodes b) h = absurd h
+  value_on (Truth c) (model.Nodes b) h = absurd h
+  value_on (Text c) (model.Nodes b) h = absurd h
+  value_on (Ref c) (model.Nodes b) h = absurd h
+  value_on (Nodes ns) model.Int h = absurd h
+  value_on (Nodes ns) model.Truth h = absurd h
+  value_on (Nodes ns) model.Text h = absurd h
+  value_on (Nodes ns) (model.Class b) h = absurd h
   value_on (Int n) model.Truth h = absurd h
   value_on (Int n) model.Text h = absurd h
   value_on (Int n) (model.Class b) h = absurd h

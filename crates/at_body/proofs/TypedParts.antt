@@ -4,7 +4,7 @@ use Rattle.at_model.specs.Terms.{IsInt32}
 use Rattle.at_model.specs.Bodies.{Expr, Negate, Not, Arithmetic, Compare, Join, JoinInt, Same, Differ, And, Or, Choose, Equals, InstanceOf, CastTo, Child, Element, Count, Has, TokenOf, Call, Exists, First, Sum}
 use Rattle.at_model.specs.Rules.{Rules, Kind}
 use Rattle.at_model.specs.Rules as model
-use Rattle.at_model.specs.Kinds.{ScopeKinds, HasKind, HaveKinds}
+use Rattle.at_model.specs.Kinds.{HasKind}
 use Rattle.at_model.specs.Kinds as form
 use Rattle.at_model.specs.TypedRuns.{ClassAt}
 use Rattle.at_rules.specs.Bodies.{body_view, bodies_view, operator_view, order_view}
@@ -18,7 +18,7 @@ use Rattle.at_body.specs.declared.todo.Todo.{Todo}
 use Rattle.at_body.specs.declared.todo.Todo.TheVariants as code
 use Rattle.at_body.specs.declared.todo.Now.{Now}
 use Rattle.at_body.specs.declared.trial.Trial.{Trial}
-use Rattle.at_body.specs.Typed.{PlaceKinds, scope_kinds, kinds_inside, IsUse, IsOperation, IsFold, IsTodo, AreTodos, Stands, Enters, IsTypedNow}
+use Rattle.at_body.specs.Typed.{PlaceKinds, scope_kinds, IsOperation, IsTodo, AreTodos, Enters, IsTypedNow}
 use Rattle.at_body.specs.Typed as typed
 use Rattle.at_body.proofs.Entering.{Put}
 
@@ -37,6 +37,7 @@ module _ (rules : Rules) (at : ClassAt ℕ) (s : PlaceKinds) where
     where
       by_kind : (k : Kind) → HasKind rules (scope_kinds s) (Negate a) k → AreTodos rules at s k ts → IsPart a (code.Use unary.Negate) ts
       by_kind _ (form.widened c d sub x) h = by_kind (model.Class c) x (typed.widened c d sub h)
+      by_kind _ (form.widened_all c d sub x) h = by_kind (model.Nodes c) x (typed.widened_all c d sub h)
       by_kind _ (form.negate x) h = one_part a _ ts model.Int model.Int x (typed.used s model.Int model.Int unary.Negate typed.negate) h
 
   pub opposes : (a : Expr) (k : Kind) (ts : List Todo) → HasKind rules (scope_kinds s) (Not a) k → AreTodos rules at s k ts → IsPart a (code.Use unary.Not) ts
@@ -44,6 +45,7 @@ module _ (rules : Rules) (at : ClassAt ℕ) (s : PlaceKinds) where
     where
       by_kind : (k : Kind) → HasKind rules (scope_kinds s) (Not a) k → AreTodos rules at s k ts → IsPart a (code.Use unary.Not) ts
       by_kind _ (form.widened c d sub x) h = by_kind (model.Class c) x (typed.widened c d sub h)
+      by_kind _ (form.widened_all c d sub x) h = by_kind (model.Nodes c) x (typed.widened_all c d sub h)
       by_kind _ (form.opposite x) h = one_part a _ ts model.Truth model.Truth x (typed.used s model.Truth model.Truth unary.Not typed.opposite) h
 
   pub tests : (a : Expr) (class : ℕ) (k : Kind) (ts : List Todo) → HasKind rules (scope_kinds s) (InstanceOf a class) k → AreTodos rules at s k ts → IsPart a (code.Use (unary.InstanceOf class)) ts
@@ -51,6 +53,7 @@ module _ (rules : Rules) (at : ClassAt ℕ) (s : PlaceKinds) where
     where
       by_kind : (k : Kind) → HasKind rules (scope_kinds s) (InstanceOf a class) k → AreTodos rules at s k ts → IsPart a (code.Use (unary.InstanceOf class)) ts
       by_kind _ (form.widened c d sub x) h = by_kind (model.Class c) x (typed.widened c d sub h)
+      by_kind _ (form.widened_all c d sub x) h = by_kind (model.Nodes c) x (typed.widened_all c d sub h)
       by_kind _ (form.instance_of c _ there x) h = one_part a _ ts (model.Class c) model.Truth x (typed.used s (model.Class c) model.Truth (unary.InstanceOf class) (typed.instance_of c class there)) h
 
   pub casts : (a : Expr) (class : ℕ) (k : Kind) (ts : List Todo) → HasKind rules (scope_kinds s) (CastTo class a) k → AreTodos rules at s k ts → IsPart a (code.Use (unary.CastTo class)) ts
@@ -58,6 +61,7 @@ module _ (rules : Rules) (at : ClassAt ℕ) (s : PlaceKinds) where
     where
       by_kind : (k : Kind) → HasKind rules (scope_kinds s) (CastTo class a) k → AreTodos rules at s k ts → IsPart a (code.Use (unary.CastTo class)) ts
       by_kind _ (form.widened c d sub x) h = by_kind (model.Class c) x (typed.widened c d sub h)
+      by_kind _ (form.widened_all c d sub x) h = by_kind (model.Nodes c) x (typed.widened_all c d sub h)
       by_kind _ (form.cast_to c _ there x) h = one_part a _ ts (model.Class c) (model.Class class) x (typed.used s (model.Class c) (model.Class class) (unary.CastTo class) (typed.cast_to c class there)) h
 
   pub asks_child : (a : Expr) (part : ℕ) (k : Kind) (ts : List Todo) → HasKind rules (scope_kinds s) (Child a part) k → AreTodos rules at s k ts → IsPart a (code.Use (unary.Child part)) ts
@@ -65,6 +69,7 @@ module _ (rules : Rules) (at : ClassAt ℕ) (s : PlaceKinds) where
     where
       by_kind : (k : Kind) → HasKind rules (scope_kinds s) (Child a part) k → AreTodos rules at s k ts → IsPart a (code.Use (unary.Child part)) ts
       by_kind _ (form.widened c d sub x) h = by_kind (model.Class c) x (typed.widened c d sub h)
+      by_kind _ (form.widened_all c d sub x) h = by_kind (model.Nodes c) x (typed.widened_all c d sub h)
       by_kind _ (form.child c _ b is x) h = one_part a _ ts (model.Class c) (model.Class b) x (typed.used s (model.Class c) (model.Class b) (unary.Child part) (typed.child c part b is)) h
 
   pub asks_count : (a : Expr) (part : ℕ) (k : Kind) (ts : List Todo) → HasKind rules (scope_kinds s) (Count a part) k → AreTodos rules at s k ts → IsPart a (code.Use (unary.Count part)) ts
@@ -72,6 +77,7 @@ module _ (rules : Rules) (at : ClassAt ℕ) (s : PlaceKinds) where
     where
       by_kind : (k : Kind) → HasKind rules (scope_kinds s) (Count a part) k → AreTodos rules at s k ts → IsPart a (code.Use (unary.Count part)) ts
       by_kind _ (form.widened c d sub x) h = by_kind (model.Class c) x (typed.widened c d sub h)
+      by_kind _ (form.widened_all c d sub x) h = by_kind (model.Nodes c) x (typed.widened_all c d sub h)
       by_kind _ (form.count c _ b is x) h = one_part a _ ts (model.Class c) model.Int x (typed.used s (model.Class c) model.Int (unary.Count part) (typed.count c part b is)) h
 
   pub asks_has : (a : Expr) (part : ℕ) (k : Kind) (ts : List Todo) → HasKind rules (scope_kinds s) (Has a part) k → AreTodos rules at s k ts → IsPart a (code.Use (unary.Has part)) ts
@@ -79,6 +85,7 @@ module _ (rules : Rules) (at : ClassAt ℕ) (s : PlaceKinds) where
     where
       by_kind : (k : Kind) → HasKind rules (scope_kinds s) (Has a part) k → AreTodos rules at s k ts → IsPart a (code.Use (unary.Has part)) ts
       by_kind _ (form.widened c d sub x) h = by_kind (model.Class c) x (typed.widened c d sub h)
+      by_kind _ (form.widened_all c d sub x) h = by_kind (model.Nodes c) x (typed.widened_all c d sub h)
       by_kind _ (form.has c _ b is x) h = one_part a _ ts (model.Class c) model.Truth x (typed.used s (model.Class c) model.Truth (unary.Has part) (typed.has c part b is)) h
 
   pub asks_token : (a : Expr) (part : ℕ) (k : Kind) (ts : List Todo) → HasKind rules (scope_kinds s) (TokenOf a part) k → AreTodos rules at s k ts → IsPart a (code.Use (unary.Token part)) ts
@@ -86,6 +93,7 @@ module _ (rules : Rules) (at : ClassAt ℕ) (s : PlaceKinds) where
     where
       by_kind : (k : Kind) → HasKind rules (scope_kinds s) (TokenOf a part) k → AreTodos rules at s k ts → IsPart a (code.Use (unary.Token part)) ts
       by_kind _ (form.widened c d sub x) h = by_kind (model.Class c) x (typed.widened c d sub h)
+      by_kind _ (form.widened_all c d sub x) h = by_kind (model.Nodes c) x (typed.widened_all c d sub h)
       by_kind k (form.token_of c _ token is x) h = one_part a _ ts (model.Class c) k x (typed.used s (model.Class c) k (unary.Token part) (typed.token c part token is)) h
 
   -- the operands of a form with two
@@ -97,6 +105,7 @@ module _ (rules : Rules) (at : ClassAt ℕ) (s : PlaceKinds) where
     where
       by_kind : (k : Kind) → HasKind rules (scope_kinds s) (Arithmetic (operator_view o) a (body_view b.now)) k → AreTodos rules at s k ts → IsPart a (code.Right (binary.Arithmetic o) b) ts
       by_kind _ (form.widened c d sub x) h = by_kind (model.Class c) x (typed.widened c d sub h)
+      by_kind _ (form.widened_all c d sub x) h = by_kind (model.Nodes c) x (typed.widened_all c d sub h)
       by_kind _ (form.arithmetic _ x y) h = two_parts a b _ ts model.Int model.Int model.Int (typed.arithmetic o) x y h
 
   pub compares : (a : Expr) (b : Bor Body) (o : Order) (k : Kind) (ts : List Todo) → HasKind rules (scope_kinds s) (Compare (order_view o) a (body_view b.now)) k → AreTodos rules at s k ts → IsPart a (code.Right (binary.Compare o) b) ts
@@ -104,6 +113,7 @@ module _ (rules : Rules) (at : ClassAt ℕ) (s : PlaceKinds) where
     where
       by_kind : (k : Kind) → HasKind rules (scope_kinds s) (Compare (order_view o) a (body_view b.now)) k → AreTodos rules at s k ts → IsPart a (code.Right (binary.Compare o) b) ts
       by_kind _ (form.widened c d sub x) h = by_kind (model.Class c) x (typed.widened c d sub h)
+      by_kind _ (form.widened_all c d sub x) h = by_kind (model.Nodes c) x (typed.widened_all c d sub h)
       by_kind _ (form.compare _ x y) h = two_parts a b _ ts model.Int model.Int model.Truth (typed.compare o) x y h
 
   pub joins : (a : Expr) (b : Bor Body) (k : Kind) (ts : List Todo) → HasKind rules (scope_kinds s) (Join a (body_view b.now)) k → AreTodos rules at s k ts → IsPart a (code.Right binary.Join b) ts
@@ -111,6 +121,7 @@ module _ (rules : Rules) (at : ClassAt ℕ) (s : PlaceKinds) where
     where
       by_kind : (k : Kind) → HasKind rules (scope_kinds s) (Join a (body_view b.now)) k → AreTodos rules at s k ts → IsPart a (code.Right binary.Join b) ts
       by_kind _ (form.widened c d sub x) h = by_kind (model.Class c) x (typed.widened c d sub h)
+      by_kind _ (form.widened_all c d sub x) h = by_kind (model.Nodes c) x (typed.widened_all c d sub h)
       by_kind _ (form.join x y) h = two_parts a b _ ts model.Text model.Text model.Text typed.join x y h
 
   pub joins_int : (a : Expr) (b : Bor Body) (k : Kind) (ts : List Todo) → HasKind rules (scope_kinds s) (JoinInt a (body_view b.now)) k → AreTodos rules at s k ts → IsPart a (code.Right binary.JoinInt b) ts
@@ -118,6 +129,7 @@ module _ (rules : Rules) (at : ClassAt ℕ) (s : PlaceKinds) where
     where
       by_kind : (k : Kind) → HasKind rules (scope_kinds s) (JoinInt a (body_view b.now)) k → AreTodos rules at s k ts → IsPart a (code.Right binary.JoinInt b) ts
       by_kind _ (form.widened c d sub x) h = by_kind (model.Class c) x (typed.widened c d sub h)
+      by_kind _ (form.widened_all c d sub x) h = by_kind (model.Nodes c) x (typed.widened_all c d sub h)
       by_kind _ (form.join_int x y) h = two_parts a b _ ts model.Text model.Int model.Text typed.join_int x y h
 
   pub same : (a : Expr) (b : Bor Body) (k : Kind) (ts : List Todo) → HasKind rules (scope_kinds s) (Same a (body_view b.now)) k → AreTodos rules at s k ts → IsPart a (code.Right binary.Same b) ts
@@ -125,6 +137,7 @@ module _ (rules : Rules) (at : ClassAt ℕ) (s : PlaceKinds) where
     where
       by_kind : (k : Kind) → HasKind rules (scope_kinds s) (Same a (body_view b.now)) k → AreTodos rules at s k ts → IsPart a (code.Right binary.Same b) ts
       by_kind _ (form.widened c d sub x) h = by_kind (model.Class c) x (typed.widened c d sub h)
+      by_kind _ (form.widened_all c d sub x) h = by_kind (model.Nodes c) x (typed.widened_all c d sub h)
       by_kind _ (form.same k l alike x y) h = two_parts a b _ ts k l model.Truth (typed.same k l alike) x y h
 
   pub differs : (a : Expr) (b : Bor Body) (k : Kind) (ts : List Todo) → HasKind rules (scope_kinds s) (Differ a (body_view b.now)) k → AreTodos rules at s k ts → IsPart a (code.Right binary.Differ b) ts
@@ -132,6 +145,7 @@ module _ (rules : Rules) (at : ClassAt ℕ) (s : PlaceKinds) where
     where
       by_kind : (k : Kind) → HasKind rules (scope_kinds s) (Differ a (body_view b.now)) k → AreTodos rules at s k ts → IsPart a (code.Right binary.Differ b) ts
       by_kind _ (form.widened c d sub x) h = by_kind (model.Class c) x (typed.widened c d sub h)
+      by_kind _ (form.widened_all c d sub x) h = by_kind (model.Nodes c) x (typed.widened_all c d sub h)
       by_kind _ (form.differ k l alike x y) h = two_parts a b _ ts k l model.Truth (typed.differ k l alike) x y h
 
   pub equals : (a : Expr) (b : Bor Body) (k : Kind) (ts : List Todo) → HasKind rules (scope_kinds s) (Equals a (body_view b.now)) k → AreTodos rules at s k ts → IsPart a (code.Right binary.Equals b) ts
@@ -139,6 +153,7 @@ module _ (rules : Rules) (at : ClassAt ℕ) (s : PlaceKinds) where
     where
       by_kind : (k : Kind) → HasKind rules (scope_kinds s) (Equals a (body_view b.now)) k → AreTodos rules at s k ts → IsPart a (code.Right binary.Equals b) ts
       by_kind _ (form.widened c d sub x) h = by_kind (model.Class c) x (typed.widened c d sub h)
+      by_kind _ (form.widened_all c d sub x) h = by_kind (model.Nodes c) x (typed.widened_all c d sub h)
       by_kind _ (form.equals x y) h = two_parts a b _ ts model.Text model.Text model.Truth typed.equals x y h
 
   pub asks_element : (a : Expr) (part : ℕ) (b : Bor Body) (k : Kind) (ts : List Todo) → HasKind rules (scope_kinds s) (Element a part (body_view b.now)) k → AreTodos rules at s k ts → IsPart a (code.Right (binary.Element part) b) ts
@@ -146,6 +161,7 @@ module _ (rules : Rules) (at : ClassAt ℕ) (s : PlaceKinds) where
     where
       by_kind : (k : Kind) → HasKind rules (scope_kinds s) (Element a part (body_view b.now)) k → AreTodos rules at s k ts → IsPart a (code.Right (binary.Element part) b) ts
       by_kind _ (form.widened c d sub x) h = by_kind (model.Class c) x (typed.widened c d sub h)
+      by_kind _ (form.widened_all c d sub x) h = by_kind (model.Nodes c) x (typed.widened_all c d sub h)
       by_kind _ (form.element c _ e is x y) h = two_parts a b _ ts (model.Class c) model.Int (model.Class e) (typed.element c part e is) x y h
 
   pub conjoins : (a : Expr) (b : Bor Body) (k : Kind) (ts : List Todo) → HasKind rules (scope_kinds s) (And a (body_view b.now)) k → AreTodos rules at s k ts → IsPart a (code.And b) ts
@@ -153,6 +169,7 @@ module _ (rules : Rules) (at : ClassAt ℕ) (s : PlaceKinds) where
     where
       by_kind : (k : Kind) → HasKind rules (scope_kinds s) (And a (body_view b.now)) k → AreTodos rules at s k ts → IsPart a (code.And b) ts
       by_kind _ (form.widened c d sub x) h = by_kind (model.Class c) x (typed.widened c d sub h)
+      by_kind _ (form.widened_all c d sub x) h = by_kind (model.Nodes c) x (typed.widened_all c d sub h)
       by_kind _ (form.and x y) h = one_part a _ ts model.Truth model.Truth x (typed.and s b y) h
 
   pub disjoins : (a : Expr) (b : Bor Body) (k : Kind) (ts : List Todo) → HasKind rules (scope_kinds s) (Or a (body_view b.now)) k → AreTodos rules at s k ts → IsPart a (code.Or b) ts
@@ -160,6 +177,7 @@ module _ (rules : Rules) (at : ClassAt ℕ) (s : PlaceKinds) where
     where
       by_kind : (k : Kind) → HasKind rules (scope_kinds s) (Or a (body_view b.now)) k → AreTodos rules at s k ts → IsPart a (code.Or b) ts
       by_kind _ (form.widened c d sub x) h = by_kind (model.Class c) x (typed.widened c d sub h)
+      by_kind _ (form.widened_all c d sub x) h = by_kind (model.Nodes c) x (typed.widened_all c d sub h)
       by_kind _ (form.or x y) h = one_part a _ ts model.Truth model.Truth x (typed.or s b y) h
 
   pub chooses : (e : Expr) (a b : Bor Body) (k : Kind) (ts : List Todo) → HasKind rules (scope_kinds s) (Choose e (body_view a.now) (body_view b.now)) k → AreTodos rules at s k ts → IsPart e (code.Choose a b) ts
@@ -167,6 +185,7 @@ module _ (rules : Rules) (at : ClassAt ℕ) (s : PlaceKinds) where
     where
       by_kind : (k : Kind) → HasKind rules (scope_kinds s) (Choose e (body_view a.now) (body_view b.now)) k → AreTodos rules at s k ts → IsPart e (code.Choose a b) ts
       by_kind _ (form.widened c d sub x) h = by_kind (model.Class c) x (typed.widened c d sub h)
+      by_kind _ (form.widened_all c d sub x) h = by_kind (model.Nodes c) x (typed.widened_all c d sub h)
       by_kind _ (form.choose k x y z) h = one_part e _ ts model.Truth k x (typed.choose s k a b y z) h
 
   pub calls : (a : Expr) (attribute : ℕ) (bs : Bor (List Body)) (k : Kind) (ts : List Todo) → HasKind rules (scope_kinds s) (Call a attribute (bodies_view bs.now)) k → AreTodos rules at s k ts → IsPart a (code.Arguments attribute bs) ts
@@ -174,6 +193,7 @@ module _ (rules : Rules) (at : ClassAt ℕ) (s : PlaceKinds) where
     where
       by_kind : (k : Kind) → HasKind rules (scope_kinds s) (Call a attribute (bodies_view bs.now)) k → AreTodos rules at s k ts → IsPart a (code.Arguments attribute bs) ts
       by_kind _ (form.widened c d sub x) h = by_kind (model.Class c) x (typed.widened c d sub h)
+      by_kind _ (form.widened_all c d sub x) h = by_kind (model.Nodes c) x (typed.widened_all c d sub h)
       by_kind k (form.call c _ d is sub x xs) h = one_part a _ ts (model.Class c) k x (typed.arguments s c attribute d bs is sub xs) h
 
   pub exists : (a : Expr) (part : ℕ) (b : Bor Body) (k : Kind) (ts : List Todo) → HasKind rules (scope_kinds s) (Exists a part (body_view b.now)) k → AreTodos rules at s k ts → IsPart a (code.Elements fold.Exists part b) ts
@@ -181,6 +201,7 @@ module _ (rules : Rules) (at : ClassAt ℕ) (s : PlaceKinds) where
     where
       by_kind : (k : Kind) → HasKind rules (scope_kinds s) (Exists a part (body_view b.now)) k → AreTodos rules at s k ts → IsPart a (code.Elements fold.Exists part b) ts
       by_kind _ (form.widened c d sub x) h = by_kind (model.Class c) x (typed.widened c d sub h)
+      by_kind _ (form.widened_all c d sub x) h = by_kind (model.Nodes c) x (typed.widened_all c d sub h)
       by_kind _ (form.exists c _ e is x y) h = one_part a _ ts (model.Class c) model.Truth x (typed.elements s c part e fold.Exists model.Truth model.Truth b is typed.exists y) h
 
   pub first : (a : Expr) (part : ℕ) (b : Bor Body) (k : Kind) (ts : List Todo) → HasKind rules (scope_kinds s) (First a part (body_view b.now)) k → AreTodos rules at s k ts → IsPart a (code.Elements fold.First part b) ts
@@ -188,6 +209,7 @@ module _ (rules : Rules) (at : ClassAt ℕ) (s : PlaceKinds) where
     where
       by_kind : (k : Kind) → HasKind rules (scope_kinds s) (First a part (body_view b.now)) k → AreTodos rules at s k ts → IsPart a (code.Elements fold.First part b) ts
       by_kind _ (form.widened c d sub x) h = by_kind (model.Class c) x (typed.widened c d sub h)
+      by_kind _ (form.widened_all c d sub x) h = by_kind (model.Nodes c) x (typed.widened_all c d sub h)
       by_kind _ (form.first c _ e is x y) h = one_part a _ ts (model.Class c) (model.Class e) x (typed.elements s c part e fold.First model.Truth (model.Class e) b is typed.first y) h
 
   pub sums : (a : Expr) (part : ℕ) (b : Bor Body) (total : ℤ) (k : Kind) (ts : List Todo) → IsInt32 total → HasKind rules (scope_kinds s) (Sum a part (body_view b.now)) k → AreTodos rules at s k ts → IsPart a (code.Elements (fold.Sum total) part b) ts
@@ -195,6 +217,7 @@ module _ (rules : Rules) (at : ClassAt ℕ) (s : PlaceKinds) where
     where
       by_kind : (k : Kind) → HasKind rules (scope_kinds s) (Sum a part (body_view b.now)) k → AreTodos rules at s k ts → IsPart a (code.Elements (fold.Sum total) part b) ts
       by_kind _ (form.widened c d sub x) h = by_kind (model.Class c) x (typed.widened c d sub h)
+      by_kind _ (form.widened_all c d sub x) h = by_kind (model.Nodes c) x (typed.widened_all c d sub h)
       by_kind _ (form.sum c _ e is x y) h = one_part a _ ts (model.Class c) model.Int x (typed.elements s c part e (fold.Sum total) model.Int model.Int b is (typed.sum total int) y) h
 
 module _ (rules : Rules) (at : ClassAt ℕ) where

@@ -1,17 +1,17 @@
 -- What a store shows of a sound tree is of the right kinds, by numbers.
 use Rattle.std.proofs.Common.{◌≡◌, ℕ, ◌<◌, List, [], map, length, Option, Some, None, refl, sym, ◌∙◌, subst, arith}
 use Rattle.std.proofs.lemmas.List.{length-map}
-use Rattle.std.specs.Prelude.{IsSome, option_and_then}
+use Rattle.std.specs.Prelude.{IsSome, IfSome, option_and_then}
 use Rattle.std.specs.List.{AllByRecursion}
 use Rattle.at_model.specs.Classes.{Classes, TokenKind, Token}
 use Rattle.at_model.specs.Classes as class
 use Rattle.at_model.specs.Trees as held
 use Rattle.at_model.specs.Paths.{Node}
-use Rattle.at_model.specs.Run.{Is, Tok, Slot, Idx, Location, Contents}
+use Rattle.at_model.specs.Run.{Is, Tok, Slot, Up, Idx, Drawer, Location, Contents}
 use Rattle.at_model.specs.Bodies.{value_of}
 use Rattle.at_model.specs.Rules.{Rules}
 use Rattle.at_model.specs.Meaning.{content}
-use Rattle.at_model.specs.Alike.{AlikeAt, Names, ListLike, end, more, is, tok, slot, idx}
+use Rattle.at_model.specs.Alike.{AlikeAt, Names, ListLike, OptionLike, neither, both, end, more, is, tok, slot, up, idx, drawer}
 use Rattle.at_model.specs.Kinds.{kind_of_token}
 use Rattle.at_model.specs.TypedRuns.{ClassAt, Texts, class_at, class_numbered, IsNodeOf, IsOfKind, IsAllowed, AreContentsTyped}
 use Rattle.at_model.specs.Instances.{AnyText, tokens}
@@ -62,6 +62,12 @@ module _ (classes : Classes) (path : ℕ → Option Node) (at : ClassAt Node) (l
       by_class None e h = absurd (cc)
       by_class (Some c) e h = (m, c, refl, e)
 
+  -- what stands above a node
+  parent_back : (o : Option (ℕ × ℕ)) (p : Option (Node × ℕ)) → OptionLike (λ p q. Names path p.0 q.0 × (p.1 ≡ q.1)) o p
+      → IfSome p (λ q. (c : ℕ) × (at q.0 ≡ Some c) × (c < length classes)) → IfSome o (λ q. (c : ℕ) × (At q.0 ≡ Some c) × (c < length classes))
+  parent_back _ _ neither h = tt
+  parent_back _ _ (both {a = p} {b = q} (r, same)) (c, e, less) = (c, class_back p.0 q.0 r ∙ e, less)
+
   pub numbers_stand : (Allowed : Texts) → AreContentsTyped classes at Allowed other → ((n part : ℕ) → length (look (Slot n part)) < 2147483648) → AreContentsTyped classes At AnyText look
   numbers_stand Allowed stand few = record {
     class = λ n c e. let (m, f, g) = led at (path n) c e in let x : look (Is n) ≡ other (Is m) = alike (Is n) (Is m) (is f) in x ∙ stand.class m c g;
@@ -70,6 +76,11 @@ module _ (classes : Classes) (path : ℕ → Option Node) (at : ClassAt Node) (l
         token_back (look (Tok n part)) kind (subst (λ v. IsOfKind {N = Node} classes at (value_of v) (kind_of_token kind)) (sym x) (stand.token m c part kind g shape));
     said = λ n part. any_token (look (Tok n part));
     children = λ n c part b e asked. let (m, f, g) = led at (path n) c e in nodes_back b (look (Slot n part)) (other (Slot m part)) (alike (Slot n part) (Slot m part) (slot part f)) (stand.children m c part b g asked);
+    parent = λ n there. let (m, c, f, g) = some_class (path n) there in
+        parent_back (look (Up n)) (other (Up m)) (alike (Up n) (Up m) (up f)) (stand.parent m (rw g refl));
+    chosen = λ n c part b key mark e asked. let (m, f, g) = led at (path n) c e in
+        nodes_back b (look (Drawer n part key mark)) (other (Drawer m part key mark))
+        (alike (Drawer n part key mark) (Drawer m part key mark) (drawer part key mark f)) (stand.chosen m c part b key mark g asked);
     few = few;
     early = λ n there. let (m, c, f, g) = some_class (path n) there in
         let x : look (Idx n) ≡ other (Idx m) = alike (Idx n) (Idx m) (idx f) in

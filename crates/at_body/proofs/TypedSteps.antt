@@ -5,7 +5,7 @@ use Rattle.std.specs.List.{slice_get}
 use Rattle.at_model.specs.Bodies.{Exprs, IndexName, Name, computed, joined}
 use Rattle.at_model.specs.Kinds.{HasKind}
 use Rattle.at_model.specs.Kinds as form
-use Rattle.at_model.specs.Rules.{Rules, Kind, Class}
+use Rattle.at_model.specs.Rules.{Rules, Kind, Class, Nodes}
 use Rattle.at_model.specs.Run.{Value, Ref, Contents, Slot, Gives, Location}
 use Rattle.at_model.specs.TypedRuns.{ClassAt, AreArguments}
 use Rattle.at_model.specs.Instances.{AnyText}
@@ -105,6 +105,7 @@ module _ (rules : Rules) (at : ClassAt ℕ) where
     where
       by_kind : (k : Kind) → HasKind rules (scope_kinds h.kinds) (Name i) k → IsSome (slice_get (scope (place_of t)).names i)
       by_kind _ (form.widened c d sub x) = by_kind (Class c) x
+      by_kind _ (form.widened_all c d sub x) = by_kind (Nodes c) x
       by_kind k (form.name _ is) = names_there (place_of t).bound h.kinds.bound (map value_view (place_of t).passed) h.kinds.passed i k h.stands.place.bound h.stands.place.passed is
 
   -- where there is an index name there is a child on the way down
@@ -113,6 +114,7 @@ module _ (rules : Rules) (at : ClassAt ℕ) where
     where
       by_kind : (k : Kind) → HasKind rules (scope_kinds h.kinds) IndexName k → IsSome t.child
       by_kind _ (form.widened c d sub x) = by_kind (Class c) x
+      by_kind _ (form.widened_all c d sub x) = by_kind (Nodes c) x
       by_kind _ (form.index_name is) = h.stands.place.index is
 
 -- a name behind those of the folds is one of what was passed

@@ -1,9 +1,10 @@
 -- What a trial does with a value of the kind that it waits for is of the right kinds.
 use Rattle.std.proofs.Common.{◌≡◌, ℕ, Bool, true, List, [], ◌∷◌, ◌++◌, map, Option, Some, None, refl, sym, ◌∙◌, subst, Bor, append_assoc, append-nil}
 use Rattle.std.specs.Prelude.{IfSome}
+use Rattle.std.specs.List.{AllByRecursion}
 use Rattle.at_model.specs.Classes.{is_sub}
 use Rattle.at_model.specs.Bodies.{no_exprs, expr, ref_of}
-use Rattle.at_model.specs.Run.{Value, Int, Truth, Text, Ref, Instance, Location}
+use Rattle.at_model.specs.Run.{Value, Int, Truth, Text, Ref, Nodes, Instance, Location}
 use Rattle.at_model.specs.Rules.{Rules, Kind}
 use Rattle.at_model.specs.Rules as model
 use Rattle.at_model.specs.Kinds.{HasKind, HaveKinds}
@@ -37,24 +38,28 @@ module _ (rules : Rules) (at : ClassAt ℕ) where
   is_int (Truth b) h = h
   is_int (Text bytes) h = h
   is_int (Ref n) h = h
+  is_int (Nodes ns) h = h
 
   pub is_truth : (v : Value ℕ) → Is model.Truth v → IsTruth v
   is_truth (Int n) h = h
   is_truth (Truth b) h = tt
   is_truth (Text bytes) h = h
   is_truth (Ref n) h = h
+  is_truth (Nodes ns) h = h
 
   pub is_text : (v : Value ℕ) → Is model.Text v → IsText v
   is_text (Int n) h = h
   is_text (Truth b) h = h
   is_text (Text bytes) h = tt
   is_text (Ref n) h = h
+  is_text (Nodes ns) h = h
 
   pub is_ref : (c : ℕ) (v : Value ℕ) → Is (model.Class c) v → IsRef v
   is_ref c (Int n) h = h
   is_ref c (Truth b) h = h
   is_ref c (Text bytes) h = h
   is_ref c (Ref n) h = tt
+  is_ref c (Nodes ns) h = h
 
   -- where the trial stands, after it looked at more or has put something else away
   pub looked : (s : PlaceKinds) (k : Kind) (t : Trial) (seen : List (Location ℕ)) → Stands rules at s k t → Stands rules at s k (record t { reads = seen })
@@ -77,11 +82,25 @@ module _ (rules : Rules) (at : ClassAt ℕ) where
     widen c d (Text bytes) e h = absurd h
     widen c d (Ref None) e h = tt
     widen c d (Ref (Some n)) e (x, f, g) = (x, f, sub_sub rules.classes chained x c d g e)
+    widen c d (Nodes ns) e h = absurd h
+
+    each_widened : (c d : ℕ) (ns : List ℕ) → is_sub rules.classes c d ≡ true → AllByRecursion (λ m. IsNodeOf rules.classes at m c) ns
+        → AllByRecursion (λ m. IsNodeOf rules.classes at m d) ns
+    each_widened c d [] e h = tt
+    each_widened c d (n ∷ ns) e ((x, f, g), hs) = ((x, f, sub_sub rules.classes chained x c d g e), each_widened c d ns e hs)
+
+    widen_all : (c d : ℕ) (v : Value ℕ) → is_sub rules.classes c d ≡ true → Is (model.Nodes c) v → Is (model.Nodes d) v
+    widen_all c d (Int n) e h = absurd h
+    widen_all c d (Truth b) e h = absurd h
+    widen_all c d (Text bytes) e h = absurd h
+    widen_all c d (Ref n) e h = absurd h
+    widen_all c d (Nodes ns) e (all, short) = (each_widened c d ns e all, short)
 
     -- what stands on top is told the value
     pub unwound : (s : PlaceKinds) (k : Kind) (t : Trial) (v : Value ℕ) (top : Todo) (ts : List Todo) → AreTodos rules at s k (top ∷ ts) → IsPlaceOf rules.classes at s (place_of t) → Is k v → Uses rules at (record t { todo = ts }) top v
     unwound s k t v top ts (typed.more {s' = s'} {k' = k'} does rest) place is = record { kinds = s; kind = k; later = s'; result = k'; is = is; does = does; place = place; rest = rest }
     unwound s _ t v top ts (typed.widened c d sub h) place is = unwound s (model.Class d) t v top ts h place (widen c d v sub is)
+    unwound s _ t v top ts (typed.widened_all c d sub h) place is = unwound s (model.Nodes d) t v top ts h place (widen_all c d v sub is)
 
     pub taken : (t : Trial) (v : Value ℕ) (top : Todo) (ts : List Todo) → t.todo ≡ top ∷ ts → Takes rules at t v → Uses rules at (record t { todo = ts }) top v
     taken t v top ts e h = unwound h.kinds h.kind t v top ts (subst (AreTodos rules at h.kinds h.kind) e h.stands.todo) h.stands.place h.is
@@ -192,6 +211,7 @@ module _ (rules : Rules) (at : ClassAt ℕ) where
   node_of_class c (Truth b) h = absurd h
   node_of_class c (Text bytes) h = absurd h
   node_of_class c (Ref n) h = node_in c n h
+  node_of_class c (Nodes ns) h = absurd h
 
   -- the receiver is a node or null
   pub receiver_is : (t : Trial) (attribute : ℕ) (bs : Bor (List Body)) (v : Value ℕ) → Uses rules at t (code.Arguments attribute bs) v → IsRef v

@@ -2,7 +2,7 @@
 use Rattle.std.proofs.Common.{◌≡◌, ℕ, List, [], ◌∷◌, ◌++◌, ap, ◌∙◌, refl, sym, subst, Result, Ok, Err, IfOk, Bor, append_assoc, Option, Some, None, slice_get}
 use Rattle.at_model.specs.Classes.{Classes}
 use Rattle.at_model.specs.Bodies.{Expr, Exprs, demand_of, node_or, ref_of, Child, This}
-use Rattle.at_model.specs.Run.{Value, Int, Truth, Text, Ref, Slot, Location, Contents, Run, Gives, Fails, Absent, ◌>>=◌}
+use Rattle.at_model.specs.Run.{Value, Int, Truth, Text, Ref, Nodes, Slot, Location, Contents, Run, Gives, Fails, Absent, ◌>>=◌}
 use Rattle.at_model.specs.Follow.{follow}
 use Rattle.at_rules.specs.declared.body.Body.{Body}
 use Rattle.at_body.specs.declared.value.Value.{Value as ValueCode}
@@ -59,6 +59,7 @@ refers (Int z) n e = absurd (cc)
 refers (Truth b) n e = absurd (cc)
 refers (Text s) n e = absurd (cc)
 refers (Ref o) n e = ap Ref e
+refers (Nodes ns) n e = absurd (cc)
 
 -- a value at hand is the receiver of a call, where it is a node
 pub hand_received : (look : Contents ℕ) (e : Expr) (t : Trial) (v : Value ℕ) (o : Option ℕ) → ((classes : Classes) → ev classes e (place_of t) ≡ Gives v) → o ≡ ref_of v → IsReceiver look e t t o

@@ -2,32 +2,37 @@
 use Rattle.std.specs.Prelude.{◌≡◌, ℕ, ℤ, Bool, true, false, List, [], ◌∷◌, Option, ◌⊎◌, refl}
 use Rattle.std.specs.Coded.{Coded, code_by, coded×, coded⊎, coded_list, coded_option, coded_bool, coded_ℕ, coded_ℤ}
 use Rattle.std.proofs.Common.{ap, ◌∙◌, inl, inr}
-use Rattle.at_model.specs.Run.{Value, Instance, Int, Truth, Text, Ref}
+use Rattle.at_model.specs.Run.{Value, Instance, Int, Truth, Text, Ref, Nodes}
 use Rattle.at_model.specs.of_fixpoints.Formulas.{Formula, Known, Asks, Both, Either}
 
 abbrev pub ValueMark : Type 0
-ValueMark = ℤ ⊎ (Bool ⊎ (List ℕ ⊎ Option ℕ))
+ValueMark = ℤ ⊎ (Bool ⊎ (List ℕ ⊎ (Option ℕ ⊎ List ℕ)))
 
 abbrev pub value_mark : Value ℕ → ValueMark
 value_mark (Int n) = inl n
 value_mark (Truth b) = inr (inl b)
 value_mark (Text bytes) = inr (inr (inl bytes))
-value_mark (Ref n) = inr (inr (inr n))
+value_mark (Ref n) = inr (inr (inr (inl n)))
+value_mark (Nodes ns) = inr (inr (inr (inr ns)))
 
 abbrev pub value_marked : ValueMark → Value ℕ
 value_marked (inl n) = Int n
 value_marked (inr (inl b)) = Truth b
 value_marked (inr (inr (inl bytes))) = Text bytes
-value_marked (inr (inr (inr n))) = Ref n
+value_marked (inr (inr (inr (inl n)))) = Ref n
+value_marked (inr (inr (inr (inr ns)))) = Nodes ns
 
 pub value_back : (v : Value ℕ) → value_marked (value_mark v) ≡ v
 value_back (Int n) = refl
 value_back (Truth b) = refl
 value_back (Text bytes) = refl
 value_back (Ref n) = refl
+value_back (Nodes ns) = refl
 
 abbrev pub value_code : Coded (Value ℕ)
-value_code = code_by ValueMark (coded⊎ coded_ℤ (coded⊎ coded_bool (coded⊎ (coded_list coded_ℕ) (coded_option coded_ℕ)))) value_mark value_marked value_back
+value_code = code_by ValueMark
+    (coded⊎ coded_ℤ (coded⊎ coded_bool (coded⊎ (coded_list coded_ℕ) (coded⊎ (coded_option coded_ℕ) (coded_list coded_ℕ)))))
+    value_mark value_marked value_back
 
 abbrev pub instance_code : Coded (Instance ℕ)
 instance_code = code_by (ℕ × (ℕ × List (Value ℕ))) (coded× coded_ℕ (coded× coded_ℕ (coded_list value_code)))

@@ -4,12 +4,12 @@ use mathlib.Core.Path.{ap, ◌∙◌, sym}
 use mathlib.Core.Bool.{true≢false}
 use Rattle.std.specs.Bool.{Decides, one_answer}
 use Rattle.std.specs.Cmp.{IsEquivalence, first_so, second_so, on_equiv, and_equiv, nat_eq_equiv, signed_Decides, unsigned_Decides}
-use Rattle.std.specs.Cmp.Lexicographic.{lists_equiv, pointwise}
+use Rattle.std.specs.Cmp.Lexicographic.{lists_equiv, pointwise, pointwise_decides}
 use Rattle.std.specs.Hash.{Alike, same_Alike, items_Alike}
 use Rattle.std.specs.Hash as fed
 use Rattle.std.proofs.lemmas.Slice.Eq.{bytes_eq-Decides}
 use Rattle.at_model.specs.Bodies.{bool_eq, ref_eq}
-use Rattle.at_model.specs.Run.{Value, Int, Truth, Text, Ref, Instance}
+use Rattle.at_model.specs.Run.{Value, Int, Truth, Text, Ref, Nodes, Instance}
 use Rattle.at_body.specs.Same.{same_value, same_instance, value_writes, place_number, arguments_writes, instance_writes}
 
 bools_agree : (a b : Bool) → bool_eq a b ≡ true → a ≡ b
@@ -32,29 +32,42 @@ ref_itself : (n : Option ℕ) → ref_eq nat_eq n n ≡ true
 ref_itself None = refl
 ref_itself (Some n) = nat_eq_equiv.refl n
 
+nodes_decided : (ms ns : List ℕ) → Decides (pointwise nat_eq ms ns) (ms ≡ ns)
+nodes_decided = pointwise_decides unsigned_Decides
+
 values_agree : (v w : Value ℕ) → same_value v w ≡ true → v ≡ w
 values_agree (Int m) (Int n) h = ap Int ((signed_Decides m n).0 h)
 values_agree (Truth a) (Truth b) h = ap Truth (bools_agree a b h)
 values_agree (Text s) (Text t) h = ap Text ((bytes_eq-Decides s t).0 h)
 values_agree (Ref m) (Ref n) h = ap Ref (refs_agree m n h)
+values_agree (Nodes ms) (Nodes ns) h = ap Nodes ((nodes_decided ms ns).0 h)
 values_agree (Int m) (Truth b) h = absurd (true≢false (sym h))
 values_agree (Int m) (Text t) h = absurd (true≢false (sym h))
 values_agree (Int m) (Ref n) h = absurd (true≢false (sym h))
+values_agree (Int m) (Nodes ns) h = absurd (true≢false (sym h))
 values_agree (Truth a) (Int n) h = absurd (true≢false (sym h))
 values_agree (Truth a) (Text t) h = absurd (true≢false (sym h))
 values_agree (Truth a) (Ref n) h = absurd (true≢false (sym h))
+values_agree (Truth a) (Nodes ns) h = absurd (true≢false (sym h))
 values_agree (Text s) (Int n) h = absurd (true≢false (sym h))
 values_agree (Text s) (Truth b) h = absurd (true≢false (sym h))
 values_agree (Text s) (Ref n) h = absurd (true≢false (sym h))
+values_agree (Text s) (Nodes ns) h = absurd (true≢false (sym h))
 values_agree (Ref m) (Int n) h = absurd (true≢false (sym h))
 values_agree (Ref m) (Truth b) h = absurd (true≢false (sym h))
 values_agree (Ref m) (Text t) h = absurd (true≢false (sym h))
+values_agree (Ref m) (Nodes ns) h = absurd (true≢false (sym h))
+values_agree (Nodes ms) (Int n) h = absurd (true≢false (sym h))
+values_agree (Nodes ms) (Truth b) h = absurd (true≢false (sym h))
+values_agree (Nodes ms) (Text t) h = absurd (true≢false (sym h))
+values_agree (Nodes ms) (Ref n) h = absurd (true≢false (sym h))
 
 value_itself : (v : Value ℕ) → same_value v v ≡ true
 value_itself (Int n) = (signed_Decides n n).1 refl
 value_itself (Truth b) = bool_itself b
 value_itself (Text s) = (bytes_eq-Decides s s).1 refl
 value_itself (Ref n) = ref_itself n
+value_itself (Nodes ns) = (nodes_decided ns ns).1 refl
 
 pub values_decided : (v w : Value ℕ) → Decides (same_value v w) (v ≡ w)
 values_decided v w = (values_agree v w, λ e. ap (same_value v) (sym e) ∙ value_itself v)

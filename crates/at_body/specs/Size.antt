@@ -1,6 +1,6 @@
 -- How much an expression has to do at most.
 use Rattle.std.specs.Prelude.{ℕ, ◌+◌, ◌*◌}
-use Rattle.at_model.specs.Bodies.{Expr, Exprs, no_exprs, expr, Negate, Not, Arithmetic, Compare, Join, JoinInt, Same, Differ, And, Or, Choose, Equals, InstanceOf, CastTo, Child, Element, Count, Has, TokenOf, Call, Exists, First, Sum}
+use Rattle.at_model.specs.Bodies.{Expr, Exprs, no_exprs, expr, Negate, Not, Arithmetic, Compare, Join, JoinInt, Same, Differ, And, Or, Choose, Equals, InstanceOf, CastTo, Child, Element, Count, Has, TokenOf, Call, Exists, First, Sum, SeekAny, SeekFirst, Listed, Only, Union, Contains, Over, Children, Parent, Passed}
 
 -- the most children that a component has
 unfoldable pub most : ℕ
@@ -35,6 +35,16 @@ abbrev mutual
   size (Exists a part b) = size a + tests (size b) most + 2
   size (First a part b) = size a + tests (size b) most + 2
   size (Sum a part b) = size a + tests (size b) most + 2
+  size (Listed a part) = size a + 2
+  size (Only a) = size a + 2
+  size (Union a b) = size a + size b + 3
+  size (Contains a b) = size a + size b + 3
+  size (Over fold a b) = size a + tests (size b) (most + 1) + 2
+  size (Children a) = size a + 2
+  size (Parent a) = size a + 2
+  size (Passed a) = size a + 2
+  size (SeekAny a part key t b) = size a + size t + tests (size b) most + 3
+  size (SeekFirst a part key t b) = size a + size t + tests (size b) most + 3
   size e = 1
 
   pub sizes : Exprs → ℕ

@@ -5,7 +5,7 @@ use Rattle.std.specs.Borrow.{Bor}
 use Rattle.std.specs.Global.{Box}
 use Rattle.at_model.specs.Classes.{Classes, TokenKind, Many, Maybe, Token, is_sub}
 use Rattle.at_model.specs.Run.{Value, Instance, Contents, Known, Run, Gives, Fails, Looks}
-use Rattle.at_model.specs.Rules.{Rules, Kind, Int, Truth, Text, Class, Attribute}
+use Rattle.at_model.specs.Rules.{Rules, Kind, Int, Truth, Text, Class, Nodes, Attribute}
 use Rattle.at_model.specs.Kinds.{ScopeKinds, HasKind, HaveKinds, AreComparable, shape_of_part, single_class, kind_of_token}
 use Rattle.at_model.specs.TypedRuns.{ClassAt, class_at, class_numbered, IsNodeOf, IsOfKind, AreArguments, AreContentsTyped, IsOfItsKind, IsWellTyped}
 use Rattle.at_model.specs.WellFormed.{IsHierarchy}
@@ -173,12 +173,14 @@ pub data IsTodo (rules : Rules) (at : ClassAt ℕ) : PlaceKinds → Kind → Tod
       IsNodeOf rules.classes at n b → AllByRecursion (λ m. IsNodeOf rules.classes at m b) ns.now →
       IsTodo rules at (kinds_inside s b) k (Element f e n ns) s m
 
--- a stack of things to do waits for a value of the kind; one for a class waits for each class below, too
+-- a stack of things to do waits for a value of the kind; one for a class, or for nodes of it, waits for each class below, too
 pub data AreTodos (rules : Rules) (at : ClassAt ℕ) : PlaceKinds → Kind → List Todo → Type 0 where
   ended : (s : PlaceKinds) (k : Kind) → AreTodos rules at s k []
   more : {s s' : PlaceKinds} {k k' : Kind} {t : Todo} {ts : List Todo} → IsTodo rules at s k t s' k' → AreTodos rules at s' k' ts
       → AreTodos rules at s k (t ∷ ts)
   widened : {s : PlaceKinds} {ts : List Todo} (c d : ℕ) → is_sub rules.classes c d ≡ true → AreTodos rules at s (Class d) ts → AreTodos rules at s (Class c) ts
+  widened_all : {s : PlaceKinds} {ts : List Todo} (c d : ℕ) → is_sub rules.classes c d ≡ true
+      → AreTodos rules at s (Nodes d) ts → AreTodos rules at s (Nodes c) ts
 
 -- trials --------------------------------------------------------------------------------------------------------------
 

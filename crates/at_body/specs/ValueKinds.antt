@@ -1,6 +1,6 @@
 -- What a value is.
 use Rattle.std.specs.Prelude.{ℕ, ⊤}
-use Rattle.at_model.specs.Run.{Value, Int, Truth, Text, Ref}
+use Rattle.at_model.specs.Run.{Value, Int, Truth, Text, Ref, Nodes}
 
 -- what a value is
 abbrev pub IsInt : Value ℕ → Type 0
@@ -19,9 +19,14 @@ abbrev pub IsRef : Value ℕ → Type 0
 IsRef (Ref n) = ⊤
 IsRef v = ⊥
 
+abbrev pub AreNodes : Value ℕ → Type 0
+AreNodes (Nodes ns) = ⊤
+AreNodes v = ⊥
+
 -- both are of one kind
 abbrev pub AreAlike : Value ℕ → Value ℕ → Type 0
 AreAlike (Int m) w = IsInt w
 AreAlike (Truth a) w = IsTruth w
 AreAlike (Text bytes) w = IsText w
 AreAlike (Ref m) w = IsRef w
+AreAlike (Nodes ns) w = AreNodes w

@@ -13,9 +13,8 @@ use Rattle.at_cache.specs.declared.edge.Edge.{Edge}
 use Rattle.at_cache.specs.declared.facet.Facet.{Facet}
 use Rattle.at_cache.specs.declared.facet.Facet.TheVariants as facet
 use Rattle.at_cache.specs.declared.facet.Readers.{Readers}
-use Rattle.at_cache.specs.declared.scope.Scope.{Scope}
 use Rattle.at_cache.specs.Edges.{edges_in}
-use Rattle.at_cache.specs.Asking.{Asked, looks_at}
+use Rattle.at_cache.specs.Asking.{Asked}
 use Rattle.at_cache.specs.Flushing.{Begins}
 use Rattle.at_cache.specs.Kept.{Answers, node_at, same_location}
 use Rattle.at_cache.specs.Readers.{edges_among, has_number, number_of, stands_for}
@@ -45,14 +44,6 @@ module _ {says : Location ℕ → Bool → Type 0} {seen : Location ℕ → Bool
       ]
     ];
   }
-
--- What is asked of the facet of a node, where that is in the scope.
-pub told_of_facet : (says : Location ℕ → Bool → Type 0) (n : ℕ) (f : Facet) (s : Scope) (b : Bool)
-    → MatchBool b ((l : Location ℕ) × (stands_for n f l ≡ true) × says l true) ((l : Location ℕ) → stands_for n f l ≡ true → says l false)
-    → MatchBool b ((l : Location ℕ) × (stands_for n f l ≡ true) × says l true)
-    ((l : Location ℕ) → stands_for n f l ≡ true → looks_at s l ≡ true → says l false)
-told_of_facet says n f s true it = it
-told_of_facet says n f s false none = λ l stands seen. none l stands
 
 -- What is answered of the one location of a facet.
 pub told_of_one : (post : Loc → Bool → Type 0) (n : ℕ) (f : Facet) (x : Loc) (b : Bool) → ((l : Location ℕ) → stands_for n f l ≡ same_location l (loc_view x))
@@ -162,10 +153,12 @@ module _ {says : Location ℕ → Bool → Type 0} {seen : Location ℕ → Bool
   asked_next_untouched said = on_more edges (subst (Asked says seen (edges_among n (take i rs ++ r ∷ []))) (append-nil edges) (asked_both (among_more n (take i rs) r) asked (asked_untouched n r said)))
 
 module _ {says : Location ℕ → Bool → Type 0} {seen : Location ℕ → Bool} {lists : Location ℕ → List Edge} {start : List Edge} where
-  -- what isn't seen has the answer `false`
-  pub begins_by : Asked says seen lists start → ((l : Location ℕ) → seen l ≡ false → says l false) → Begins says lists start
+  -- what isn't seen has the answer `false`, or no edge
+  pub begins_by : Asked says seen lists start
+      → ((l : Location ℕ) → seen l ≡ false → says l false ⊎ ((x : Edge) → Contains (lists l) x → ⊥))
+      → Begins says lists start
   begins_by a others = record { from = a.from; all = λ l. by l (seen l) refl }
     where
       by : (l : Location ℕ) (b : Bool) → seen l ≡ b → says l false ⊎ ((x : Edge) → Contains (lists l) x → Contains start x)
       by l true s = a.all l s
-      by l false s = inl (others l s)
+      by l false s = elim (others l s) [ inl said ↦ inl said | inr none ↦ inr (λ x c. absurd (none x c)) ]

@@ -112,12 +112,6 @@ pub value_taken : (o : Option (Instance ℕ × Entry)) (r : Option Entry) → r 
 value_taken None r h = subst (λ q. IfSome q (λ e. (i : Instance ℕ) × (None ≡ Some (info (i, e))))) (sym h) tt
 value_taken (Some e) r h = subst (λ q. IfSome q (λ f. (i : Instance ℕ) × (Some (info e) ≡ Some (info (i, f))))) (sym h) (e.0, refl)
 
-pub memory_taken : (slot : ℕ) (old new : ℕ → Option (Instance ℕ × Entry)) → ((k : ℕ) → new k ≡ (if nat_eq k slot then None else old k)) → (option_map info (new slot) ≡ None) × ((k : ℕ) → (k ≡ slot → ⊥) → option_map info (new k) ≡ option_map info (old k))
-memory_taken slot old new h = (
-  ap (option_map info) (h slot ∙ ap (λ b. if b then None else old slot) (eq-eqb slot slot refl)),
-  λ k differs. ap (option_map info) (h k ∙ ap (λ b. if b then None else old k) (ne_eqb k slot differs)),
-)
-
 pub memory_entered : (slot : ℕ) (e : Instance ℕ × Entry) (old new : ℕ → Option (Instance ℕ × Entry)) → ((k : ℕ) → new k ≡ (if nat_eq k slot then Some e else old k)) → (option_map info (new slot) ≡ Some (info e)) × ((k : ℕ) → (k ≡ slot → ⊥) → option_map info (new k) ≡ option_map info (old k))
 memory_entered slot e old new h = (
   ap (option_map info) (h slot ∙ ap (λ b. if b then Some e else old slot) (eq-eqb slot slot refl)),

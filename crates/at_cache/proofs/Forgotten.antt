@@ -1,7 +1,6 @@
 -- A keeper with a bound.
-use Rattle.std.proofs.Common.{◌≡◌, ◌∙◌, ℕ, Bool, List, None, ap, option_map, sym, subst}
+use Rattle.std.proofs.Common.{◌≡◌, ◌∙◌, ℕ, Bool, List, ap, option_map, subst}
 use Rattle.std.specs.Map.{lookup}
-use Rattle.std.proofs.lemmas.Option.{none-some}
 use Rattle.at_model.specs.Run.{Instance, Location}
 use Rattle.at_body.specs.Same.{same_instance}
 use Rattle.at_body.specs.Values.{value_view}
@@ -15,13 +14,9 @@ use Rattle.at_cache.specs.Folding.{LeavesKept}
 use Rattle.at_cache.specs.Info.{Memory, memory_of}
 use Rattle.at_cache.specs.Keeping.{recorded_by}
 use Rattle.at_cache.specs.Recorded.{covers, kept_in}
-use Rattle.at_cache.specs.Kept.{Entries, KeepsAll, LeavesUntouched, LosesTouched}
+use Rattle.at_cache.specs.Kept.{Entries, LeavesUntouched, LosesTouched}
 use Rattle.at_cache.specs.Standings.{kept_held, remembered}
 use Rattle.at_cache.specs.Traced.{Memories, StayTraced}
-
--- what keeps nothing leaves what was kept
-pub leaves_nothing : (old new : Entries) → KeepsAll (λ i. None) new → LeavesKept old new
-leaves_nothing old new none i k h = absurd (none-some k (sym (none i) ∙ h))
 
 -- what a flush leaves of what is left was left of what was kept
 pub flush_leaves : (says : Location ℕ → Bool → Type 0) (old mid new : Entries) → LeavesKept old mid → LeavesUntouched says mid new → LeavesUntouched says old new

@@ -1,7 +1,5 @@
 -- Lists of edges that lose those that tell of no entry, and gain one.
-use Rattle.std.proofs.Common.{◌≡◌, ◌⊎◌, inl, inr, ℕ, List, [], ◌∷◌, ◌++◌, Bool, true, false, Option, None, Some, cond, nat_eq, Contains, filter, option_map, if◌then◌else◌, refl, sym, ap, ◌∙◌, subst, arith, zero, suc, map, take, IsSome, is_some, ◌<◌, length, get_or, swap_remove, IsPermutation}
-use Rattle.std.proofs.lemmas.List.Sorted.{Contains-permutation, IsPermutation-swap_remove, IsPermutation-sym}
-use Rattle.std.proofs.lemmas.List.{get_or_default}
+use Rattle.std.proofs.Common.{◌≡◌, ◌⊎◌, inl, inr, ℕ, List, [], ◌∷◌, ◌++◌, Bool, true, false, Option, None, Some, nat_eq, Contains, option_map, if◌then◌else◌, refl, sym, ap, ◌∙◌, subst, arith, zero, suc, map, take, IsSome, is_some, length}
 use Rattle.std.proofs.lemmas.Bool.{cases_eq, eq-eqb, ne_eqb}
 use Rattle.std.proofs.lemmas.List.Elements.{Contains-append_left, Contains-push, Contains-push_cases}
 use Rattle.slab.proofs.SlabLemmas.{Contains-cons, Contains-cons_cases}
@@ -13,33 +11,8 @@ use Rattle.at_cache.specs.Putting.{AreListed, Keeps, Lists, Reads, Uses, is_curr
 use Rattle.at_cache.proofs.Dooming.{head_of}
 use Rattle.at_cache.proofs.Taking.{none_in}
 
-module _ {X : Type 0} (p : X → Bool) where
-  pub filtered_has : (xs : List X) (x : X) → Contains xs x → p x ≡ true → Contains (filter p xs) x
-  filtered_has [] x c h = absurd (none_in x c)
-  filtered_has (y ∷ ys) x c h = by (p y) refl (Contains-cons_cases y x ys c) (λ d. filtered_has ys x d h)
-    where
-      by : (b : Bool) → p y ≡ b → (y ≡ x) ⊎ Contains ys x → (Contains ys x → Contains (filter p ys) x) → Contains (cond b (y ∷ filter p ys) (filter p ys)) x
-      by true e (inl same) on = subst (λ z. Contains (z ∷ filter p ys) x) (sym same) (head_of x (filter p ys))
-      by true e (inr d) on = Contains-cons y x (filter p ys) (on d)
-      by false e (inl same) on = absurd (let t = ap p same in cc)
-      by false e (inr d) on = on d
-
-  pub filtered_from : (xs : List X) (x : X) → Contains (filter p xs) x → Contains xs x
-  filtered_from [] x c = absurd (none_in x c)
-  filtered_from (y ∷ ys) x c = by (p y) c (λ d. filtered_from ys x d)
-    where
-      by : (b : Bool) → Contains (cond b (y ∷ filter p ys) (filter p ys)) x → (Contains (filter p ys) x → Contains ys x) → Contains (y ∷ ys) x
-      by true d on = elim (Contains-cons_cases y x (filter p ys) d) [ inl same ↦ subst (λ z. Contains (z ∷ ys) x) (sym same) (head_of x ys) | inr e ↦ Contains-cons y x ys (on e) ]
-      by false d on = Contains-cons y x ys (on d)
-
 pub current : (m : Memory) (y : Edge) (e : Info) → m y.slot ≡ Some e → e.stamp ≡ y.stamp → is_current m y ≡ true
 current m y e there same = ap (λ (o : Option Info). elim o as (λ _. Bool) [ None ↦ false | Some e ↦ nat_eq e.stamp y.stamp ]) there ∙ eq-eqb e.stamp y.stamp same
-
-pub purged : (m : Memory) (old new : List Edge) → new ≡ filter (is_current m) old → Keeps m old new
-purged m old new is = record {
-  keeps = λ y c e there same. subst (λ ys. Contains ys y) (sym is) (filtered_has (is_current m) old y c (current m y e there same));
-  from = λ y c. filtered_from (is_current m) old y (subst (λ ys. Contains ys y) is c);
-}
 
 pub kept_all : (m : Memory) (old new : List Edge) → new ≡ old → Keeps m old new
 kept_all m old new is = record { keeps = λ y c e there same. subst (λ ys. Contains ys y) (sym is) c; from = λ y c. subst (λ ys. Contains ys y) is c }
@@ -234,21 +207,5 @@ still_kept {old = old} {new = new} u k some = let (e, h) = from_kept old k some 
 pub still_there : (s : ℕ) (us : List Edge) (m mid : Memory) → IsSome (m s) → ((k : ℕ) → mid k ≡ reused s us m k) → IsSome (mid s)
 still_there s us m mid some is = let (e, there) = from_kept m s some in let (f, found, same) = reused_from s us m mid is s e there in ap is_some found
 
--- an edge that tells of no entry is let go
 pub keeps_itself : (m : Memory) (old : List Edge) → Keeps m old old
 keeps_itself m old = kept_all m old old refl
-
-pub purge_one : {m : Memory} {old mid new : List Edge} (i : ℕ) (x : Edge) → Keeps m old mid → i < length mid → x ≡ get_or mid i x → is_current m x ≡ false → new ≡ swap_remove mid i x → Keeps m old new
-purge_one {m} {old} {mid} {new} i x k inside is stale swapped =
-    let shuffled : IsPermutation mid (x ∷ new) = subst (λ ys. IsPermutation mid (x ∷ ys)) (sym swapped) (IsPermutation-swap_remove mid i x inside is) in
-    record {
-      keeps = λ y c e there same. elim (Contains-cons_cases x y new (Contains-permutation mid (x ∷ new) y shuffled (k.keeps y c e there same))) [
-        | inl alike ↦ absurd (let fresh = ap (is_current m) alike ∙ current m y e there same in cc)
-        | inr rest ↦ rest
-      ];
-      from = λ y c. k.from y (Contains-permutation (x ∷ new) mid y (IsPermutation-sym mid (x ∷ new) shuffled) (Contains-cons x y new c));
-    }
-
--- an edge that was read by its place
-pub current_read : (m : Memory) (read edges : List Edge) (i : ℕ) (x : Edge) → read ≡ edges → i < length edges → x ≡ get_or edges i x → (d : Edge) → is_current m x ≡ is_current m (get_or read i d)
-current_read m read edges i x same less is d = ap (is_current m) (is ∙ get_or_default edges i x d less ∙ ap (λ (es : List Edge). get_or es i d) (sym same))

@@ -7,45 +7,61 @@ use Rattle.std.proofs.Math.Pow.{pow_pos}
 use Rattle.std.proofs.lemmas.Nat.{one_shl}
 use Rattle.std.proofs.lemmas.Nat.Bits.{bit_at-lt, bit_at_above, bit_at-pow_other, bit_at-pow_same, bit_at_or}
 use Rattle.std.proofs.lemmas.Option.{none-some, same_Some}
+use Rattle.std.proofs.lemmas.Slice.Eq.{bytes_eq-Decides}
 use Rattle.slab.proofs.SlabLemmas.{Contains-cons, Contains-cons_cases}
-use Rattle.at_model.specs.Run.{Location, Is, Tok, Slot, Up, Idx}
+use Rattle.at_model.specs.Run.{Location, Is, Tok, Slot, Up, Idx, Drawer}
 use Rattle.at_model.proofs.Options.{both}
 use Rattle.at_store.specs.declared.node.Loc.{Loc}
 use Rattle.at_store.specs.Located.{loc_view}
 use Rattle.at_cache.specs.Asking.{is_index}
 use Rattle.at_cache.specs.declared.facet.Facet.{Facet}
 use Rattle.at_cache.specs.declared.facet.Facet.TheVariants as facet
-use Rattle.at_cache.specs.Kept.{form_of, node_at, part_at, same_location}
+use Rattle.at_cache.specs.Kept.{form_of, marks_at, node_at, part_at, same_location}
 use Rattle.at_cache.specs.Readers.{IsFirst, has_number, is_near, is_of_index, number_of, stands_for}
 use Rattle.at_cache.proofs.Dooming.{head_of}
 
-built : ℕ → ℕ → ℕ → Location ℕ
-built zero n part = Is n
-built (suc zero) n part = Tok n part
-built (suc (suc zero)) n part = Slot n part
-built (suc (suc (suc zero))) n part = Up n
-built (suc (suc (suc (suc k)))) n part = Idx n
+-- the drawer with that key and mark
+drawn : ℕ → ℕ → List ℕ → Location ℕ
+drawn n part (first ∷ classes ∷ token ∷ mark ∷ ks) =
+    Drawer n part (record { first = first; classes = classes; token = token }) mark
+drawn n part ks = Idx n
 
-rebuilt : (l : Location ℕ) → built (form_of l) (node_at l) (part_at l) ≡ l
-unfolding built
+built : ℕ → ℕ → ℕ → List ℕ → Location ℕ
+built zero n part ks = Is n
+built (suc zero) n part ks = Tok n part
+built (suc (suc zero)) n part ks = Slot n part
+built (suc (suc (suc zero))) n part ks = Up n
+built (suc (suc (suc (suc zero)))) n part ks = Idx n
+built (suc (suc (suc (suc (suc k))))) n part ks = drawn n part ks
+
+rebuilt : (l : Location ℕ) → built (form_of l) (node_at l) (part_at l) (marks_at l) ≡ l
+unfolding built drawn
 rebuilt (Is n) = refl
 rebuilt (Tok n part) = refl
 rebuilt (Slot n part) = refl
 rebuilt (Up n) = refl
 rebuilt (Idx n) = refl
+rebuilt (Drawer n part key mark) = refl
 
 pub same_location-is : (l m : Location ℕ) → same_location l m ≡ true → l ≡ m
 same_location-is l m h =
     let p = both _ _ h in
     let q = both _ _ p.1 in
+    let r = both _ _ q.1 in
     sym (rebuilt l)
-    ∙ ap (λ k. built k (node_at l) (part_at l)) (eqb-true _ _ p.0)
-    ∙ ap (λ k. built (form_of m) k (part_at l)) (eqb-true _ _ q.0)
-    ∙ ap (built (form_of m) (node_at m)) (eqb-true _ _ q.1)
+    ∙ ap (λ k. built k (node_at l) (part_at l) (marks_at l)) (eqb-true _ _ p.0)
+    ∙ ap (λ k. built (form_of m) k (part_at l) (marks_at l)) (eqb-true _ _ q.0)
+    ∙ ap (λ k. built (form_of m) (node_at m) k (marks_at l)) (eqb-true _ _ r.0)
+    ∙ ap (built (form_of m) (node_at m) (part_at m)) ((bytes_eq-Decides (marks_at l) (marks_at m)).0 r.1)
     ∙ rebuilt m
 
 pub same_location-itself : (l : Location ℕ) → same_location l l ≡ true
-same_location-itself l = let a = eq-eqb (form_of l) _ refl in let b = eq-eqb (node_at l) _ refl in let c = eq-eqb (part_at l) _ refl in rw (a, b, c) refl
+same_location-itself l =
+    let a = eq-eqb (form_of l) _ refl in
+    let b = eq-eqb (node_at l) _ refl in
+    let c = eq-eqb (part_at l) _ refl in
+    let d = (bytes_eq-Decides (marks_at l) (marks_at l)).1 refl in
+    rw (a, b, c, d) refl
 
 -- the location of a node with that number
 located : ℕ → ℕ → Location ℕ
@@ -78,6 +94,7 @@ relocated (Up n) k h = ap (located n) (sym (same_Some _ _ h))
 relocated (Tok n part) k h = of_token n part k (same_Some _ _ h)
 relocated (Slot n part) k h = of_component n part k (same_Some _ _ h)
 relocated (Idx n) k h = absurd (none-some k h)
+relocated (Drawer n part key mark) k h = absurd (none-some k h)
 
 -- a location is known by its node and its number
 pub same_number : (l m : Location ℕ) (k : ℕ) → node_at l ≡ node_at m → number_of l ≡ Some k → number_of m ≡ Some k → l ≡ m
@@ -189,6 +206,7 @@ stands_index n (facet.Near set) l h = by l (both _ _ h).0
     by (Tok k part) near = refl
     by (Slot k part) near = refl
     by (Idx k) near = absurd (true≢false (sym near))
+    by (Drawer k part key mark) near = refl
 stands_index n (facet.Tok part) l h = ap is_index (same_location-is l (Tok n part) h)
 stands_index n (facet.Slot part) l h = ap is_index (same_location-is l (Slot n part) h)
 stands_index n facet.Idx l h = ap is_index (same_location-is l (Idx n) h)

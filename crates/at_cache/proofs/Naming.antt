@@ -6,7 +6,7 @@ use Rattle.std.proofs.lemmas.Option.{slice_get_past}
 use Rattle.std.proofs.lemmas.List.{take_more}
 use Rattle.std.proofs.lemmas.List.Elements.{Contains-append_cases, Contains-append_left, Contains-append_right}
 use Rattle.smallvec.specs.SmallVec.{SmallVec}
-use Rattle.at_model.specs.Run.{Location, Is, Tok, Slot, Up, Idx}
+use Rattle.at_model.specs.Run.{Location, Is, Tok, Slot, Up, Idx, Drawer}
 use Rattle.at_model.specs.Touches.{node_of}
 use Rattle.at_store.specs.declared.node.Loc.{Loc}
 use Rattle.at_store.specs.declared.node.Loc.TheVariants as loc
@@ -15,14 +15,17 @@ use Rattle.at_store.specs.declared.places.Places.{Places}
 use Rattle.at_store.specs.Places.{is_index_among, is_node, named, names_around}
 use Rattle.at_cache.specs.declared.edge.Edge.{Edge}
 use Rattle.at_cache.specs.declared.facet.Readers.{Readers}
+use Rattle.at_cache.specs.declared.run.AllReaders.{AllReaders}
 use Rattle.at_cache.specs.declared.scope.Scope.{Scope}
 use Rattle.at_cache.specs.declared.scope.Scope.TheVariants as scope
 use Rattle.at_cache.specs.Asking.{AreNoted, GoesOn, looks_at, sees}
+use Rattle.at_cache.specs.Finding.{edges_to}
 use Rattle.at_cache.specs.Flushing.{Begins, IsIdle, Work}
 use Rattle.at_cache.specs.Info.{Memory}
 use Rattle.at_cache.specs.Kept.{Answers, AreNamed, node_at}
 use Rattle.at_cache.specs.Readers.{edges_among, edges_at}
 use Rattle.at_cache.proofs.Beginning.{among_others, begins_by}
+use Rattle.at_cache.proofs.of_runs.Drawers.{unread}
 use Rattle.at_cache.proofs.Ending.{and, any_of, both, either, has, some_of}
 use Rattle.at_cache.proofs.Listed.{edges_are, no_edges}
 use Rattle.at_cache.proofs.Moving.{got}
@@ -128,6 +131,7 @@ seen_node node l h = and _ _ (ap (nat_eq node) (by l) ∙ h) refl
     by (Slot n part) = refl
     by (Up n) = refl
     by (Idx n) = refl
+    by (Drawer n part key mark) = refl
 
 seen_nodes : (nodes : List ℕ) (l : Location ℕ) → list_any (nat_eq (node_of l)) nodes ≡ true → list_any (λ n. sees scope.All n l) nodes ≡ true
 seen_nodes nodes l h =
@@ -144,6 +148,7 @@ module _ {says : Location ℕ → Bool → Type 0} {lists : Location ℕ → Lis
       by (Tok n part) h = absurd (true≢false (sym h))
       by (Slot n part) h = absurd (true≢false (sym h))
       by (Up n) h = absurd (true≢false (sym h))
+      by (Drawer n part key mark) h = absurd (true≢false (sym h))
       by (Idx n) h = inl (seen_index children n h)
 
   -- the nodes are looked at of which the index was read
@@ -159,6 +164,7 @@ module _ {says : Location ℕ → Bool → Type 0} {lists : Location ℕ → Lis
       by (Tok n part) h = absurd (true≢false (sym h))
       by (Slot n part) h = absurd (true≢false (sym h))
       by (Up n) h = absurd (true≢false (sym h))
+      by (Drawer n part key mark) h = absurd (true≢false (sym h))
       by (Idx n) h = listed n (list_any (nat_eq n) nodes) refl
 
   -- one node is looked at, if there is one
@@ -186,14 +192,17 @@ module _ {says : Location ℕ → Bool → Type 0} {lists : Location ℕ → Lis
       → GoesOn says (names_around p.target) lists f2 m2 f3 m3 → GoesOn says (names_around p.source) lists f3 m3 f4 m4 → GoesOn says (named p) lists f0 m0 f4 m4
   goes_to_named p a b c d = goes_further (goes_further (goes_further (goes_to_nodes p.leaving.now a) b) c) d
 
--- what isn't named has the answer `false`
-pub begins_named : {post : Loc → Bool → Type 0} {lists : Location ℕ → List Edge} {later : Option ℕ} {m n : Memory} (p : Places) → AreNamed p post → GoesOn (Answers post) (named p) lists None m later n → IsIdle m
-    → (start : List Edge) × Work m start [] later n × Begins (Answers post) lists start
-begins_named {post = post} {m = m} p answers a idle = let (start, done, asked) = a m [] (begun m idle) in (start, done, begins_by asked by)
+-- what isn't named has the answer `false`; a drawer has no edge
+pub begins_named : {post : Loc → Bool → Type 0} (rs : AllReaders) {later : Option ℕ} {m n : Memory} (p : Places)
+    → AreNamed p post → GoesOn (Answers post) (named p) (edges_to rs) None m later n → IsIdle m
+    → (start : List Edge) × Work m start [] later n × Begins (Answers post) (edges_to rs) start
+begins_named {post = post} rs {m = m} p answers a idle =
+    let (start, done, asked) = a m [] (begun m idle) in (start, done, begins_by asked by)
   where
-    by : (l : Location ℕ) → named p l ≡ false → Answers post l false
-    by (Is n) h = (loc.Is n, refl, answers (loc.Is n) h)
-    by (Tok n part) h = (loc.Tok n part, refl, answers (loc.Tok n part) h)
-    by (Slot n part) h = (loc.Slot n part, refl, answers (loc.Slot n part) h)
-    by (Up n) h = (loc.Up n, refl, answers (loc.Up n) h)
-    by (Idx n) h = (loc.Idx n, refl, answers (loc.Idx n) h)
+    by : (l : Location ℕ) → named p l ≡ false → Answers post l false ⊎ ((x : Edge) → Contains (edges_to rs l) x → ⊥)
+    by (Is n) h = inl (loc.Is n, refl, answers (loc.Is n) h)
+    by (Tok n part) h = inl (loc.Tok n part, refl, answers (loc.Tok n part) h)
+    by (Slot n part) h = inl (loc.Slot n part, refl, answers (loc.Slot n part) h)
+    by (Up n) h = inl (loc.Up n, refl, answers (loc.Up n) h)
+    by (Idx n) h = inl (loc.Idx n, refl, answers (loc.Idx n) h)
+    by (Drawer n part key mark) h = inr (λ x c. none_in x (subst (λ es. Contains es x) (unread n part key mark rs) c))

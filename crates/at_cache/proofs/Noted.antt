@@ -1,7 +1,6 @@
 -- The nodes of which an entry read the index.
 use Rattle.std.proofs.Common.{◌≡◌, inl, inr, ℕ, ◌<◌, List, [], ◌∷◌, ◌++◌, Bool, true, false, true≢false, Some, Contains, IsTrue, not, cond, nat_eq, length, get_or, slice_get, refl, sym, ap, ◌∙◌, subst}
 use Rattle.std.specs.List.{list_any}
-use Rattle.std.proofs.lemmas.Bool.{eq-eqb}
 use Rattle.std.proofs.lemmas.List.Elements.{Contains-append_left, Contains-append_right}
 use Rattle.slab.proofs.SlabLemmas.{Contains-cons_cases}
 use Rattle.smallvec.specs.SmallVec.{SmallVec}
@@ -19,7 +18,7 @@ use Rattle.at_cache.specs.Recorded.{is_listed}
 use Rattle.at_cache.proofs.Beginning.{edges_of}
 use Rattle.at_cache.proofs.Dooming.{head_of}
 use Rattle.at_cache.proofs.Listed.{edges_are}
-use Rattle.at_cache.proofs.Ending.{any_of, either, has, on_left, on_right}
+use Rattle.at_cache.proofs.Ending.{either, has, on_left, on_right}
 use Rattle.at_cache.proofs.Locations.{index_stands}
 use Rattle.at_cache.proofs.Taking.{none_in}
 
@@ -48,9 +47,6 @@ any_before p (n ∷ ns) more h = elim (either (p n) (list_any p ns) h) [
 -- one node more is noted
 pub noted_more : (lists : Location ℕ → List Edge) (old new : List ℕ) (node : ℕ) → new ≡ old ++ node ∷ [] → AreNoted lists old → AreNoted lists new
 noted_more lists old new node is noted n x h = subst (λ ns. list_any (nat_eq n) ns ≡ true) (sym is) (any_before (nat_eq n) old (node ∷ []) (noted n x h))
-
-pub node_noted : (old new : List ℕ) (node : ℕ) → new ≡ old ++ node ∷ [] → list_any (nat_eq node) new ≡ true
-node_noted old new node is = any_of (nat_eq node) new node (subst (λ ns. Contains ns node) (sym is) (Contains-append_right old (node ∷ []) node (head_of node []))) (eq-eqb node node refl)
 
 pub noted_there : (lists : Location ℕ → List Edge) (nodes : List ℕ) (node : ℕ) → (x : Edge) × Contains (lists (Idx node)) x → AreNoted lists nodes → list_any (nat_eq node) nodes ≡ true
 noted_there lists nodes node (x, c) noted = noted node x (has (lists (Idx node)) x c)

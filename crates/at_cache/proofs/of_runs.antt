@@ -6,3 +6,4 @@ pub mod Passed
 pub mod Reaching
 pub mod Seats
 pub mod Stretches
+pub mod Drawers

@@ -1,7 +1,7 @@
 -- What is asked of nodes where a flush begins, all of their facets or the index alone.
 use Rattle.std.specs.Prelude.{◌≡◌, ◌&&◌, ◌⊎◌, ℕ, List, [], ◌++◌, Bool, true, false, Option, nat_eq, Contains}
 use Rattle.std.specs.List.{list_any}
-use Rattle.at_model.specs.Run.{Location, Is, Tok, Slot, Up, Idx}
+use Rattle.at_model.specs.Run.{Location, Is, Tok, Slot, Up, Idx, Drawer}
 use Rattle.at_cache.specs.declared.edge.Edge.{Edge}
 use Rattle.at_cache.specs.declared.scope.Scope.{Scope}
 use Rattle.at_cache.specs.declared.scope.Scope.TheVariants as scope
@@ -16,6 +16,7 @@ is_index (Tok n part) = false
 is_index (Slot n part) = false
 is_index (Up n) = false
 is_index (Idx n) = true
+is_index (Drawer n part key mark) = false
 
 -- whether a location is in the scope
 abbrev pub looks_at : Scope → Location ℕ → Bool

@@ -3,7 +3,7 @@ use Rattle.std.specs.Prelude.{◌≡◌, ◌<◌, ◌+◌, ◌*◌, ◌&&◌, �
 use Rattle.std.specs.Int.{bit_at}
 use Rattle.std.specs.List.{flat_map}
 use Rattle.smallvec.specs.SmallVec.{SmallVec}
-use Rattle.at_model.specs.Run.{Location, Is, Tok, Slot, Up, Idx}
+use Rattle.at_model.specs.Run.{Location, Is, Tok, Slot, Up, Idx, Drawer}
 use Rattle.at_cache.specs.declared.edge.Edge.{Edge}
 use Rattle.at_cache.specs.declared.facet.Facet.{Facet}
 use Rattle.at_cache.specs.declared.facet.Facet.TheVariants as facet
@@ -16,13 +16,14 @@ abbrev pub has_number : (set number : ℕ) → Bool
 has_number set number = nat_eq (bit_at set number) 1
 
 -- The number of a location among those of its node: 0 of the class, 1 of the parent, and then in turn those of tokens and of components.
--- An index has none.
+-- An index has none, and a drawer neither.
 abbrev pub number_of : Location ℕ → Option ℕ
 number_of (Is n) = Some 0
 number_of (Up n) = Some 1
 number_of (Tok n part) = Some (2 * part + 2)
 number_of (Slot n part) = Some (2 * part + 3)
 number_of (Idx n) = None
+number_of (Drawer n part key mark) = None
 
 -- whether the number of the location is in the set
 abbrev pub is_near : ℕ → Location ℕ → Bool

@@ -152,9 +152,6 @@ last_nowhere (x ∷ xs) e = absurd (there x xs (sym e))
 pub top_there : (levels : List Level) (l : Level) → slice_get levels (length levels - 1) ≡ Some l → Some l.class ≡ top_of levels
 top_there levels l e = let (rest, f) = last_there levels l e in sym (ap end_of (longer rest levels l l.class f refl))
 
-pub top_nowhere : (levels : List Level) → slice_get levels (length levels - 1) ≡ None → None ≡ top_of levels
-top_nowhere levels e = sym (ap top_of (last_nowhere levels e))
-
 -- the room that is left
 pub room_there : (classes : Classes) (levels : List Level) (l : Level) (t : TakenNames) → slice_get levels (length
     levels - 1) ≡ Some l → IsWay classes levels t → l.room ≡ suc max_parts - length (all_of classes (on_way levels))

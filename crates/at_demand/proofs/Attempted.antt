@@ -1,5 +1,5 @@
 -- What one try of an instance has come to, and what it leaves kept.
-use Rattle.std.proofs.Common.{◌≡◌, ℕ, true, true≢false, List, [], ◌∷◌, ◌++◌, map, None, Some, inl, inr, refl, sym, ◌∙◌, subst}
+use Rattle.std.proofs.Common.{◌≡◌, ℕ, true, true≢false, List, [], ◌∷◌, ◌++◌, map, None, Some, inl, inr, sym, ◌∙◌, subst}
 use Rattle.at_model.specs.Run.{Value, Instance, Contents}
 use Rattle.at_model.specs.Rules.{Rules, is_lazy, start_of}
 use Rattle.at_model.specs.Meaning.{Among, Faults}

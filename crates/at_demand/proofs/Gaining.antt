@@ -1,28 +1,21 @@
 -- What a question adds: each lazy instance that has a value and to which the question leads, and no other.
 use Rattle.std.proofs.Common.{◌≡◌, ◌⊎◌, ℕ, Bool, true, false, true≢false, List, [], ◌∷◌, ◌++◌, slice_get, Option, Some, None, inl, inr, refl, sym, ap, ◌∙◌, subst}
 use Rattle.std.specs.Prelude.{IsSome}
-use Rattle.at_model.specs.Run.{Instance, Contents, Run, Fails}
+use Rattle.at_model.specs.Run.{Instance, Contents}
 use Rattle.at_model.specs.Rules.{Rules, is_lazy, start_of}
 use Rattle.at_model.specs.Meaning.{Among}
-use Rattle.at_model.specs.of_fixpoints.Fixpoints.{HasValue}
-use Rattle.at_model.specs.of_fixpoints.Formulas.{Formula}
 use Rattle.at_model.specs.of_fixpoints.Resting.{Comes, Leads, goes, stays}
 use Rattle.at_rules.specs.Circular.{AreCircularLazy}
-use Rattle.at_body.specs.Values.{FaultCode, fault_view}
 use Rattle.at_body.specs.declared.trial.Step.TheVariants as step
 use Rattle.at_cache.specs.Kept.{Kept, Entries}
 use Rattle.at_cache.proofs.Lists.{get_push, get_contains}
 use Rattle.at_demand.specs.declared.evaluation.Demanded.{Demanded}
 use Rattle.at_demand.specs.declared.evaluation.Find.{Find}
-use Rattle.at_demand.specs.declared.evaluation.Frame.{Frame}
 use Rattle.at_demand.specs.Known.{meaning, kept_values, AreValued, IsFound, IsKept}
-use Rattle.at_demand.specs.Covering.{AreWhole, AreWholeIn, HasPassedTo, IsDemanded, IsTold, IsWhole, alone, by_first, in_group}
+use Rattle.at_demand.specs.Covering.{AreWhole, AreWholeIn, IsDemanded, IsWhole, alone, by_first, in_group}
 use Rattle.at_demand.specs.Sparing.{IsDeep, IsWorthy, AddsWorthy, HasWorthy, MayGain, IsSettled, AreSettled}
 use Rattle.at_demand.proofs.Entered.{entered, entered_on, kept_on, not_none}
 use Rattle.at_demand.proofs.Extending.{among_at}
-use Rattle.at_demand.proofs.of_levels.Plain.{comes_by_demand, past_formula}
-use Rattle.at_demand.proofs.Passing.{past_more, past_has}
-use Rattle.at_demand.proofs.Seeing.{comes_failed}
 
 -- what the rules say of the instance's attribute
 pub told_lazy : (rules : Rules) (said is : Bool) (attribute at : ℕ) → said ≡ is_lazy rules attribute → attribute ≡ at → said ≡ is → is_lazy rules at ≡ is
@@ -170,15 +163,3 @@ module _ (rules : Rules) (look : Contents ℕ) where
         by : (b : Bool) → is_lazy rules i.attribute ≡ b → IsKept entries j
         by true l = deep i j (entered entries i (s.lazy l)) led lazy
         by false off = all_below entries entries i found (gain_none found entries i) f well whole (whole_alone rules look found well i f off (whole p i f is)) settled s.took deep s.lazy j led lazy
-
-    -- an evaluation that fails has come to what is known alone, where the attribute isn't circular
-    pub failed_known : (i : Instance ℕ) (f : Frame) (k : FaultCode) → start_of rules i.attribute ≡ None → HasPassedTo rules look found i f (step.Fault k) → AreValued entries f.demanded.kept.items → (m : Instance ℕ) → Comes look (meaning rules) i m → IsKnown m
-    failed_known i f k none (js, past) kept m comes =
-        let has = IsTold rules look found f.demanded in
-        let run = (meaning rules).formula i in
-        let end : Run ℕ (Formula ℕ) = Fails (fault_view k) in
-        let formed = past_formula rules look i none has (Fails (fault_view k)) js f.trial.reads past in
-        let holds = past_more look has (HasValue look (meaning rules)) (λ x w t. t.0) run end js f.trial.reads formed in
-        let a = comes_failed look (meaning rules) run end (fault_view k) js f.trial.reads m refl holds (comes_by_demand rules look i none m comes) in
-        let (w, t) = past_has look has run end js f.trial.reads m formed a in
-        known_demanded f.demanded m kept t.1

@@ -1,6 +1,6 @@
 -- Where demand leads: on from one instance to the next, and to lazy instances that are kept, where each step leads to what is
 -- kept or stays within what was found.
-use Rattle.std.proofs.Common.{◌≡◌, ◌⊎◌, ℕ, zero, suc, List, inl, inr, refl, sym, subst}
+use Rattle.std.proofs.Common.{◌≡◌, ◌⊎◌, ℕ, zero, suc, List, inl, inr, sym, subst}
 use Rattle.at_model.specs.Run.{Value, Instance, Location, Run, Gives, Fails, Looks, Demands, Contents, FaultKind}
 use Rattle.at_model.specs.Follow.{Past, here, looked, told}
 use Rattle.at_model.specs.Meaning.{Finds, Reaches, Among}

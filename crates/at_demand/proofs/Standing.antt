@@ -1,6 +1,5 @@
 -- A question that was posted on the tree as it is stands so after each of its turns, and while more comes to what is kept.
-use Rattle.std.proofs.Common.{◌≡◌, ◌↔◌, ℕ, get_or, nat_eq, List, [], ◌∷◌, Option, Some, None, Result, Ok, Err, inl, inr, refl, sym, ap, ◌∙◌, subst}
-use Rattle.std.specs.Prelude.{IfOk, IfSome}
+use Rattle.std.proofs.Common.{◌≡◌, ◌↔◌, ℕ, get_or, nat_eq, List, [], ◌∷◌, Option, Some, None, Ok, inl, inr, refl, sym, ap, ◌∙◌, subst}
 use Rattle.std.specs.Map.{keys_of}
 use Rattle.std.specs.declared.alloc.AllocError.{AllocError}
 use Rattle.at_model.specs.Instances.{AnyText}
@@ -122,10 +121,3 @@ module _ (rules : Rules) (s : Shown) (basis : IsBasis rules s) (entries : Entrie
         let (v, turned, stands) = t.searched u x in
         told_right rules s basis.idle basis.formed basis.sound (asked_by q) asked_typed (kept_values entries) sound.right u v (answer_view a)
         x.on turned
-
-    -- whatever it comes to
-    pub turn_right : (r : Result (Option AnswerCode) AllocError) → HasTurnedBy {E = AllocError} rules s entries after q new r →
-        IfOk r (λ o. IfSome o (λ a. Answers (contents s) (meaning rules) (asked_by q) (answer_view a)))
-    turn_right (Err e) t = tt
-    turn_right (Ok None) t = tt
-    turn_right (Ok (Some a)) t = answers_right a t

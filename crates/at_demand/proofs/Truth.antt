@@ -1,5 +1,5 @@
 -- What a question has come to holds.
-use Rattle.std.proofs.Common.{◌≡◌, ℕ, List, [], nat_eq, Option, Some, None, refl, ◌∙◌}
+use Rattle.std.proofs.Common.{◌≡◌, ℕ, [], nat_eq, None, refl, ◌∙◌}
 use Rattle.at_model.specs.Run.{Value, Instance, Contents, Known}
 use Rattle.at_model.specs.Follow.{follow}
 use Rattle.at_model.specs.Rules.{Rules, evaluation, start_of}
@@ -10,10 +10,7 @@ use Rattle.at_body.specs.declared.value.Value.{Value as ValueCode}
 use Rattle.at_body.specs.declared.trial.Step.{Step}
 use Rattle.at_body.specs.declared.trial.Step.TheVariants as step
 use Rattle.at_body.specs.declared.trial.Trial.{Trial}
-use Rattle.at_cache.specs.Kept.{Entries}
-use Rattle.at_demand.specs.declared.evaluation.Find.{Find}
-use Rattle.at_demand.specs.Known.{equations, meaning, kept_values, found_values, known_in}
-use Rattle.at_demand.specs.Meant.{AreRightValues}
+use Rattle.at_demand.specs.Known.{equations, meaning}
 use Rattle.at_demand.specs.UnderWay.{HasStepped, IsOpen}
 use Rattle.at_demand.proofs.Coming.{begins, goes_on}
 use Rattle.at_demand.proofs.of_levels.Plain.{has_value}
@@ -30,14 +27,6 @@ module _ (rules : Rules) (look : Contents ℕ) where
 
   pub resumed_step : (i j : Instance ℕ) (t u : Trial) (v : Value ℕ) (s : Step) → HasStepped rules look i t (step.Need j) → HasValue look (meaning rules) j v → follow look t.reads (resumed rules.classes t v) ≡ (reached rules.classes s u, u.reads) → HasStepped rules look i u s
   resumed_step i j t u v s (js, past) h e = goes_on look (HasValue look (meaning rules)) (equations rules i) j (resumed rules.classes t) v js t.reads u.reads (reached rules.classes s u) past h e
-
-  -- what is kept and what was found
-  pub right_known : (entries : Entries) (found : List (Instance ℕ × Find)) → AreRightValues look (meaning rules) (kept_values entries) → AreRightValues look (meaning rules) (found_values found) → AreRightValues look (meaning rules) (known_in entries found)
-  right_known entries found kept also j v e = by (kept_values entries j) refl e
-    where
-      by : (o : Option (Value ℕ)) → kept_values entries j ≡ o → ◌≡◌ {A = Option (Value ℕ)} (elim o [ Some w ↦ Some w | None ↦ found_values found j ]) (Some v) → HasValue look (meaning rules) j v
-      by None is f = also j v f
-      by (Some w) is f = kept j v (is ∙ f)
 
   pub value_of : (i : Instance ℕ) (t : Trial) (v : ValueCode) → start_of rules i.attribute ≡ None → HasStepped rules look i t (step.Value v) → HasValue look (meaning rules) i (value_view v)
   value_of i t v none (js, past) = has_value rules look i none (value_view v) js t.reads past

@@ -4,7 +4,6 @@ pub mod Noting
 pub mod Ahead
 pub mod Grown
 pub mod KeptAgain
-pub mod TurnedBehind
 pub mod Given
 pub mod Posted
 pub mod Counted

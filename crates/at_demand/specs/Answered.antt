@@ -15,7 +15,6 @@ use Rattle.at_cache.specs.Traced.{FlushesTraces, Memories, SparesAtEdit, StayTra
 use Rattle.at_demand.specs.declared.answer.Answer.{Answer as AnswerCode}
 use Rattle.at_demand.specs.declared.question.Question.{Question}
 use Rattle.at_demand.specs.declared.trials.Trials.{Trials}
-use Rattle.at_demand.specs.Again.{KeepsAgain}
 use Rattle.at_demand.specs.Made.{Makes}
 use Rattle.at_demand.specs.Went.{Went}
 use Rattle.at_demand.specs.Known.{equations, meaning, kept_values, ArePlain, IsKept, answer_view}
@@ -121,30 +120,6 @@ pub record HasTurnedOn {E : Type 0} (rules : Rules) (s : Shown) (exact : Bool) (
   pub counted : IfOk r (λ o. IfNone o ((q : Question) → IsCounted new q → HasTurnedWith rules s exact before after earlier later old q t r))
   pub answered : IfOk r (λ o. IfSome o (λ a. HasTurnedWith rules s exact before after earlier later old new t r))
   pub gains : GainsAtMost rules s exact before after earlier later old (KeepsGroups rules r)
-
--- What can be kept again came to be kept, with no evaluation. Behind that the question was given a turn, and what answers it is right; where
--- none does, that is counted, and it stands. At most its last instance came to what is kept by the turn; that stays right and, with an exact
--- keeper, spare.
-pub record HasTurned {E : Type 0} (rules : Rules) (s : Shown) (exact : Bool) (m : Memories) (before after : Entries) (earlier later : ℕ)
-    (old new : Question) (r : Result (Option AnswerCode) E) : Type 0 where
-  pub mid : Entries
-  pub again : KeepsAgain m before mid
-  pub turned : HasTurnedBy rules s mid after old new r
-  pub counted : IfOk r (λ o. IfNone o (new.turns ≡ old.turns + 1))
-  pub answers : IfOk r (λ o. IfSome o (λ a. Answers (contents s) (meaning rules) (asked_by old) (answer_view a)))
-  pub standing : IfOk r (λ o. IsOfUse rules o (IsStanding rules s after new))
-  pub right : AreRightValues (contents s) (meaning rules) (kept_values after)
-  pub stays : IsThere s (asked_by old) → AreRight rules s before → AreRight rules s after
-  pub plain : ArePlain rules after
-  pub last : GainsBy rules s mid after old
-  pub worthy : AddsWorthy rules (contents s) (asked_by old) before after
-  pub all : IsTrue exact → AreSpare rules (contents s) before → IsSparingTurns rules (contents s) before old
-      → IfOk r (λ o. IfSome o (λ a. HasWorthyFor rules (contents s) (asked_by old) (answer_view a) after))
-  pub sparing : IsTrue exact → AreSpare rules (contents s) before → IsSparingTurns rules (contents s) before old
-      → IfOk r (λ o. IsOfUse rules o (IsSparingTurns rules (contents s) after new))
-  pub spare : KeepsGroups rules r → IsTrue exact → AreSpare rules (contents s) before → IsSparingTurns rules (contents s) before old
-      → AreSpare rules (contents s) after
-  pub counts : IsTrue exact → Counts before after earlier later
 
 -- It was given as many turns as it may be, which are counted, or fewer where one of them answered it; so it is then, too. What these memories
 -- have may be kept again before each of them.

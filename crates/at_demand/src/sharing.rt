@@ -34,11 +34,6 @@ impl Sharing {
         self.due.clear();
     }
 
-    // Forgets what was gathered of the finds from that position on.
-    pub fn forget_from(&mut self, position: usize) {
-        self.counts.truncate(position);
-    }
-
     // Counts the find at the position once more, and says whether it was gathered often.
     pub fn count(&mut self, position: usize) -> Result<bool, AllocError> {
         // Mostly they are gathered first in the order in which they were found.

@@ -35,9 +35,6 @@ module _ (classes : Classes) (s : Shown) (k : ℕ) (n : Node) (name : List ℕ) 
       let (u, at') = tree_there s k n p in
       ap (option_and_then (λ v. part_named classes (class_of v) name)) at' ∙ ap (λ c. part_named classes c name) (sym (class_there s k n u p at')) ∙ e
 
-  pub component_missing : part_named classes (contents s (Is k)) name ≡ None → IsComponentOf classes (tree s) n name None
-  component_missing e = by_class None e
-
   pub component_found : (i : ℕ) (c : Part) → part_named classes (contents s (Is k)) name ≡ Some i → slice_get (parts classes (contents s (Is k))) i ≡ Some (part_view c) → IsComponentOf classes (tree s) n name (Some (record { position = i; shape = c.shape }))
   component_found i c e is =
       let (u, at') = tree_there s k n p in (

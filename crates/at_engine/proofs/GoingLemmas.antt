@@ -13,11 +13,9 @@ use Rattle.at_engine.specs.Keeping.{IsSpare, KeepsWhole}
 use Rattle.at_engine.specs.Turned.{is_memory}
 use Rattle.at_engine.specs.Serving.{Calls}
 use Rattle.at_engine.specs.Stepping.{GoesBy, by_line, by_turns, nowhere}
-use Rattle.at_engine.specs.Running.{KeepsWhole as RunKeepsWhole}
 use Rattle.at_engine.specs.Taking.{countable}
 use Rattle.at_engine.specs.declared.engine.Engine.{Engine}
 use Rattle.at_engine.specs.declared.stream.desk.Desk.{Desk}
-use Rattle.at_engine.specs.declared.stream.desk.Report.{Report}
 use Rattle.at_engine.specs.declared.stream.desk.RunFault.{RunFault}
 use Rattle.at_engine.proofs.Remembering.{no_call, sends_later, then_calls}
 
@@ -47,11 +45,6 @@ module _ (rules : Rules) (start mid last : Desk) (count : ℕ) (counted : count 
   pub whole_behind : HasNoneCircular rules ⊎ (count ≡ 0) → (others : Rules) → others ≡ rules → KeepWhole others mid last
   whole_behind (inl none) others same = inl (subst HasNoneCircular (sym same) none)
   whole_behind (inr never) others same = inr (omega (arith, counted, zero, first, second, never))
-
--- where no attribute is circular, what belongs together is kept together in any run
-pub plainly_whole : (rules : Rules) (r : Result Report RunFault) → HasNoneCircular rules → RunKeepsWhole rules r
-plainly_whole rules (Ok report) none = inl none
-plainly_whole rules (Err fault) none = none
 
 -- and then others
 pub by_both : {K : Type 0} (exact : Bool) (entries : K → Entries) (memories : K → Memories) (old mid new : Engine K)

@@ -1,11 +1,10 @@
 pub mod Fitted
 pub mod Valued
 pub mod Questions
-pub mod FittingAlike
 pub mod Collecting
 pub mod AnswersTold
 pub mod Numbered
-pub mod Asked
+pub mod of_asking
 pub mod of_marks
 pub mod FollowingLemmas
 pub mod Verdicts

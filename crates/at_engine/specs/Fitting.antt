@@ -17,12 +17,13 @@ is_of_class classes look b (run.Ref None) = true
 is_of_class classes look b (run.Ref (Some k)) = is_sub classes (look (Is k)) b
 is_of_class classes look b v = false
 
--- a text fits a text, and what is of the class fits it
+-- a text fits a text, and what is of the class fits it; no words of a line stand for an int, a boolean or nodes
 abbrev pub fits_number : Classes → Contents ℕ → Kind → Value ℕ → Bool
 fits_number classes look kind.Int v = false
 fits_number classes look kind.Truth v = false
 fits_number classes look kind.Text v = is_text v
 fits_number classes look (kind.Class b) v = is_of_class classes look b v
+fits_number classes look (kind.Nodes b) v = false
 
 -- as many values as parameters, and each fits
 abbrev pub fit_numbers : Classes → Contents ℕ → List Kind → List (Value ℕ) → Bool

@@ -1,5 +1,5 @@
 -- What each function of the loop over lines promises: what it has done, and what it leaves as it was.
-use Rattle.std.specs.Prelude.{◌≡◌, ◌⊎◌, ℕ, ◌+◌, ◌*◌, ◌^◌, ◌<◌, ◌≤◌, Bool, false, List, [], ◌∷◌, Option, Result, filter, is_err, vec_len, IfSome, IsTrue, OnOk}
+use Rattle.std.specs.Prelude.{◌≡◌, ◌⊎◌, ℕ, ◌+◌, ◌*◌, ◌^◌, ◌<◌, ◌≤◌, Bool, false, List, [], ◌∷◌, Option, Result, Ok, filter, is_err, vec_len, IfSome, IsTrue, OnOk}
 use Rattle.at_model.specs.Lines.{is_filled}
 use Rattle.at_model.specs.Machine.{State}
 use Rattle.at_model.specs.Rules.{Rules}
@@ -13,7 +13,7 @@ use Rattle.at_engine.specs.KeepingRuns.{KeepsAll, KeepsBytes}
 use Rattle.at_engine.specs.KeptOver.{NonePosts}
 use Rattle.at_engine.specs.Loop.{kept, IsOpen}
 use Rattle.at_engine.specs.Stepping.{GoesBy}
-use Rattle.at_engine.specs.Taking.{countable, Finishes, ServedOrHalts, TakesOrStops}
+use Rattle.at_engine.specs.Taking.{countable, Drains, Finishes, ServedOrHalts, TakesOrStops}
 use Rattle.at_engine.specs.declared.engine.Engine.{Engine}
 use Rattle.at_engine.specs.declared.stream.desk.Desk.{Desk}
 use Rattle.at_engine.specs.declared.stream.desk.RunFault.{RunFault}
@@ -80,6 +80,19 @@ pub record ServesLine {K W : Type 0} (exact : Bool) (entries : K → Entries) (m
   pub line : next.line.items ≡ desk.line.items
   pub goes : Goes exact entries memories failure unsaid old new desk next writer later 1 result
 
+-- The engine went on by single lines, and nothing waits in the writer behind any of them; or turns were given to all that is open.
+pub data SendsEach {K W : Type 0} (exact : Bool) (entries : K → Entries) (memories : K → Memories)
+    (contents : W → Option (List ℕ)) (failure : W → Option Bool) (waiting : W → Bool) (old : Engine K) (writer : W) : Engine K → W → Type 0 where
+  sends_nothing : SendsEach exact entries memories contents failure waiting old writer old writer
+  sends_reply : (mid new : Engine K) (between later : W) (desk next : Desk) (done : Unit {0})
+      → SendsEach exact entries memories contents failure waiting old writer mid between
+      → ServesLine exact entries memories contents failure mid new desk next between later (Ok done) → waiting later ≡ false
+      → SendsEach exact entries memories contents failure waiting old writer new later
+  sends_answers : (mid new : Engine K) (between later : W) (desk next : Desk) (done : Unit {0})
+      → SendsEach exact entries memories contents failure waiting old writer mid between
+      → Works exact entries memories contents failure waiting mid new desk next between later (Drains (Ok done) (rules_of mid)) (Ok done)
+      → SendsEach exact entries memories contents failure waiting old writer new later
+
 -- The bytes were taken, no more than so many lines. Where none was answered `memory`, just what they leave and add is kept.
 pub record TakesBytes {K W : Type 0} (exact : Bool) (entries : K → Entries) (memories : K → Memories)
     (contents : W → Option (List ℕ)) (failure : W → Option Bool)
@@ -99,4 +112,5 @@ pub record FinishesAll {K W : Type 0} (exact : Bool) (entries : K → Entries) (
   pub keeps : IsTrue exact → IsSpare entries old → (front : List ℕ) → desk.line.items ≡ kept front
       → OnOk result ((state_of old).posted ≡ [] → NonePosts (filter is_filled (front ∷ [])) → next.memory ≡ desk.memory
       → KeepsAll entries (filter is_filled (front ∷ [])) old new)
+  pub each : OnOk result (SendsEach exact entries memories contents failure waiting old writer new later)
   pub goes : Goes exact entries memories failure waiting old new desk next writer later 1 result

@@ -17,6 +17,7 @@ use Rattle.at_engine.specs.declared.stream.desk.Report.{Report}
 use Rattle.at_engine.specs.declared.stream.desk.RunFault.{RunFault}
 use Rattle.at_engine.specs.declared.stream.desk.RunFault.TheVariants.{Read, Write, TooManyReads, Memory}
 use Rattle.at_engine.specs.Ends.{Counted, Remembers}
+use Rattle.at_engine.specs.Going.{SendsEach}
 use Rattle.at_engine.specs.Loop.{Progress}
 use Rattle.at_engine.specs.Stepping.{GoesBy}
 use Rattle.at_engine.specs.Taking.{EndsIn, wants}
@@ -151,17 +152,18 @@ KeepsWhole rules (Ok report) = HasNoneCircular rules ⊎ (report.memory ≡ 0)
 KeepsWhole rules (Err fault) = HasNoneCircular rules
 
 -- What a run of at most so many reads promises, by what is known of the reader and of the writer: what it has done, which of its
--- calls failed, what the engine has gone through, and what is kept.
+-- calls failed, what the engine has gone through, and what is kept. Where it doesn't gather replies each is sent on before the next line.
 pub record RunsFor {K R W : Type 0} (exact : Bool) (entries : K → Entries) (memories : K → Memories)
     (remaining : R → Option (List ℕ)) (misread ending : R → Option Bool)
     (count : R → Option ℕ) (contents : W → Option (List ℕ)) (failure : W → Option Bool) (waiting : W → Bool) (most_reads : ℕ)
-    (old new : Engine K) (reader left : R) (writer later : W) (result : Result Report RunFault) : Type 0 where
+    (gathers : Bool) (old new : Engine K) (reader left : R) (writer later : W) (result : Result Report RunFault) : Type 0 where
   pub ran : Ran most_reads result (rules_of old) (slice_of old) (state_of old) (state_of new) (remaining reader) (remaining left)
       (contents writer) (contents later)
   pub failed : TellsFailures result (misread reader) (misread left) (failure writer) (failure later)
   pub reads : MakesReads most_reads result (count reader) (count left)
   pub ended : TellsEnd result (ending reader) (ending left)
   pub sent : SendsAll result (waiting writer) (waiting later)
+  pub each : gathers ≡ false → write_fails result ≡ false → SendsEach exact entries memories contents failure waiting old writer new later
   pub by : GoesBy exact entries memories old new
   pub keeps : IsTrue exact → IsSpare entries old → IfOk result (λ report. report.memory ≡ 0 → KeepsRun entries old new (remaining reader) (remaining left))
   pub work : IfOk result (λ report. report.work ≡ work_of new)

@@ -4,7 +4,7 @@ ghost use Rattle.std.specs.Prelude.{◌≡◌, ◌⊎◌, ◌∷◌, ◌++◌, �
 ghost use Rattle.at_engine.specs.Engines.{rules_of, slice_of, IsSound};
 ghost use Rattle.at_engine.specs.Ends.{Remembers, SendsOn};
 ghost use Rattle.at_engine.specs.Loop.{lets_wait, newline_at, IsNext, IsOpen};
-ghost use Rattle.at_engine.specs.Going.{CanGive, CanServe, CanServeLine, FinishesAll, ServesLine, TakesBytes, Works};
+ghost use Rattle.at_engine.specs.Going.{CanGive, CanServe, CanServeLine, FinishesAll, SendsEach, ServesLine, TakesBytes, Works};
 ghost use Rattle.at_engine.specs.Taking.{Drains, GivesTurns, LeavesTurns, Written};
 ghost use Rattle.at_engine.specs.Running.{RunsFor, max_reads};
 
@@ -170,6 +170,8 @@ fn take_newline<K: Keeper, W: Output>(
         desk.old desk.new writer.old writer.new result }
     ensures sent { OnOk result (lets_wait next.entry ≡ false → (W.waits writer.old ≡ false) ⊎ (0 < vec_len desk.old.line)
         → W.waits writer.new ≡ false) }
+    ensures each { OnOk result (lets_wait next.entry ≡ false
+        → SendsEach K.exact K.contents K.memories W.contents W.failed W.waits engine.old writer.old engine.new writer.new) }
 {
     if !desk.line.is_empty() {
         serve(engine, desk, writer, next)?;
@@ -191,6 +193,8 @@ fn take_piece<K: Keeper, W: Output>(
     ensures takes { TakesBytes K.exact K.contents K.memories W.contents W.failed piece.now (length piece.now)
         engine.old engine.new desk.old desk.new writer.old writer.new result }
     ensures sent { SendsOn result (W.waits writer.old) (W.waits writer.new) }
+    ensures each { gathers ≡ false
+        → OnOk result (SendsEach K.exact K.contents K.memories W.contents W.failed W.waits engine.old writer.old engine.new writer.new) }
 {
     let mut rest = piece;
     while let Some((line, behind)) = at_newline(rest) {
@@ -261,7 +265,7 @@ pub fn run<K: Keeper, R: Input, W: Output>(
     writer: &mut W,
 ) -> Result<Report, RunFault>
     requires sound { IsSound K.contents K.memories engine.old }
-    ensures { RunsFor K.exact K.contents K.memories R.remaining R.failed R.ended R.reads W.contents W.failed W.waits max_reads
+    ensures { RunsFor K.exact K.contents K.memories R.remaining R.failed R.ended R.reads W.contents W.failed W.waits max_reads false
         engine.old engine.new reader.old reader.new writer.old writer.new result }
 {
     run_for(engine, reader, writer, READS)
@@ -281,7 +285,7 @@ pub fn run_gathering<K: Keeper, R: Input, W: Output>(
     gathers: bool,
 ) -> Result<Report, RunFault>
     requires sound { IsSound K.contents K.memories engine.old }
-    ensures { RunsFor K.exact K.contents K.memories R.remaining R.failed R.ended R.reads W.contents W.failed W.waits max_reads
+    ensures { RunsFor K.exact K.contents K.memories R.remaining R.failed R.ended R.reads W.contents W.failed W.waits max_reads gathers
         engine.old engine.new reader.old reader.new writer.old writer.new result }
 {
     run_with(engine, reader, writer, READS, gathers)
@@ -299,7 +303,7 @@ pub fn run_for<K: Keeper, R: Input, W: Output>(
     limit: u64,
 ) -> Result<Report, RunFault>
     requires sound { IsSound K.contents K.memories engine.old }
-    ensures { RunsFor K.exact K.contents K.memories R.remaining R.failed R.ended R.reads W.contents W.failed W.waits limit
+    ensures { RunsFor K.exact K.contents K.memories R.remaining R.failed R.ended R.reads W.contents W.failed W.waits limit false
         engine.old engine.new reader.old reader.new writer.old writer.new result }
 {
     run_with(engine, reader, writer, limit, false)
@@ -314,7 +318,7 @@ fn run_with<K: Keeper, R: Input, W: Output>(
     gathers: bool,
 ) -> Result<Report, RunFault>
     requires sound { IsSound K.contents K.memories engine.old }
-    ensures { RunsFor K.exact K.contents K.memories R.remaining R.failed R.ended R.reads W.contents W.failed W.waits limit
+    ensures { RunsFor K.exact K.contents K.memories R.remaining R.failed R.ended R.reads W.contents W.failed W.waits limit gathers
         engine.old engine.new reader.old reader.new writer.old writer.new result }
 {
     let version = engine.version();

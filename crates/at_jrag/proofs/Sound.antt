@@ -59,13 +59,6 @@ means l want.Defined d old e rest h = defined_means l d old e rest h
 means l want.Return d old e rest h = return_means l old e rest h
 means l want.Close d old e rest h = close_means l old e rest h
 
--- a row that is taken whole as an expression, is one, within the limit if there is one
-pub sound_expression : (l : Bool) (b : ℕ) (row : Row) → run l table (want.Expression b ∷ []) 0 row ≡ Whole → (e : Expr) × Spells e row [] × (l ≡ true → depth e ≤ b)
-sound_expression l b row h =
-    let r = whole_said l row (want.Expression b ∷ []) 0 (means l) h in
-    let x = only_says l (want.Expression b) 0 row r.0 [] r.1 in
-    (x.expr, x.spells, (λ f. subst (λ (k : ℕ). k ≤ b) x.deep (x.fits f)))
-
 -- a row that is taken whole as a file, is one, within the limit if there is one
 pub sound : (forms : Forms) (l : Bool) (row : Row) → run l table (want.File forms ∷ []) 0 row ≡ Whole → (aspects : List Aspect) × File forms aspects row [] × (l ≡ true → IsWithin aspects)
 sound forms l row h = let r = whole_said l row (want.File forms ∷ []) 0 (means l) h in only_says l (want.File forms) 0 row r.0 [] r.1

@@ -100,9 +100,6 @@ before_end name end rest tail n le r t is x = end_same name end x n le ∙ ap (�
 pub not_before : (name end tail : List ℕ) (n : ℕ) → n + length end ≡ length name → tail ≡ drop n name → bytes_eq tail end ≡ false → (x : List ℕ) → bytes_eq name (x ++ end) ≡ false
 not_before name end tail n le t is x = end_same name end x n le ∙ ap (λ b. b && bytes_eq (take n name) x) (ap (λ l. bytes_eq l end) (sym t) ∙ is)
 
-pub end_longer : (name end x : List ℕ) → length name < length end → bytes_eq name (x ++ end) ≡ false
-end_longer name end x less = by_length name (x ++ end) (λ is. omega (arith, less, is, length-append x end))
-
 -- a search over components is one over what they stand for
 pub position-view : (p : Component → Bool) (q : Part → Bool) (xs : List Part) → ((x : Part) → q x ≡ p (part_view x)) → position q xs ≡ position p (map part_view xs)
 position-view p q xs same = ap (λ test. position test xs) (λ i x. same x i) ∙ sym (position-map p part_view xs)

@@ -1,6 +1,6 @@
 -- What is made of parts, or the fault of one.
 use Rattle.std.proofs.Common.{◌≡◌, ℕ, ◌+◌, ◌<◌, ◌≤◌, List, [], ◌∷◌, ◌++◌, map, length, drop, get_or, refl, ap, ap₂, sym, ◌∙◌, append_assoc, append-nil, Option, Some, None, option_map, Result, Ok, Err, suc, zero, cond, subst, arith, add-one, true≢false}
-use Rattle.std.specs.Prelude.{Bool, true, false, slice_get, position, option_and_then, nat_eq, vec_len, if◌then◌else◌, Vec}
+use Rattle.std.specs.Prelude.{true, false, slice_get, position, option_and_then, nat_eq, vec_len, if◌then◌else◌, Vec}
 use Rattle.std.specs.Str.{bytes_eq}
 use Rattle.std.specs.Global.{Global}
 use Rattle.std.proofs.Math.Seq.{drop-cons}
@@ -52,16 +52,6 @@ pub made_in : {A B T U : Type 0} (view : T → A) (whole : U → B) (f : A → J
     (o : Result T (Fault RuleCode)) (t : T) (r : Result U (Fault RuleCode)) → o ≡ Ok t → Judges view j o
     → Judges whole (f (view t)) r → Judges whole (and_then f j) r
 made_in view whole f j o t r was is so = made_of view whole f j t r (subst (λ p. Judges view j p) was is) so
-
--- where the condition holds
-pub where_true : {A T : Type 0} (view : T → A) (b : Bool) (j l : Judgement A) (r : Result T (Fault RuleCode)) → b ≡ true → Judges view j r → Judges view (if b then j else l) r
-where_true view true j l r is so = so
-where_true view false j l r is so = absurd (true≢false (sym is))
-
--- where it doesn't
-pub where_false : {A T : Type 0} (view : T → A) (b : Bool) (j l : Judgement A) (r : Result T (Fault RuleCode)) → b ≡ false → Judges view l r → Judges view (if b then j else l) r
-where_false view true j l r is so = absurd (true≢false is)
-where_false view false j l r is so = so
 
 -- names ------------------------------------------------------------------------------------------------------------------
 
@@ -119,14 +109,6 @@ pub fitted_same : (classes : Classes) (at : Place) (ks : List Kinded) (ps : List
     → length ks ≡ length ps → misfit classes ks ps ≡ o → fitted classes at ks ps ≡ bodies_or ks o
 fitted_same classes at ks ps o same is = ap (λ b. if b then bodies_or ks (misfit classes ks ps) else Wrong code.Argument at) (eq-eqb (length ks) (length ps) same) ∙ ap (bodies_or ks) is
 
--- more or less
-pub fitted_apart : (classes : Classes) (at : Place) (ks : List Kinded) (ps : List WrittenKind) → (length ks ≡ length ps → ⊥) → fitted classes at ks ps ≡ Wrong code.Argument at
-fitted_apart classes at ks ps apart = by (nat_eq (length ks) (length ps)) refl
-  where
-    by : (b : Bool) → nat_eq (length ks) (length ps) ≡ b → (if b then bodies_or ks (misfit classes ks ps) else Wrong code.Argument at) ≡ Wrong code.Argument at
-    by true is = absurd (apart (eqb-true (length ks) (length ps) is))
-    by false is = refl
-
 pub none_given : (ts : Vec Typed Global) → nat_eq (vec_len ts) 0 ≡ true → map typed_view ts.items ≡ []
 none_given ts is = empty ts.items (let e = eqb-true (vec_len ts) 0 is in omega (arith, e, ts.ok.0))
   where
@@ -159,9 +141,6 @@ by_accessor s at a o x e ks r is so = subst (λ p. Judges typed_view (asked_by s
 pub by_attribute : (s : Scope) (at : Place) (a : Option ℕ) (b : ℕ) (o : Option Accessor) (e : Expr) (ks : List Kinded) (r : Result Typed (Fault RuleCode)) → o ≡ None → a ≡ Some b
     → Judges typed_view (demanded_of s.classes at b (slice_get s.declared b) e ks) r → Judges typed_view (asked_by s at a o e ks) r
 by_attribute s at a b o e ks r none is so = subst (λ p. Judges typed_view (asked_by s at a p e ks) r) (sym none) (subst (λ p. Judges typed_view (demanded s at p e ks) r) (sym is) so)
-
-pub by_neither : (s : Scope) (at : Place) (a : Option ℕ) (o : Option Accessor) (e : Expr) (ks : List Kinded) → o ≡ None → a ≡ None → asked_by s at a o e ks ≡ Wrong code.UnknownName at
-by_neither s at a o e ks none is = ap (λ p. asked_by s at a p e ks) none ∙ ap (λ p. demanded s at p e ks) is
 
 -- an attribute that is declared
 pub demanded_there : (classes : Classes) (at : Place) (a : ℕ) (o : Option Declared) (d : Declared) (e : Expr)

@@ -10,13 +10,13 @@ use Rattle.std.proofs.lemmas.Bool.Decides.{Decides-int_eq}
 use Rattle.std.proofs.lemmas.Slice.Eq.{bytes_eq-Decides}
 use Rattle.at_model.specs.Trees.{Tree}
 use Rattle.at_model.specs.Paths.{Node, node_eq}
-use Rattle.at_model.specs.Run.{Value, Int, Truth, Text, Ref, Instance, Location, Known, reads}
+use Rattle.at_model.specs.Run.{Value, Int, Truth, Text, Ref, Nodes, Instance, Location, Known, reads}
 use Rattle.at_model.specs.Bodies.{bool_eq, ref_eq}
 use Rattle.at_model.specs.Rules.{Rules, is_lazy, start_of}
 use Rattle.at_model.specs.Meaning.{Outcome, Finds, Faults, value_in, outcome_at, HasValue, Among, Distinct, Right, content, equations}
-use Rattle.at_model.specs.Alike.{neither, both, ListLike, end, more, ValueLike, int, truth, text, ref, InstanceLike, Names}
+use Rattle.at_model.specs.Alike.{neither, both, ListLike, end, more, ValueLike, int, truth, text, ref, nodes, InstanceLike, Names}
 use Rattle.at_model.specs.Edits.{Edit, carried}
-use Rattle.at_model.specs.Touches.{touches}
+use Rattle.at_model.specs.Touches.{touches_in}
 use Rattle.at_model.specs.Lines.{Line, Spells, line_text}
 use Rattle.at_model.specs.Machine.{State, Verdict, Refuses, Tells, Leaves, Edits, Asks, Posts, Waits, after}
 use Rattle.at_model.specs.Sparing.{IsWorthKeeping, KeptAfter, AreAdded, IsWork}
@@ -40,11 +40,18 @@ use Rattle.at_model.proofs.Reached.{AreLost, reached, leads_in, in_leads, sees_i
 -- tests that decide --------------------------------------------------------------------------------------------------
 
 -- the same value
+abbrev same_nodes : List Node → List Node → Bool
+same_nodes [] [] = true
+same_nodes [] (m ∷ ms) = false
+same_nodes (n ∷ ns) [] = false
+same_nodes (n ∷ ns) (m ∷ ms) = node_eq n m && same_nodes ns ms
+
 abbrev pub same_value : Value Node → Value Node → Bool
 same_value (Int m) (Int n) = int_eq m n
 same_value (Truth a) (Truth b) = bool_eq a b
 same_value (Text a) (Text b) = bytes_eq a b
 same_value (Ref a) (Ref b) = ref_eq node_eq a b
+same_value (Nodes ns) (Nodes ms) = same_nodes ns ms
 same_value v w = false
 
 same_truth : (a b : Bool) → bool_eq a b ≡ true → a ≡ b
@@ -58,6 +65,18 @@ same_ref None None e = refl
 same_ref None (Some n) e = absurd cc
 same_ref (Some m) None e = absurd cc
 same_ref (Some m) (Some n) e = ap Some ((node_eq-is m n).0 e)
+
+nodes_sound : (ns ms : List Node) → same_nodes ns ms ≡ true → ns ≡ ms
+nodes_sound [] [] e = refl
+nodes_sound [] (m ∷ ms) e = absurd cc
+nodes_sound (n ∷ ns) [] e = absurd cc
+nodes_sound (n ∷ ns) (m ∷ ms) e =
+    let (f, g) = both_of (node_eq n m) (same_nodes ns ms) e in
+    ap (λ x. x ∷ ns) ((node_eq-is n m).0 f) ∙ ap (λ xs. m ∷ xs) (nodes_sound ns ms g)
+
+nodes_same : (ns : List Node) → same_nodes ns ns ≡ true
+nodes_same [] = refl
+nodes_same (n ∷ ns) = and_true (node_eq n n) (same_nodes ns ns) ((node_eq-is n n).1 refl) (nodes_same ns)
 
 value_sound : (v w : Value Node) → same_value v w ≡ true → v ≡ w
 value_sound (Int m) (Int n) e = ap Int ((Decides-int_eq m n).0 e)
@@ -76,6 +95,15 @@ value_sound (Ref a) (Int n) e = absurd cc
 value_sound (Ref a) (Truth b) e = absurd cc
 value_sound (Ref a) (Text b) e = absurd cc
 value_sound (Ref a) (Ref b) e = ap Ref (same_ref a b e)
+value_sound (Int m) (Nodes ns) e = absurd cc
+value_sound (Truth a) (Nodes ns) e = absurd cc
+value_sound (Text a) (Nodes ns) e = absurd cc
+value_sound (Ref a) (Nodes ns) e = absurd cc
+value_sound (Nodes ns) (Int n) e = absurd cc
+value_sound (Nodes ns) (Truth b) e = absurd cc
+value_sound (Nodes ns) (Text b) e = absurd cc
+value_sound (Nodes ns) (Ref b) e = absurd cc
+value_sound (Nodes ns) (Nodes ms) e = ap Nodes (nodes_sound ns ms e)
 
 value_same : (v : Value Node) → same_value v v ≡ true
 value_same (Int n) = (Decides-int_eq n n).1 refl
@@ -84,6 +112,7 @@ value_same (Truth false) = refl
 value_same (Text a) = (bytes_eq-Decides a a).1 refl
 value_same (Ref None) = refl
 value_same (Ref (Some n)) = (node_eq-is n n).1 refl
+value_same (Nodes ns) = nodes_same ns
 
 abbrev pub same_values : List (Value Node) → List (Value Node) → Bool
 same_values [] [] = true
@@ -177,12 +206,17 @@ flat_in f (y ∷ ys) x b (inr h) g = back_among b (f y) (flat_map f ys) (flat_in
 
 -- where an instance is carried ----------------------------------------------------------------------------------------
 
+abbrev carried_nodes : Edit → List Node → Option (List Node)
+carried_nodes e [] = Some []
+carried_nodes e (n ∷ ns) = option_and_then (λ m. option_map (λ ms. m ∷ ms) (carried_nodes e ns)) (carried e n)
+
 abbrev carried_value : Edit → Value Node → Option (Value Node)
 carried_value e (Int n) = Some (Int n)
 carried_value e (Truth b) = Some (Truth b)
 carried_value e (Text bytes) = Some (Text bytes)
 carried_value e (Ref None) = Some (Ref None)
 carried_value e (Ref (Some n)) = option_map (λ m. Ref (Some m)) (carried e n)
+carried_value e (Nodes ns) = option_map (λ ms. Nodes ms) (carried_nodes e ns)
 
 abbrev carried_values : Edit → List (Value Node) → Option (List (Value Node))
 carried_values e [] = Some []
@@ -191,12 +225,17 @@ carried_values e (v ∷ vs) = option_and_then (λ w. option_map (λ ws. w ∷ ws
 abbrev carried_instance : Edit → Instance Node → Option (Instance Node)
 carried_instance e i = option_and_then (λ n. option_map (λ vs. record { node = n; attribute = i.attribute; arguments = vs }) (carried_values e i.arguments)) (carried e i.node)
 
+nodes_go : (e : Edit) (ns ms : List Node) → ListLike (Names (carried e)) ns ms → carried_nodes e ns ≡ Some ms
+nodes_go e ns ms end = refl
+nodes_go e ns ms (more {a = n} {b = m} {as' = ns'} {bs = ms'} there rest) = let found : carried e n ≡ Some m = there in rw (found, nodes_go e ns' ms' rest) refl
+
 value_goes : (e : Edit) (v w : Value Node) → ValueLike (Names (carried e)) v w → carried_value e v ≡ Some w
 value_goes e v w (int n) = refl
 value_goes e v w (truth b) = refl
 value_goes e v w (text bytes) = refl
 value_goes e v w (ref neither) = refl
 value_goes e v w (ref (both {a = n} {b = m} there)) = let found : carried e n ≡ Some m = there in rw found refl
+value_goes e v w (nodes {ns = ns} {ms = ms} like) = rw (nodes_go e ns ms like) refl
 
 values_go : (e : Edit) (vs ws : List (Value Node)) → ListLike (ValueLike (Names (carried e))) vs ws → carried_values e vs ≡ Some ws
 values_go e vs ws end = refl
@@ -208,6 +247,13 @@ goes e i j like =
     let there : carried_instance e i ≡ Some (record { node = j.node; attribute = i.attribute; arguments = j.arguments }) = rw (node, values_go e i.arguments j.arguments like.arguments) refl in
     there ∙ ap (λ k. Some (record { node = j.node; attribute = k; arguments = j.arguments })) like.attribute
 
+go_nodes : (e : Edit) (ns ms : List Node) → carried_nodes e ns ≡ Some ms → ListLike (Names (carried e)) ns ms
+go_nodes e [] ms h = let s : [] ≡ ms = cc in subst (ListLike (Names (carried e)) []) s end
+go_nodes e (n ∷ ns) ms h =
+    let (m, one, f) = led (λ (m : Node). option_map (λ (ms : List Node). m ∷ ms) (carried_nodes e ns)) (carried e n) ms h in
+    let (us, rest, s) = mapped (λ (ms : List Node). m ∷ ms) (carried_nodes e ns) ms f in
+    subst (ListLike (Names (carried e)) (n ∷ ns)) s (more one (go_nodes e ns us rest))
+
 goes_value : (e : Edit) (v w : Value Node) → carried_value e v ≡ Some w → ValueLike (Names (carried e)) v w
 goes_value e (Int n) w h = let s : Int n ≡ w = cc in subst (ValueLike (Names (carried e)) (Int n)) s (int n)
 goes_value e (Truth b) w h = let s : Truth b ≡ w = cc in subst (ValueLike (Names (carried e)) (Truth b)) s (truth b)
@@ -216,6 +262,9 @@ goes_value e (Ref None) w h = let s : Ref None ≡ w = cc in subst (ValueLike (N
 goes_value e (Ref (Some n)) w h =
     let (m, is, s) = mapped (λ (m : Node). Ref (Some m)) (carried e n) w h in
     subst (ValueLike (Names (carried e)) (Ref (Some n))) s (ref (both is))
+goes_value e (Nodes ns) w h =
+    let (ms, is, s) = mapped (λ (ms : List Node). Nodes ms) (carried_nodes e ns) w h in
+    subst (ValueLike (Names (carried e)) (Nodes ns)) s (nodes (go_nodes e ns ms is))
 
 go_values : (e : Edit) (vs ws : List (Value Node)) → carried_values e vs ≡ Some ws → ListLike (ValueLike (Names (carried e))) vs ws
 go_values e [] ws h = let s : [] ≡ ws = cc in subst (ListLike (ValueLike (Names (carried e))) []) s end
@@ -404,7 +453,7 @@ module _ (rules : Rules) (height : ℕ) (plain : all_plain rules.attributes ≡ 
   reads_of t i = reads (content t) (values t) (equations rules i)
 
   abbrev is_touched : Tree → Edit → List (Instance Node) → Bool
-  is_touched t e rs = list_any (touches e) (flat_map (reads_of t) rs)
+  is_touched t e rs = list_any (touches_in t e) (flat_map (reads_of t) rs)
 
   -- one more in front, where there is one
   abbrev and_more : Option (Instance Node) → List (Instance Node) → List (Instance Node)
@@ -421,17 +470,17 @@ module _ (rules : Rules) (height : ℕ) (plain : all_plain rules.attributes ≡ 
       let among = leads_in (content t) (equations rules) (values t) (lost t) (right t) (are_lost t) height i s.0 rs is s.1 in
       let d = each_demands (content t) (equations rules) (values t) (lost t) height i s.0 rs is among in
       let seen = sees_in (content t) (equations rules) (values t) (lost t) (right t) (are_lost t) (equations rules s.0) l d.0 d.1 s.2 in
-      by_test (touches e l) refl (flat_in (reads_of t) rs s.0 l among seen)
+      by_test (touches_in t e l) refl (flat_in (reads_of t) rs s.0 l among seen)
     where
-      by_test : (b : Bool) → touches e l ≡ b → Among l (flat_map (reads_of t) rs) → touches e l ≡ false
+      by_test : (b : Bool) → touches_in t e l ≡ b → Among l (flat_map (reads_of t) rs) → touches_in t e l ≡ false
       by_test false f h = f
-      by_test true f h = let g : is_touched t e rs ≡ true = one_passes (touches e) (flat_map (reads_of t) rs) l h f in absurd cc
+      by_test true f h = let g : is_touched t e rs ≡ true = one_passes (touches_in t e) (flat_map (reads_of t) rs) l h f in absurd cc
 
   touched : (t : Tree) (e : Edit) (i : Instance Node) (rs : List (Instance Node)) → reach t i ≡ Some rs → is_touched t e rs ≡ true → IsUntouched rules t e i → ⊥
   touched t e i rs is some free =
-      let (l, m, f) = passing_one (touches e) (flat_map (reads_of t) rs) some in
+      let (l, m, f) = passing_one (touches_in t e) (flat_map (reads_of t) rs) some in
       let (j, n, seen) = in_flat (reads_of t) rs l m in
-      let g : touches e l ≡ false = free l (supporting t i l (
+      let g : touches_in t e l ≡ false = free l (supporting t i l (
         j,
         in_leads (content t) (equations rules) (values t) (lost t) (right t) (are_lost t) height i j rs is n,
         in_sees (content t) (equations rules) (values t) (right t) (equations rules j) l seen,

@@ -11,10 +11,6 @@ pub off_on : (b : Bool) → b ≡ false → b ≡ true → ⊥
 off_on true e f = absurd cc
 off_on false e f = absurd cc
 
-pub on_off : (b : Bool) → (b ≡ false → ⊥) → b ≡ true
-on_off true h = refl
-on_off false h = absurd (h refl)
-
 neither : {B : Type 0} (a b : Option B) → option_or a b ≡ None → (a ≡ None) × (b ≡ None)
 neither None b h = (refl, h)
 neither (Some a) b h = absurd cc

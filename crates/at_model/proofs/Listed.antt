@@ -1,5 +1,5 @@
 -- Every instance that is well formed stands in the list.
-use Rattle.std.proofs.Common.{◌≡◌, ℕ, zero, suc, ◌+◌, ◌<◌, ◌≤◌, Bool, true, false, nat_eq, List, [], ◌∷◌, ◌++◌, map, length, Option, Some, None, inl, inr, refl, ap, subst, arith}
+use Rattle.std.proofs.Common.{◌≡◌, ℕ, zero, suc, ◌+◌, ◌<◌, ◌≤◌, pos, negsuc, Bool, true, false, cond, nat_eq, nat_le, ◌||◌, List, [], ◌∷◌, ◌++◌, map, length, Option, Some, None, inl, inr, refl, sym, ap, subst, arith}
 use Rattle.std.specs.Prelude.{option_map}
 use Rattle.std.specs.List.{slice_get, AllByRecursion, flat_map}
 use Rattle.std.proofs.lemmas.Option.{slice_get_within}
@@ -7,13 +7,15 @@ use Rattle.std.proofs.lemmas.Bool.Decides.{nat_tests}
 use Rattle.at_model.specs.Trees.{Tree, Node as Branch, Cells, no_cells, cell, Cell, One, Many, Empty, Filled, Holds, Trees, no_trees, tree, children, from_cells, from_trees, class_of}
 use Rattle.at_model.specs.Paths.{Node, tree_at, children_at}
 use Rattle.at_model.specs.Run.{Value, Int, Truth, Text, Ref, Instance}
-use Rattle.at_model.specs.Rules.{Rules, Kind}
+use Rattle.at_model.specs.Run as run
+use Rattle.at_model.specs.Rules.{Rules, Kind, Attribute}
 use Rattle.at_model.specs.Rules as kind
+use Rattle.at_model.specs.Bodies.{is_text_within}
 use Rattle.at_model.specs.Meaning.{Among}
 use Rattle.at_model.specs.Kinds.{AreTyped, IsParameter, IsDeclarationTyped}
 use Rattle.at_model.specs.TypedRuns.{class_at, IsOfKind, IsAllowed, AreArguments, IsWellTyped}
-use Rattle.at_model.specs.Instances.{all_nodes, cells_nodes, cell_nodes, trees_nodes, texts, argument_values, argument_lists, below, instances, IsGiven}
-use Rattle.at_model.proofs.Options.{led}
+use Rattle.at_model.specs.Instances.{all_nodes, cells_nodes, cell_nodes, trees_nodes, texts, argument_values, argument_lists, below, texts_within, ints_within, holds_of_one, is_passed, is_int, is_truth, others_within, others, instances, IsGiven}
+use Rattle.at_model.proofs.Options.{led, both}
 use Rattle.at_model.proofs.Everywhere.{found}
 
 pub among_left : {A : Type 0} (a : A) (xs ys : List A) → Among a xs → Among a (xs ++ ys)
@@ -42,7 +44,7 @@ at_end n k h false e rest = let g : k < n = grind (arith, nat_tests) in among_le
 pub none_below : (k : ℕ) → k < 0 → ⊥
 none_below k h = omega arith
 
-among_below : (n k : ℕ) → k < n → Among k (below n)
+pub among_below : (n k : ℕ) → k < n → Among k (below n)
 among_below zero k h = absurd (none_below k h)
 among_below (suc n) k h = at_end n k h (nat_eq k n) refl (among_below n k)
 
@@ -95,45 +97,157 @@ node_listed t n c e = by_tree (tree_at t n) refl e
     by_tree None f g = absurd (cc)
     by_tree (Some u) f g = among_nodes t n u f
 
+-- what holds of each of them holds of one
+pub of_one : {A : Type 0} (P : A → Type 0) (xs : List A) (a : A) → AllByRecursion P xs → Among a xs → P a
+of_one P [] a h g = absurd g
+of_one P (x ∷ xs) a (h, hs) (inl e) = subst P (sym e) h
+of_one P (x ∷ xs) a (h, hs) (inr g) = of_one P xs a hs g
+
+byte_below : (b : ℕ) → nat_le b 255 ≡ true → b < 256
+byte_below b e = grind (arith, nat_tests)
+
+pub short_listed : (n : ℕ) (bytes : List ℕ) → is_text_within n bytes ≡ true → Among bytes (texts_within n)
+short_listed zero [] e = inl refl
+short_listed (suc n) [] e = inl refl
+short_listed zero (b ∷ bs) e = absurd cc
+short_listed (suc n) (b ∷ bs) e =
+    let (x, y) = both (nat_le b 255) (is_text_within n bs) e in
+    inr (among_flat (λ c. map (λ cs. c ∷ cs) (texts_within n)) b (b ∷ bs) (below 256) (among_below 256 b (byte_below b x))
+    (among_map (λ cs. b ∷ cs) bs (texts_within n) (short_listed n bs y)))
+
+-- the ints that are less than so far from 0
+abbrev Both : ℕ → ℕ → Type 0
+Both n k = Among (pos k) (ints_within n) × Among (negsuc k) (ints_within n)
+
+at_front : (n k : ℕ) → k < suc n → (b : Bool) → nat_eq k n ≡ b → (k < n → Both n k) → Both (suc n) k
+at_front n k h true e rest = let same : k ≡ n = grind (arith, nat_tests) in (inl (ap pos same), inr (inl (ap negsuc same)))
+at_front n k h false e rest =
+    let g : k < n = grind (arith, nat_tests) in
+    let r = rest g in
+    (inr (inr r.0), inr (inr r.1))
+
+no_ints : (k : ℕ) → k < 0 → ⊥
+no_ints k h = omega arith
+
+pub ints_listed : (n k : ℕ) → k < n → Both n k
+ints_listed zero k h = absurd (no_ints k h)
+ints_listed (suc n) k h = at_front n k h (nat_eq k n) refl (ints_listed n k)
+
+or_left : (a b : Bool) → a ≡ true → (a || b) ≡ true
+or_left true b e = refl
+or_left false b e = absurd cc
+
+or_right : (a b : Bool) → b ≡ true → (a || b) ≡ true
+or_right true b e = refl
+or_right false b e = e
+
+-- what holds of one of them
+pub one_holds : {A : Type 0} (f : A → Bool) (xs : List A) (a : A) → Among a xs → f a ≡ true → holds_of_one f xs ≡ true
+one_holds f [] a h e = absurd h
+one_holds f (x ∷ xs) a (inl s) e = or_left (f x) (holds_of_one f xs) (subst (λ z. f z ≡ true) s e)
+one_holds f (x ∷ xs) a (inr h) e = or_right (f x) (holds_of_one f xs) (one_holds f xs a h e)
+
+among_at : {A : Type 0} (xs : List A) (n : ℕ) (a : A) → slice_get xs n ≡ Some a → Among a xs
+among_at [] n a e = absurd cc
+among_at (x ∷ xs) zero a e = let same : x ≡ a = cc in inl (sym same)
+among_at (x ∷ xs) (suc n) a e = inr (among_at xs n a e)
+
+among_where : {A : Type 0} (b : Bool) (a : A) (xs : List A) → b ≡ true → Among a xs → Among a (cond b xs [])
+among_where true a xs e h = h
+among_where false a xs e h = absurd cc
+
+-- a kind of parameters of an attribute is passed
+passed_so : (rules : Rules) (n : ℕ) (d : Attribute) → slice_get rules.attributes n ≡ Some d → (of : Kind → Bool) (k : Kind) →
+    Among k d.parameters → of k ≡ true → is_passed rules of ≡ true
+passed_so rules n d e of k h f =
+    one_holds (λ (a : Attribute). holds_of_one of a.parameters) rules.attributes d (among_at rules.attributes n d e)
+    (one_holds of d.parameters k h f)
+
 module _ (rules : Rules) (t : Tree) (vs : List (Value Node)) where
-  value_listed : (v : Value Node) (k : Kind) → IsParameter rules.classes k → IsOfKind rules.classes (class_at t) v k → IsAllowed (IsGiven rules t vs) v → Among v (argument_values rules t vs)
-  value_listed (Text bytes) k p h s = among_left (Text bytes) (map (λ bytes. Text bytes) (texts rules t vs))
-      (Ref None ∷ map (λ n. Ref (Some n)) (all_nodes t)) (among_map (λ bytes. Text bytes) bytes (texts rules t vs) s)
-  value_listed (Ref None) k p h s = among_right (Ref None) (map (λ bytes. Text bytes) (texts rules t vs)) (Ref None ∷ map (λ n. Ref (Some n)) (all_nodes t)) (inl refl)
-  value_listed (Ref (Some n)) (kind.Class b) p (c, e, f) s = among_right (Ref (Some n))
-      (map (λ bytes. Text bytes) (texts rules t vs)) (Ref None ∷ map (λ n. Ref (Some n)) (all_nodes t))
+  -- which kinds are passed
+  abbrev Passes : Kind → Type 0
+  Passes k = (of : Kind → Bool) → of k ≡ true → is_passed rules of ≡ true
+
+  abbrev ints : ℕ → List (Value Node)
+  ints m = cond (is_passed rules is_int) (map (λ n. Int n) (ints_within m)) []
+
+  abbrev truths : List (Value Node)
+  truths = cond (is_passed rules is_truth) (Truth true ∷ Truth false ∷ []) []
+
+  truth_among : (b : Bool) → Among {A = Value Node} (Truth b) (Truth true ∷ Truth false ∷ [])
+  truth_among true = inl refl
+  truth_among false = inr (inl refl)
+
+  pos_other : (m n : ℕ) → n < m → is_passed rules is_int ≡ true → Among (Int (pos n)) (others_within m rules)
+  pos_other m n h e = among_left (Int (pos n)) (ints m) truths
+      (among_where (is_passed rules is_int) (Int (pos n)) (map (λ n. Int n) (ints_within m)) e
+      (among_map (λ n. Int n) (pos n) (ints_within m) (ints_listed m n h).0))
+
+  neg_other : (m n : ℕ) → n < m → is_passed rules is_int ≡ true → Among (Int (negsuc n)) (others_within m rules)
+  neg_other m n h e = among_left (Int (negsuc n)) (ints m) truths
+      (among_where (is_passed rules is_int) (Int (negsuc n)) (map (λ n. Int n) (ints_within m)) e
+      (among_map (λ n. Int n) (negsuc n) (ints_within m) (ints_listed m n h).1))
+
+  truth_other : (m : ℕ) (b : Bool) → is_passed rules is_truth ≡ true → Among (Truth b) (others_within m rules)
+  truth_other m b e = among_right (Truth b) (ints m) truths
+      (among_where (is_passed rules is_truth) (Truth b) (Truth true ∷ Truth false ∷ []) e (truth_among b))
+
+  place_listed : (v : Value Node) → Among v (Ref None ∷ map (λ n. Ref (Some n)) (all_nodes t)) → Among v (argument_values rules t vs)
+  place_listed v h = among_right v (map (λ bytes. Text bytes) (texts rules t vs)) _ (among_left v (Ref None ∷ map (λ n. Ref (Some n)) (all_nodes t)) (others rules) h)
+
+  other_listed : (v : Value Node) → Among v (others rules) → Among v (argument_values rules t vs)
+  other_listed v h = among_right v (map (λ bytes. Text bytes) (texts rules t vs)) _ (among_right v (Ref None ∷ map (λ n. Ref (Some n)) (all_nodes t)) (others rules) h)
+
+  value_listed : (v : Value Node) (k : Kind) → Passes k → IsParameter rules.classes k → IsOfKind rules.classes (class_at t) v k → IsAllowed (IsGiven rules t vs) v → Among v (argument_values rules t vs)
+  value_listed (Text bytes) k q p h s = among_left (Text bytes) (map (λ bytes. Text bytes) (texts rules t vs))
+      _ (among_map (λ bytes. Text bytes) bytes (texts rules t vs) s)
+  value_listed (Ref None) k q p h s = place_listed (Ref None) (inl refl)
+  value_listed (Ref (Some n)) (kind.Class b) q p (c, e, f) s = place_listed (Ref (Some n))
       (inr (among_map (λ n. Ref (Some n)) n (all_nodes t) (node_listed t n c e)))
-  value_listed (Ref (Some n)) kind.Int p h s = absurd p
-  value_listed (Ref (Some n)) kind.Truth p h s = absurd p
-  value_listed (Ref (Some n)) kind.Text p h s = absurd h
-  value_listed (Int n) kind.Int p h s = absurd p
-  value_listed (Int n) k p h s = absurd h
-  value_listed (Truth b) kind.Truth p h s = absurd p
-  value_listed (Truth b) k p h s = absurd h
+  value_listed (run.Nodes ns) kind.Int q p h s = absurd h
+  value_listed (run.Nodes ns) kind.Truth q p h s = absurd h
+  value_listed (run.Nodes ns) kind.Text q p h s = absurd h
+  value_listed (run.Nodes ns) (kind.Class b) q p h s = absurd h
+  value_listed (run.Nodes ns) (kind.Nodes b) q p h s = absurd p
+  value_listed (Ref (Some n)) (kind.Nodes b) q p h s = absurd p
+  value_listed (Int n) (kind.Nodes b) q p h s = absurd p
+  value_listed (Truth b) (kind.Nodes c) q p h s = absurd p
+  value_listed (Ref (Some n)) kind.Int q p h s = absurd h
+  value_listed (Ref (Some n)) kind.Truth q p h s = absurd h
+  value_listed (Ref (Some n)) kind.Text q p h s = absurd h
+  value_listed (Int (pos n)) kind.Int q p h s = other_listed (Int (pos n)) (pos_other 2147483648 n h (q is_int refl))
+  value_listed (Int (negsuc n)) kind.Int q p h s = other_listed (Int (negsuc n)) (neg_other 2147483648 n h (q is_int refl))
+  value_listed (Int n) kind.Truth q p h s = absurd h
+  value_listed (Int n) kind.Text q p h s = absurd h
+  value_listed (Int n) (kind.Class b) q p h s = absurd h
+  value_listed (Truth b) kind.Truth q p h s = other_listed (Truth b) (truth_other 2147483648 b (q is_truth refl))
+  value_listed (Truth b) kind.Int q p h s = absurd h
+  value_listed (Truth b) kind.Text q p h s = absurd h
+  value_listed (Truth b) (kind.Class c) q p h s = absurd h
 
   too_many : (a b c : Kind) (ks : List Kind) → length (a ∷ b ∷ c ∷ ks) ≤ 2 → ⊥
   too_many a b c ks h = omega arith
 
-  arguments_listed : (ws : List (Value Node)) (ks : List Kind) → length ks ≤ 2 → AllByRecursion
+  arguments_listed : (ws : List (Value Node)) (ks : List Kind) → ((k : Kind) → Among k ks → Passes k) → length ks ≤ 2 → AllByRecursion
       (IsParameter rules.classes) ks → AreArguments rules.classes (class_at t) (IsGiven rules t vs) ws ks
       → Among ws (argument_lists (argument_values rules t vs))
-  arguments_listed [] ks few p h = inl refl
-  arguments_listed (v ∷ ws) [] few p h = absurd h
-  arguments_listed (v ∷ []) (k ∷ ks) few (p, ps) (h, s, hs) = inr (among_left (v ∷ []) (map (λ v. v ∷ [])
-      (argument_values rules t vs)) _ (among_map (λ v. v ∷ []) v (argument_values rules t vs) (value_listed v k p h s)))
-  arguments_listed (v ∷ w ∷ ws) (k ∷ []) few p (h, s, hs) = absurd hs
-  arguments_listed (v ∷ w ∷ []) (k ∷ l ∷ ks) few (p, (q, ps)) (h, s, (g, r, hs)) =
+  arguments_listed [] ks q few p h = inl refl
+  arguments_listed (v ∷ ws) [] q few p h = absurd h
+  arguments_listed (v ∷ []) (k ∷ ks) q few (p, ps) (h, s, hs) = inr (among_left (v ∷ []) (map (λ v. v ∷ [])
+      (argument_values rules t vs)) _ (among_map (λ v. v ∷ []) v (argument_values rules t vs) (value_listed v k (q k (inl refl)) p h s)))
+  arguments_listed (v ∷ w ∷ ws) (k ∷ []) q few p (h, s, hs) = absurd hs
+  arguments_listed (v ∷ w ∷ []) (k ∷ l ∷ ks) q few (p, (p2, ps)) (h, s, (g, r, hs)) =
       inr (among_right (v ∷ w ∷ []) (map (λ v. v ∷ []) (argument_values rules t vs)) _ (among_flat (λ v. map (λ w.
-      v ∷ w ∷ []) (argument_values rules t vs)) v (v ∷ w ∷ []) (argument_values rules t vs) (value_listed v k p h s)
-      (among_map (λ w. v ∷ w ∷ []) w (argument_values rules t vs) (value_listed w l q g r))))
-  arguments_listed (v ∷ w ∷ x ∷ ws) (k ∷ l ∷ []) few p (h, s, (g, r, hs)) = absurd hs
-  arguments_listed (v ∷ w ∷ x ∷ ws) (k ∷ l ∷ m ∷ ks) few p h = absurd (too_many k l m ks few)
+      v ∷ w ∷ []) (argument_values rules t vs)) v (v ∷ w ∷ []) (argument_values rules t vs) (value_listed v k (q k (inl refl)) p h s)
+      (among_map (λ w. v ∷ w ∷ []) w (argument_values rules t vs) (value_listed w l (q l (inr (inl refl))) p2 g r))))
+  arguments_listed (v ∷ w ∷ x ∷ ws) (k ∷ l ∷ []) q few p (h, s, (g, r, hs)) = absurd hs
+  arguments_listed (v ∷ w ∷ x ∷ ws) (k ∷ l ∷ m ∷ ks) q few p h = absurd (too_many k l m ks few)
 
   pub instance_listed : AreTyped rules → (i : Instance Node) → IsWellTyped rules (class_at t) (IsGiven rules t vs) i → Among i (instances rules t vs)
   instance_listed typed i w =
       let declared = found (IsDeclarationTyped rules.classes) rules.attributes i.attribute w.declaration typed.attributes w.attribute in
       let lists = argument_lists (argument_values rules t vs) in
-      let a = arguments_listed i.arguments w.declaration.parameters declared.few declared.parameters w.arguments in
+      let a = arguments_listed i.arguments w.declaration.parameters (λ k h of e. passed_so rules i.attribute w.declaration w.attribute of k h e) declared.few declared.parameters w.arguments in
       let b = among_below (length rules.attributes) i.attribute (slice_get_within rules.attributes i.attribute w.declaration w.attribute) in
       let c = node_listed t i.node w.class w.node in
       among_flat (λ n. flat_map (λ k. map (λ ws. record { node = n; attribute = k; arguments = ws }) lists) (below (length rules.attributes))) i.node i (all_nodes t) c

@@ -828,6 +828,7 @@ not_text _ _ (form.nodes c d) h = h
 
 literal_text : (rules : Rules) (s : ScopeKinds) (bytes : List ℕ) (k : Kind) → HasKind rules s (TextLiteral bytes) k → IsText k
 literal_text rules s bytes _ (form.widened c d sub x) = literal_text rules s bytes (kind.Class c) x
+literal_text rules s bytes _ (form.widened_all c d sub x) = absurd (literal_text rules s bytes (kind.Nodes c) x)
 literal_text rules s bytes _ (form.text_literal _) = tt
 
 pub no_texts : (rules : Rules) (s : ScopeKinds) (k : Kind) (bytes more : List ℕ) → HasKind rules s (body.Same (TextLiteral bytes) (TextLiteral more)) k → ⊥
@@ -842,6 +843,7 @@ IsAbove c k = ⊥
 
 this_above : (s : ScopeKinds) (k : Kind) → is_sub calc_classes s.this s.this ≡ true → HasKind calc s This k → IsAbove s.this k
 this_above s _ own (form.widened c d sub x) = sub_sub calc_classes (chained calc_classes calc_hierarchy) s.this c d (this_above s (kind.Class c) own x) sub
+this_above s _ own (form.widened_all c d sub x) = absurd (this_above s (kind.Nodes c) own x)
 this_above s _ own form.this = own
 
 pub no_declaration : HasKind calc (plain 2) This (kind.Class 3) → ⊥

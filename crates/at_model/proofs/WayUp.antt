@@ -1,14 +1,14 @@
 -- The walk up to an inherited equation finds the one that paths define, and looks at just the way up.
 use Rattle.std.proofs.Common.{◌≡◌, ℕ, zero, suc, ◌+◌, ◌≤◌, true, false, Bool, List, [], ◌∷◌, ◌++◌, length, Option, Some, None, ◌⊎◌, inl, inr, refl, ap, sym, ◌∙◌, subst, arith, length-append}
-use Rattle.std.specs.Prelude.{option_map, option_and_then}
+use Rattle.std.specs.Prelude.{map, option_map, option_and_then}
 use Rattle.std.specs.Option.{option_or}
 use Rattle.std.specs.List.{slice_get, flat_map}
 use Rattle.at_model.specs.Trees.{Tree, class_of}
 use Rattle.at_model.specs.Terms.{max_depth}
 use Rattle.at_model.specs.Paths.{Node, node_eq, parent_of, tree_at, children_at}
 use Rattle.at_model.specs.Run.{Value, Instance, Location, Is, Contents, Run, Gives, Fails, Looks, Demands, Null, LooksTo}
-use Rattle.at_model.specs.Bodies.{Expr, ref_of, eval}
-use Rattle.at_model.specs.Rules.{Rules, Source, source_at, source_of, prefixes, own_equation, inherited_equation, past_arguments, by_equation, by_inherited, by_own, is_inherited, attribute_name}
+use Rattle.at_model.specs.Bodies.{Expr, mentioned, eval}
+use Rattle.at_model.specs.Rules.{Rules, Source, source_at, source_of, prefixes, own_equation, inherited_equation, past_nodes, past_arguments, by_equation, by_inherited, by_own, is_inherited, attribute_name}
 use Rattle.at_model.specs.Meaning.{content, equations, at_source}
 use Rattle.at_model.specs.Support.{argument_classes, up_to_first, step_up, way_up}
 
@@ -101,14 +101,14 @@ looks_more look (Fails f) (l ∷ ls) ms s u e g = absurd e
 looks_more look (Looks m k) (l ∷ ls) ms s u (e, f) g = (e, looks_more look (k (look m)) ls ms s u f g)
 looks_more look (Demands i k) (l ∷ ls) ms s u e g = absurd e
 
-one_argument : {N A : Type 0} (look : Contents N) (r s : Run N A) (ls : List (Location N)) (o : Option N) → LooksTo look r ls s →
-    LooksTo look (elim o as (λ _. Run N A) [ None ↦ r | Some n ↦ Looks (Is n) (λ c. r) ]) (elim o [ None ↦ ls | Some n ↦ Is n ∷ ls ]) s
-one_argument look r s ls None e = e
-one_argument look r s ls (Some n) e = (refl, e)
+one_argument : {N A : Type 0} (look : Contents N) (r s : Run N A) (ls : List (Location N)) (ns : List N) → LooksTo look r ls s →
+    LooksTo look (past_nodes ns r) (map (λ n. Is n) ns ++ ls) s
+one_argument look r s ls [] e = e
+one_argument look r s ls (n ∷ ns) e = (refl, one_argument look r s ls ns e)
 
 pub past_them : {N A : Type 0} (look : Contents N) (vs : List (Value N)) (r : Run N A) → LooksTo look (past_arguments vs r) (argument_classes vs) r
 past_them look [] r = refl
-past_them look (v ∷ vs) r = one_argument look (past_arguments vs r) r (argument_classes vs) (ref_of v) (past_them look vs r)
+past_them look (v ∷ vs) r = one_argument look (past_arguments vs r) r (argument_classes vs) (mentioned v) (past_them look vs r)
 
 chosen_way : (b c : Bool) → b ≡ c → (r s : Run Node (Value Node)) → elim b as (λ _. Run Node (Value Node)) [ true ↦ r | false ↦ s ] ≡ elim c as (λ _. Run Node (Value Node)) [ true ↦ r | false ↦ s ]
 chosen_way b c e r s = ap (λ b. elim b as (λ _. Run Node (Value Node)) [ true ↦ r | false ↦ s ]) e

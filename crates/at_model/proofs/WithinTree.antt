@@ -1,15 +1,16 @@
 -- What is made of nodes of a tree leads to what is made of nodes of the tree, and looks at these alone.
-use Rattle.std.proofs.Common.{◌≡◌, ℕ, suc, ◌+◌, List, [], ◌∷◌, ◌++◌, Option, Some, None, inl, inr, refl, ap, sym, ◌∙◌, subst, arith}
+use Rattle.std.proofs.Common.{◌≡◌, ℕ, suc, ◌+◌, Bool, true, false, cond, List, [], ◌∷◌, ◌++◌, Option, Some, None, inl, inr, refl, ap, sym, ◌∙◌, subst, arith}
 use Rattle.std.specs.Prelude.{IsSome, IfSome, option_map, option_and_then}
 use Rattle.std.specs.List.{slice_get, AllByRecursion}
 use Rattle.at_model.specs.Trees.{Tree}
 use Rattle.at_model.specs.Paths.{Node, node_eq, parent_of, tree_at, children_at}
-use Rattle.at_model.specs.Run.{Value, Int, Truth, Text, Ref, Instance, Location, Is, Tok, Slot, Up, Idx}
+use Rattle.at_model.specs.Run.{Value, Int, Truth, Text, Ref, Nodes, Instance, Location, Is, Tok, Slot, Up, Idx, Drawer}
+use Rattle.at_model.specs.Drawers.{Key}
 use Rattle.at_model.specs.Rules.{Rules}
-use Rattle.at_model.specs.Meaning.{child_nodes, content, equations, Leads, HasValue}
+use Rattle.at_model.specs.Meaning.{is_marked, chosen_nodes, child_nodes, content, equations, Leads, HasValue}
 use Rattle.at_model.specs.Support.{Supports, IsThere, IsValueThere, IsInstanceThere}
 use Rattle.at_model.specs.Touches.{node_of}
-use Rattle.at_model.specs.Alike.{OptionLike, neither, both, ListLike, end, more, ValueLike, int, truth, text, ref, InstanceLike, LocationLike, is, tok, slot, up, idx, SameLike, EquationsLike, AlikeAt}
+use Rattle.at_model.specs.Alike.{OptionLike, neither, both, ListLike, end, more, ValueLike, int, truth, text, ref, nodes, InstanceLike, LocationLike, is, tok, slot, up, idx, drawer, SameLike, EquationsLike, AlikeAt}
 use Rattle.at_model.proofs.of_likeness.EquationsAlike.{evaluation-like}
 use Rattle.at_model.proofs.of_likeness.CarryingSupport.{carried_value, leads_there, supports_there}
 use Rattle.at_model.proofs.WayUp.{snoc, parent_of-snoc, parent_there}
@@ -52,6 +53,26 @@ children_within t n part (Some u) e = each_child t n part 0 (children_at u part)
     (λ j x f. let g : 0 + j ≡ j = omega arith in subst (λ z. IsThere t (n ++ (part, z) ∷ [])) (sym g)
     (some_there (tree_at t (n ++ (part, j) ∷ [])) x (tree_at-snoc t n (part, j) u e ∙ f)))
 
+same_chosen : (t : Tree) (n : Node) (b : Bool) (ns : List Node) → IsThere t n → ListLike (Within t) ns ns → ListLike (Within t) (cond b (n ∷ ns) ns) (cond b (n ∷ ns) ns)
+same_chosen t n true ns there same = more (refl, there) same
+same_chosen t n false ns there same = same
+
+each_chosen : (t : Tree) (f : Tree → Bool) (n : Node) (part k : ℕ) (ts : List Tree) → ((j : ℕ) (x : Tree) → slice_get ts j ≡ Some x
+    → IsThere t (n ++ (part, k + j) ∷ [])) → ListLike (Within t) (chosen_nodes f n part k ts) (chosen_nodes f n part k ts)
+each_chosen t f n part k [] there = end
+each_chosen t f n part k (x ∷ xs) there =
+    let e : k + 0 ≡ k = omega arith in
+    same_chosen t (n ++ (part, k) ∷ []) (f x) (chosen_nodes f n part (suc k) xs) (subst (λ z. IsThere t (n ++ (part, z) ∷ [])) e (there 0 x refl))
+    (each_chosen t f n part (suc k) xs (λ j y g. let h : k + suc j ≡ suc k + j = omega arith in subst (λ z. IsThere t (n ++ (part, z) ∷ [])) h (there (suc j) y g)))
+
+drawers_within : (t : Tree) (n : Node) (part : ℕ) (key : Key) (m : ℕ) (o : Option Tree) → tree_at t n ≡ o →
+    ListLike (Within t) (elim o [ None ↦ [] | Some u ↦ chosen_nodes (is_marked key m) n part 0 (children_at u part) ])
+    (elim o [ None ↦ [] | Some u ↦ chosen_nodes (is_marked key m) n part 0 (children_at u part) ])
+drawers_within t n part key m None e = end
+drawers_within t n part key m (Some u) e = each_chosen t (is_marked key m) n part 0 (children_at u part)
+    (λ j x f. let g : 0 + j ≡ j = omega arith in subst (λ z. IsThere t (n ++ (part, z) ∷ [])) (sym g)
+    (some_there (tree_at t (n ++ (part, j) ∷ [])) x (tree_at-snoc t n (part, j) u e ∙ f)))
+
 abbrev pub UpLike : Tree → Option (Node × ℕ) → Option (Node × ℕ) → Type 0
 UpLike t c d = OptionLike (λ (p : Node × ℕ) (q : Node × ℕ). Within t p.0 q.0 × (p.1 ≡ q.1)) c d
 
@@ -71,6 +92,8 @@ alike_within t _ _ (tok part r) = ap (λ z. content t (Tok z part)) r.0
 alike_within t _ _ (slot {n = n} part r) = subst (λ z. ListLike (Within t) (content t (Slot n part)) (content t (Slot z part))) r.0 (children_within t n part (tree_at t n) refl)
 alike_within t _ _ (up {n = n} r) = subst (λ z. UpLike t (content t (Up n)) (content t (Up z))) r.0 (parent_within t n r.1)
 alike_within t _ _ (idx r) = ap (λ z. content t (Idx z)) r.0
+alike_within t _ _ (drawer {n = n} part key m r) = subst (λ z. ListLike (Within t) (content t (Drawer n part key m)) (content t (Drawer z part key m))) r.0
+    (drawers_within t n part key m (tree_at t n) refl)
 
 pub same_within : (t : Tree) → SameLike (Within t) node_eq node_eq
 same_within t a b c d r s = ap (λ z. node_eq z b) r.0 ∙ ap (λ z. node_eq c z) s.0
@@ -78,12 +101,21 @@ same_within t a b c d r s = ap (λ z. node_eq z b) r.0 ∙ ap (λ z. node_eq c z
 equations_within : (rules : Rules) (t : Tree) → EquationsLike (Within t) (equations rules) (equations rules)
 equations_within rules t = evaluation-like rules node_eq node_eq (same_within t)
 
+nodes_within : (t : Tree) (ns : List Node) → AllByRecursion (IsThere t) ns → ListLike (Within t) ns ns
+nodes_within t [] h = end
+nodes_within t (n ∷ ns) (h, hs) = more (refl, h) (nodes_within t ns hs)
+
+nodes_there : (t : Tree) {ns ms : List Node} → ListLike (Within t) ns ms → AllByRecursion (IsThere t) ns
+nodes_there t end = tt
+nodes_there t (more r rs) = (r.1, nodes_there t rs)
+
 value_within : (t : Tree) (v : Value Node) → IsValueThere t v → ValueLike (Within t) v v
 value_within t (Int n) h = int n
 value_within t (Truth b) h = truth b
 value_within t (Text bytes) h = text bytes
 value_within t (Ref None) h = ref neither
 value_within t (Ref (Some n)) h = ref (both (refl, h))
+value_within t (Nodes ns) h = nodes (nodes_within t ns h)
 
 values_within : (t : Tree) (vs : List (Value Node)) → AllByRecursion (IsValueThere t) vs → ListLike (ValueLike (Within t)) vs vs
 values_within t [] h = end
@@ -101,6 +133,7 @@ value_there t (int n) = tt
 value_there t (truth b) = tt
 value_there t (text bytes) = tt
 value_there t (ref r) = ref_there t r
+value_there t (nodes r) = nodes_there t r
 
 pub values_there : (t : Tree) {vs ws : List (Value Node)} → ListLike (ValueLike (Within t)) vs ws → AllByRecursion (IsValueThere t) vs
 values_there t end = tt
@@ -112,6 +145,7 @@ location_there t (tok part r) = r.1
 location_there t (slot part r) = r.1
 location_there t (up r) = r.1
 location_there t (idx r) = r.1
+location_there t (drawer part key m r) = r.1
 
 pub value_stays : (rules : Rules) (t : Tree) (i : Instance Node) (v : Value Node) → IsInstanceThere t i → HasValue (content t) (equations rules) i v → IsValueThere t v
 value_stays rules t i v h e = let (w, g, s) = carried_value (content t) (content t) (equations rules) (equations rules)

@@ -1,8 +1,11 @@
 pub mod Changes
+pub mod Drawn
 pub mod Moving
 pub mod Ways
 pub mod Untouched
+pub mod Drawing
 pub mod Untouching
+pub mod NoDrawer
 pub mod Carried
 pub mod Moves
 pub mod Moved

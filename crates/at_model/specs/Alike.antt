@@ -1,7 +1,8 @@
 -- Two trees whose nodes are related, and what is alike in them: a tree of numbered nodes and one of paths, or a tree before
 -- and after an edit.
 use Rattle.std.specs.Prelude.{◌≡◌, ℕ, ℤ, Bool, List, [], ◌∷◌, Option, Some, None}
-use Rattle.at_model.specs.Run.{Value, Int, Truth, Text, Ref, Instance, Location, Is, Tok, Slot, Up, Idx, Content, Contents, FaultKind, Run, Gives, Fails, Looks, Demands, Known, Tried, Valued, Faulted, Needs}
+use Rattle.at_model.specs.Drawers.{Key}
+use Rattle.at_model.specs.Run.{Value, Int, Truth, Text, Ref, Nodes, Instance, Location, Is, Tok, Slot, Up, Idx, Drawer, Content, Contents, FaultKind, Run, Gives, Fails, Looks, Demands, Known, Tried, Valued, Faulted, Needs}
 use Rattle.at_model.specs.Bodies.{Scope}
 use Rattle.at_model.specs.Meaning.{Outcome, Finds, Faults, Answer, Outcomes, Circle, Equations}
 use Rattle.at_model.specs.Support.{Supports}
@@ -16,12 +17,13 @@ pub data ListLike {A B : Type 0} (R : A → B → Type 0) : List A → List B �
   end : ListLike R [] []
   more : {a : A} {b : B} {as' : List A} {bs : List B} → R a b → ListLike R as' bs → ListLike R (a ∷ as') (b ∷ bs)
 
--- the same value, up to the node to which it refers
+-- the same value, up to the nodes to which it refers
 pub data ValueLike {N M : Type 0} (R : N → M → Type 0) : Value N → Value M → Type 0 where
   int : (n : ℤ) → ValueLike R (Int n) (Int n)
   truth : (b : Bool) → ValueLike R (Truth b) (Truth b)
   text : (bytes : List ℕ) → ValueLike R (Text bytes) (Text bytes)
   ref : {n : Option N} {m : Option M} → OptionLike R n m → ValueLike R (Ref n) (Ref m)
+  nodes : {ns : List N} {ms : List M} → ListLike R ns ms → ValueLike R (Nodes ns) (Nodes ms)
 
 -- the same attribute of related nodes, with like arguments
 pub record InstanceLike {N M : Type 0} (R : N → M → Type 0) (i : Instance N) (j : Instance M) : Type 0 where
@@ -36,6 +38,7 @@ pub data LocationLike {N M : Type 0} (R : N → M → Type 0) : Location N → L
   slot : {n : N} {m : M} (part : ℕ) → R n m → LocationLike R (Slot n part) (Slot m part)
   up : {n : N} {m : M} → R n m → LocationLike R (Up n) (Up m)
   idx : {n : N} {m : M} → R n m → LocationLike R (Idx n) (Idx m)
+  drawer : {n : N} {m : M} (part : ℕ) (key : Key) (mark : ℕ) → R n m → LocationLike R (Drawer n part key mark) (Drawer m part key mark)
 
 -- the same content, up to the nodes in it
 abbrev pub ContentLike : {N M : Type 0} (R : N → M → Type 0) {l : Location N} {m : Location M} → LocationLike R l m → Content l → Content m → Type 0
@@ -44,6 +47,7 @@ ContentLike R (tok part r) c d = c ≡ d
 ContentLike R (slot part r) c d = ListLike R c d
 ContentLike R (up r) c d = OptionLike (λ p q. R p.0 q.0 × (p.1 ≡ q.1)) c d
 ContentLike R (idx r) c d = c ≡ d
+ContentLike R (drawer part key mark r) c d = ListLike R c d
 
 -- evaluations that go the same way wherever they are told the same
 pub data RunLike {N M A B : Type 0} (R : N → M → Type 0) (Q : A → B → Type 0) : Run N A → Run M B → Type 0 where

@@ -1,13 +1,14 @@
 -- The expressions of equations, and how each is evaluated. Names, components, attributes and classes are positions, and
 -- each form has its kinds. The order is from left to right.
-use Rattle.std.specs.Prelude.{ℕ, zero, suc, ℤ, pos, negsuc, Bool, true, false, cond, not, List, [], ◌∷◌, ◌++◌, length, nat_le, int_lt, int_le, int_rem, Option, Some, None, slice_get, bytes_eq}
+use Rattle.std.specs.Prelude.{ℕ, zero, suc, ℤ, pos, negsuc, Bool, true, false, cond, not, List, [], ◌∷◌, ◌++◌, length, nat_le, int_lt, int_le, int_rem, Option, Some, None, option_map, slice_get, bytes_eq, ◌&&◌}
 use Rattle.std.specs.Fmt.{signed_decimal}
 use Rattle.std.specs.Ordering.{int_eq}
 use Rattle.std.specs.Int.{w32, int_wrapping_add, int_wrapping_sub, int_wrapping_mul, int_wrapping_div, int_wrapping_neg}
-use Rattle.at_model.specs.Classes.{Classes, is_sub}
+use Rattle.at_model.specs.Classes.{Classes, Component, is_sub, parts, class_in}
+use Rattle.at_model.specs.Drawers.{Key, mark_of}
 use Rattle.at_model.specs.Trees.{Token}
 use Rattle.at_model.specs.Trees as tree
-use Rattle.at_model.specs.Run.{Value, Int, Truth, Text, Ref, Is, Tok, Slot, Idx, Null, Index, Absent, Zero, Cast, Long, Run, Gives, Fails, Looks, Demands, ◌>>=◌}
+use Rattle.at_model.specs.Run.{Value, Int, Truth, Text, Ref, Nodes, Is, Tok, Slot, Up, Idx, Drawer, Null, Index, Absent, Zero, Cast, Long, Run, Gives, Fails, Looks, Demands, ◌>>=◌}
 
 -- operators on two ints that give an int
 pub data Operator : Type 0 where
@@ -23,6 +24,14 @@ pub data Order : Type 0 where
   AtMost : Order
   Above : Order
   AtLeast : Order
+
+-- what is done with nodes, each in turn
+pub data Fold : Type 0 where
+  AnyOf : Fold
+  FirstOf : Fold
+  SumOf : Fold
+  Gather : Fold
+  Close : Fold
 
 -- the forms of expression; a component, an attribute and a class are positions
 mutual
@@ -64,6 +73,21 @@ mutual
     Exists : Expr → (part : ℕ) → Expr → Expr
     First : Expr → (part : ℕ) → Expr → Expr
     Sum : Expr → (part : ℕ) → Expr → Expr
+    -- getBList() as a value; [E] of a node, where null is left out; those of the one and then of the other; whether a node is among them
+    Listed : Expr → (part : ℕ) → Expr
+    Only : Expr → Expr
+    Union : Expr → Expr → Expr
+    Contains : Expr → Expr → Expr
+    -- over these nodes, each in turn under the name 0
+    Over : Fold → Expr → Expr → Expr
+    -- astChildren(), getParent()
+    Children : Expr → Expr
+    Parent : Expr → Expr
+    -- an argument that is computed
+    Passed : Expr → Expr
+    -- `exists` and `first` over those elements alone that stand under the mark of a text, the expression in front of the braces
+    SeekAny : Expr → (part : ℕ) → Key → Expr → Expr → Expr
+    SeekFirst : Expr → (part : ℕ) → Key → Expr → Expr → Expr
 
   -- the arguments of a call
   pub data Exprs : Type 0 where
@@ -99,6 +123,17 @@ text_of v = []
 abbrev pub ref_of : {N : Type 0} → Value N → Option N
 ref_of (Ref n) = n
 ref_of v = None
+
+-- the nodes of a value
+abbrev pub nodes_of : {N : Type 0} → Value N → List N
+nodes_of (Nodes ns) = ns
+nodes_of v = []
+
+-- the nodes that a value names
+abbrev pub mentioned : {N : Type 0} → Value N → List N
+mentioned (Ref (Some n)) = n ∷ []
+mentioned (Nodes ns) = ns
+mentioned v = []
 
 -- the value of a token
 abbrev pub value_of : {N : Type 0} → Token → Value N
@@ -162,6 +197,31 @@ remainder m (pos zero) = Fails Zero
 remainder m (pos (suc n)) = Gives (Int (int_rem m (pos (suc n))))
 remainder m (negsuc n) = Gives (Int (int_rem m (negsuc n)))
 
+-- bytes, so many at most
+abbrev pub is_text_within : ℕ → List ℕ → Bool
+is_text_within n [] = true
+is_text_within zero (b ∷ bs) = false
+is_text_within (suc n) (b ∷ bs) = nat_le b 255 && is_text_within n bs
+
+-- the most bytes of a text that is computed and passed, as many as a token's or a literal's
+abbrev pub max_passed : ℕ
+max_passed = 4096
+
+-- the farthest from 0 that an int is that is computed and passed
+abbrev pub max_step : ℕ
+max_step = 1048576
+
+-- it may be passed where it was computed
+abbrev pub may_pass : {N : Type 0} → Value N → Bool
+may_pass (Text bytes) = is_text_within max_passed bytes
+may_pass (Int (pos n)) = nat_le n max_step
+may_pass (Int (negsuc n)) = nat_le n max_step
+may_pass v = true
+
+-- the value, or the fault `long`: so what leads from argument to argument comes to an end
+abbrev pub passed : {N : Type 0} → Value N → Run N (Value N)
+passed v = cond (may_pass v) (Gives v) (Fails Long)
+
 -- ints are 32 bits in two's complement, and wrap
 abbrev pub computed : {N : Type 0} → Operator → ℤ → ℤ → Run N (Value N)
 computed Multiply m n = Gives (Int (int_wrapping_mul w32 m n))
@@ -203,6 +263,7 @@ value_eq same (Int n) w = int_eq n (int_of w)
 value_eq same (Truth b) w = bool_eq b (truth_of w)
 value_eq same (Text bytes) w = bytes_eq bytes (text_of w)
 value_eq same (Ref n) w = ref_eq same n (ref_of w)
+value_eq same (Nodes ns) w = false
 
 -- whether it is a node of that class or below
 abbrev pub is_instance : {N : Type 0} → Classes → ℕ → Option N → Run N (Value N)
@@ -234,9 +295,89 @@ abbrev pub sum_in : {N : Type 0} → (N → Run N (Value N)) → ℤ → List N 
 sum_in term total [] = Gives (Int total)
 sum_in term total (n ∷ ns) = term n >>= λ v. sum_in term (int_wrapping_add w32 total (int_of v)) ns
 
+-- the node is among them
+abbrev pub is_among : {N : Type 0} → (N → N → Bool) → N → List N → Bool
+is_among same n [] = false
+is_among same n (m ∷ ms) = cond (same n m) true (is_among same n ms)
+
+-- one more node behind them, where it isn't among them
+abbrev pub with_one : {N : Type 0} → (N → N → Bool) → List N → N → List N
+with_one same ns n = cond (is_among same n ns) ns (ns ++ n ∷ [])
+
+-- these nodes, and behind them those of the others that aren't there yet, each once
+abbrev pub with_more : {N : Type 0} → (N → N → Bool) → List N → List N → List N
+with_more same ns [] = ns
+with_more same ns (m ∷ ms) = with_more same (with_one same ns m) ms
+
+-- the most nodes that a list has: as many as a tree may have where most are allowed
+abbrev pub max_list : ℕ
+max_list = 16777216
+
+-- the nodes, or the fault `long`
+abbrev pub made : {N : Type 0} → List N → Run N (Value N)
+made ns = cond (nat_le (length ns) max_list) (Gives (Nodes ns)) (Fails Long)
+
+-- a node alone; null is none
+abbrev pub only : {N : Type 0} → Option N → List N
+only None = []
+only (Some n) = n ∷ []
+
+-- whether it is a node, and among them
+abbrev pub contains : {N : Type 0} → (N → N → Bool) → List N → Option N → Bool
+contains same ns None = false
+contains same ns (Some n) = is_among same n ns
+
+-- what each of the nodes gives, one after the other, behind these
+abbrev pub gather_in : {N : Type 0} → (N → N → Bool) → (N → Run N (Value N)) → List N → List N → Run N (Value N)
+gather_in same what found [] = made found
+gather_in same what found (n ∷ ns) = what n >>= λ v. gather_in same what (with_more same found (nodes_of v)) ns
+
+-- Each of the nodes from the i-th on is asked in its turn; what it gives and isn't there yet comes behind. There are more turns
+-- than nodes in a tree within the limits.
+abbrev pub close_in : {N : Type 0} → (N → N → Bool) → (N → Run N (Value N)) → (turns i : ℕ) → List N → Run N (Value N)
+close_in same what zero i ns = Fails Long
+close_in same what (suc turns) i ns = elim (slice_get ns i) [
+  | None ↦ Gives (Nodes ns)
+  | Some n ↦ what n >>= λ v. close_in same what turns (suc i) (with_more same ns (nodes_of v))
+]
+
+-- one turn more than a tree may have nodes
+abbrev pub max_turns : ℕ
+max_turns = 16777217
+
+-- what is done with the nodes, by what the expression in the braces gives at each
+abbrev pub fold_in : {N : Type 0} → (N → N → Bool) → Fold → (N → Run N (Value N)) → List N → Run N (Value N)
+fold_in same AnyOf what ns = exists_in what ns
+fold_in same FirstOf what ns = first_in what ns
+fold_in same SumOf what ns = sum_in what (pos 0) ns
+fold_in same Gather what ns = gather_in same what [] ns
+fold_in same Close what ns = close_in same what max_turns 0 ns
+
+-- the components of a class in which trees stand, from this position on
+abbrev pub tree_parts : (part : ℕ) → List Component → List ℕ
+tree_parts part [] = []
+tree_parts part (p ∷ ps) = elim (class_in p.shape) [ None ↦ tree_parts (suc part) ps | Some b ↦ part ∷ tree_parts (suc part) ps ]
+
+-- the children of a node in these components, behind these nodes
+abbrev pub children_in : {N : Type 0} → (N → N → Bool) → N → List N → List ℕ → Run N (Value N)
+children_in same n found [] = made found
+children_in same n found (part ∷ parts) = Looks (Slot n part) (λ ns. children_in same n (with_more same found ns) parts)
+
+-- astChildren(): the class is looked at, and then each component with trees
+abbrev pub children_of : {N : Type 0} → Classes → (N → N → Bool) → Value N → Run N (Value N)
+children_of classes same v = node_of v >>= λ n. Looks (Is n) (λ c. children_in same n [] (tree_parts 0 (parts classes c)))
+
+-- getParent(), which is null at the root
+abbrev pub up_of : {N : Type 0} → Value N → Run N (Value N)
+up_of v = node_of v >>= λ n. Looks (Up n) (λ p. Gives (Ref (option_map (λ q. q.0) p)))
+
 -- the nodes in a list component
 abbrev pub elements_of : {N : Type 0} → ℕ → Value N → Run N (List N)
 elements_of part v = node_of v >>= λ n. Looks (Slot n part) (λ ns. Gives ns)
+
+-- those of them that stand under the mark of the text
+abbrev pub drawer_of : {N : Type 0} → ℕ → Key → Value N → Value N → Run N (List N)
+drawer_of part key v w = node_of v >>= λ n. Looks (Drawer n part key (mark_of (text_of w))) (λ ns. Gives ns)
 
 -- The evaluation of an expression, from left to right; `same` says which nodes are the same. `&&`, `||`, `?:`, `exists` and
 -- `first` stop when they are decided. A call evaluates the receiver and the arguments, looks whether the receiver is null,
@@ -274,6 +415,19 @@ abbrev mutual
   eval classes same (Exists a part b) scope = eval classes same a scope >>= λ v. elements_of part v >>= exists_in (λ n. eval classes same b (bound scope n))
   eval classes same (First a part b) scope = eval classes same a scope >>= λ v. elements_of part v >>= first_in (λ n. eval classes same b (bound scope n))
   eval classes same (Sum a part b) scope = eval classes same a scope >>= λ v. elements_of part v >>= sum_in (λ n. eval classes same b (bound scope n)) (pos 0)
+  eval classes same (Listed a part) scope = eval classes same a scope >>= λ v. elements_of part v >>= λ ns. made (with_more same [] ns)
+  eval classes same (Only a) scope = eval classes same a scope >>= λ v. Gives (Nodes (only (ref_of v)))
+  eval classes same (Union a b) scope = eval classes same a scope >>= λ v. eval classes same b scope >>= λ w. made (with_more same (nodes_of v) (nodes_of w))
+  eval classes same (Contains a b) scope = eval classes same a scope >>= λ v. eval classes same b scope
+      >>= λ w. Gives (Truth (contains same (nodes_of v) (ref_of w)))
+  eval classes same (Over fold a b) scope = eval classes same a scope >>= λ v. fold_in same fold (λ n. eval classes same b (bound scope n)) (nodes_of v)
+  eval classes same (Children a) scope = eval classes same a scope >>= children_of classes same
+  eval classes same (Parent a) scope = eval classes same a scope >>= up_of
+  eval classes same (Passed a) scope = eval classes same a scope >>= passed
+  eval classes same (SeekAny a part key e b) scope = eval classes same a scope >>= λ v. eval classes same e scope >>= λ w. drawer_of part key v w
+      >>= exists_in (λ n. eval classes same b (bound scope n))
+  eval classes same (SeekFirst a part key e b) scope = eval classes same a scope >>= λ v. eval classes same e scope >>= λ w. drawer_of part key v w
+      >>= first_in (λ n. eval classes same b (bound scope n))
 
   -- the values of the arguments, from left to right
   pub eval_all : {N : Type 0} → Classes → (N → N → Bool) → Exprs → Scope N → Run N (List (Value N))

@@ -1,15 +1,26 @@
 -- The instances among which stands all that a question leads to.
-use Rattle.std.specs.Prelude.{ℕ, zero, suc, List, [], ◌∷◌, ◌++◌, map, length, Some, None, ⊤}
+use Rattle.std.specs.Prelude.{ℕ, zero, suc, ℤ, pos, negsuc, Bool, true, false, cond, ◌||◌, List, [], ◌∷◌, ◌++◌, map, length, Some, None, ⊤}
 use Rattle.std.specs.List.{AllByRecursion, flat_map}
 use Rattle.at_model.specs.Trees.{Tree, Node as Branch, Cells, no_cells, cell, Cell, One, Many, Empty, Filled, Holds, Trees, no_trees, tree, Token}
 use Rattle.at_model.specs.Trees as held
 use Rattle.at_model.specs.Paths.{Node}
-use Rattle.at_model.specs.Run.{Value, Instance, Text, Ref}
-use Rattle.at_model.specs.Rules.{Rules, OwnEquation, InheritedEquation}
+use Rattle.at_model.specs.Run.{Value, Instance, Int, Truth, Text, Ref}
+use Rattle.at_model.specs.Rules.{Rules, Kind, Attribute, OwnEquation, InheritedEquation}
+use Rattle.at_model.specs.Rules as kind
 use Rattle.at_model.specs.Meaning.{Among}
-use Rattle.at_model.specs.Bodies.{Expr, Exprs, no_exprs, expr, TextLiteral, Negate, Not, Arithmetic, Compare, Join, JoinInt, Same, Differ, And, Or, Choose, Equals, InstanceOf, CastTo, Child, Element, Count, Has, TokenOf, Call, Exists, First, Sum}
+use Rattle.at_model.specs.Bodies.{Expr, Exprs, no_exprs, expr, TextLiteral, Negate, Not, Arithmetic, Compare, Join, JoinInt, Same, Differ, And, Or, Choose, Equals, InstanceOf, CastTo, Child, Element, Count, Has, TokenOf, Call, Exists, First, Sum, SeekAny, SeekFirst, Listed, Only, Union, Contains, Over, Children, Parent, Passed, max_passed}
 
--- the String literals of an expression
+-- the numbers below
+abbrev pub below : ℕ → List ℕ
+below zero = []
+below (suc n) = below n ++ n ∷ []
+
+-- all texts of so many bytes at most
+abbrev pub texts_within : ℕ → List (List ℕ)
+texts_within zero = [] ∷ []
+texts_within (suc n) = [] ∷ flat_map (λ b. map (λ bs. b ∷ bs) (texts_within n)) (below 256)
+
+-- the String literals of an expression; one that passes a computed text says all that are short
 abbrev mutual
   pub literals : Expr → List (List ℕ)
   literals (TextLiteral bytes) = bytes ∷ []
@@ -36,6 +47,16 @@ abbrev mutual
   literals (Exists a part e) = literals a ++ literals e
   literals (First a part e) = literals a ++ literals e
   literals (Sum a part e) = literals a ++ literals e
+  literals (Listed a part) = literals a
+  literals (Only a) = literals a
+  literals (Union a b) = literals a ++ literals b
+  literals (Contains a b) = literals a ++ literals b
+  literals (Over fold a e) = literals a ++ literals e
+  literals (Children a) = literals a
+  literals (Parent a) = literals a
+  literals (Passed a) = texts_within max_passed ++ literals a
+  literals (SeekAny a part key t e) = literals a ++ literals t ++ literals e
+  literals (SeekFirst a part key t e) = literals a ++ literals t ++ literals e
   literals e = []
 
   pub all_literals : Exprs → List (List ℕ)
@@ -102,19 +123,48 @@ literals_of rules =
 abbrev pub texts : Rules → Tree → List (Value Node) → List (List ℕ)
 texts rules t vs = flat_map text_in (tokens t) ++ (literals_of rules ++ flat_map text_of_value vs)
 
--- what may be an argument: these texts, null and the nodes of the tree
+-- it holds of one of them
+abbrev pub holds_of_one : {A : Type 0} → (A → Bool) → List A → Bool
+holds_of_one f [] = false
+holds_of_one f (a ∷ as') = f a || holds_of_one f as'
+
+-- an attribute has such a parameter
+abbrev pub is_passed : Rules → (Kind → Bool) → Bool
+is_passed rules of = holds_of_one (λ (a : Attribute). holds_of_one of a.parameters) rules.attributes
+
+-- it is the kind of ints
+abbrev pub is_int : Kind → Bool
+is_int kind.Int = true
+is_int k = false
+
+-- it is the kind of booleans
+abbrev pub is_truth : Kind → Bool
+is_truth kind.Truth = true
+is_truth k = false
+
+-- the ints from minus so many on, and as many from 0 on
+abbrev pub ints_within : ℕ → List ℤ
+ints_within zero = []
+ints_within (suc n) = pos n ∷ negsuc n ∷ ints_within n
+
+-- so many ints to both sides, and booleans, where they are passed
+abbrev pub others_within : ℕ → Rules → List (Value Node)
+others_within m rules =
+    cond (is_passed rules is_int) (map (λ n. Int n) (ints_within m)) []
+    ++ cond (is_passed rules is_truth) (Truth true ∷ Truth false ∷ []) []
+
+-- all ints of 32 bits, and booleans
+abbrev pub others : Rules → List (Value Node)
+others rules = others_within 2147483648 rules
+
+-- what may be an argument: these texts, null and the nodes of the tree, and where they are passed all ints of 32 bits, and booleans
 abbrev pub argument_values : Rules → Tree → List (Value Node) → List (Value Node)
 argument_values rules t vs =
-    map (λ bytes. Text bytes) (texts rules t vs) ++ (Ref None ∷ map (λ n. Ref (Some n)) (all_nodes t))
+    map (λ bytes. Text bytes) (texts rules t vs) ++ ((Ref None ∷ map (λ n. Ref (Some n)) (all_nodes t)) ++ others rules)
 
 -- no argument, one, or two of them
 abbrev pub argument_lists : List (Value Node) → List (List (Value Node))
 argument_lists vs = [] ∷ (map (λ v. v ∷ []) vs ++ flat_map (λ v. map (λ w. v ∷ w ∷ []) vs) vs)
-
--- the numbers below
-abbrev pub below : ℕ → List ℕ
-below zero = []
-below (suc n) = below n ++ n ∷ []
 
 -- The instances of each node of the tree and each attribute with no, one or two of these arguments. Some stand in it more
 -- than once, and some are not well formed: what counts is that none is missing.

@@ -5,8 +5,9 @@ use Rattle.std.specs.List.{AllByRecursion}
 use Rattle.at_model.specs.Classes.{Classes, TokenKind, Shape, Many, Token, parts, class_in, is_sub}
 use Rattle.at_model.specs.Classes as class
 use Rattle.at_model.specs.Terms.{IsInt32}
-use Rattle.at_model.specs.Bodies.{Expr, Exprs, no_exprs, expr, IntLiteral, TruthLiteral, TextLiteral, NullLiteral, This, Name, IndexName, Negate, Not, Operator, Arithmetic, Order, Compare, Join, JoinInt, Same, Differ, And, Or, Choose, Equals, InstanceOf, CastTo, Child, Element, Count, Has, TokenOf, Call, Exists, First, Sum}
-use Rattle.at_model.specs.Rules.{Rules, Kind, Int, Truth, Text, Class, Attribute, OwnEquation, InheritedEquation}
+use Rattle.at_model.specs.Drawers.{Key}
+use Rattle.at_model.specs.Bodies.{Expr, Exprs, no_exprs, expr, IntLiteral, TruthLiteral, TextLiteral, NullLiteral, This, Name, IndexName, Negate, Not, Operator, Arithmetic, Order, Compare, Join, JoinInt, Same, Differ, And, Or, Choose, Equals, InstanceOf, CastTo, Child, Element, Count, Has, TokenOf, Call, Exists, First, Sum, SeekAny, SeekFirst, AnyOf, FirstOf, SumOf, Gather, Close, Listed, Only, Union, Contains, Over, Children, Parent, Passed}
+use Rattle.at_model.specs.Rules.{Rules, Kind, Int, Truth, Text, Class, Nodes, Attribute, OwnEquation, InheritedEquation}
 
 -- components ----------------------------------------------------------------------------------------------------------
 
@@ -49,12 +50,19 @@ pub data AreComparable : Kind → Kind → Type 0 where
   truths : AreComparable Truth Truth
   nodes : (c d : ℕ) → AreComparable (Class c) (Class d)
 
--- A text that is an argument is given: a literal, a parameter's (no other name stands for a text) or a token's. None is
--- computed, so that a tree and a question have finitely many instances.
+-- the class is above each class, and above that of each component
+abbrev pub IsTop : Classes → ℕ → Type 0
+IsTop classes d =
+    ((c : ℕ) → c < length classes → is_sub classes c d ≡ true)
+    × ((c part b : ℕ) → class_of_part classes c part ≡ Some b → is_sub classes b d ≡ true)
+
+-- A text that is an argument is given: a literal, a parameter's (no other name stands for a text) or a token's; or it is computed, and
+-- then short. So a tree and a question have finitely many instances.
 abbrev pub IsArgumentForm : Kind → Expr → Type 0
 IsArgumentForm Text (TextLiteral bytes) = ⊤
 IsArgumentForm Text (Name i) = ⊤
 IsArgumentForm Text (TokenOf e part) = ⊤
+IsArgumentForm Text (Passed e) = ⊤
 IsArgumentForm Text e = ⊥
 IsArgumentForm k e = ⊤
 
@@ -64,6 +72,8 @@ mutual
   pub data HasKind (rules : Rules) : ScopeKinds → Expr → Kind → Type 0 where
     widened : {s : ScopeKinds} {e : Expr} (c d : ℕ) → is_sub rules.classes c d ≡ true →
         HasKind rules s e (Class c) → HasKind rules s e (Class d)
+    widened_all : {s : ScopeKinds} {e : Expr} (c d : ℕ) → is_sub rules.classes c d ≡ true →
+        HasKind rules s e (Nodes c) → HasKind rules s e (Nodes d)
     int_literal : {s : ScopeKinds} (n : ℤ) → IsInt32 n → HasKind rules s (IntLiteral n) Int
     truth_literal : {s : ScopeKinds} (b : Bool) → HasKind rules s (TruthLiteral b) Truth
     text_literal : {s : ScopeKinds} (bytes : List ℕ) → HasKind rules s (TextLiteral bytes) Text
@@ -113,6 +123,32 @@ mutual
         HasKind rules s a (Class c) → HasKind rules (bound_kinds s b) e Truth → HasKind rules s (First a part e) (Class b)
     sum : {s : ScopeKinds} {a e : Expr} (c part b : ℕ) → shape_of_part rules.classes c part ≡ Some (Many b) →
         HasKind rules s a (Class c) → HasKind rules (bound_kinds s b) e Int → HasKind rules s (Sum a part e) Int
+    listed : {s : ScopeKinds} {a : Expr} (c part b : ℕ) → shape_of_part rules.classes c part ≡ Some (Many b) →
+        HasKind rules s a (Class c) → HasKind rules s (Listed a part) (Nodes b)
+    only : {s : ScopeKinds} {a : Expr} (c : ℕ) → HasKind rules s a (Class c) → HasKind rules s (Only a) (Nodes c)
+    union : {s : ScopeKinds} {a b : Expr} (c : ℕ) →
+        HasKind rules s a (Nodes c) → HasKind rules s b (Nodes c) → HasKind rules s (Union a b) (Nodes c)
+    contains : {s : ScopeKinds} {a b : Expr} (c d : ℕ) →
+        HasKind rules s a (Nodes c) → HasKind rules s b (Class d) → HasKind rules s (Contains a b) Truth
+    any_of : {s : ScopeKinds} {a e : Expr} (b : ℕ) →
+        HasKind rules s a (Nodes b) → HasKind rules (bound_kinds s b) e Truth → HasKind rules s (Over AnyOf a e) Truth
+    first_of : {s : ScopeKinds} {a e : Expr} (b : ℕ) →
+        HasKind rules s a (Nodes b) → HasKind rules (bound_kinds s b) e Truth → HasKind rules s (Over FirstOf a e) (Class b)
+    sum_of : {s : ScopeKinds} {a e : Expr} (b : ℕ) →
+        HasKind rules s a (Nodes b) → HasKind rules (bound_kinds s b) e Int → HasKind rules s (Over SumOf a e) Int
+    gather : {s : ScopeKinds} {a e : Expr} (b d : ℕ) →
+        HasKind rules s a (Nodes b) → HasKind rules (bound_kinds s b) e (Nodes d) → HasKind rules s (Over Gather a e) (Nodes d)
+    close : {s : ScopeKinds} {a e : Expr} (b : ℕ) →
+        HasKind rules s a (Nodes b) → HasKind rules (bound_kinds s b) e (Nodes b) → HasKind rules s (Over Close a e) (Nodes b)
+    children : {s : ScopeKinds} {a : Expr} (c d : ℕ) → IsTop rules.classes d →
+        HasKind rules s a (Class c) → HasKind rules s (Children a) (Nodes d)
+    parent : {s : ScopeKinds} {a : Expr} (c d : ℕ) → IsTop rules.classes d →
+        HasKind rules s a (Class c) → HasKind rules s (Parent a) (Class d)
+    passed : {s : ScopeKinds} {a : Expr} (k : Kind) → HasKind rules s a k → HasKind rules s (Passed a) k
+    seek_any : {s : ScopeKinds} {a t e : Expr} (c part b : ℕ) (key : Key) → shape_of_part rules.classes c part ≡ Some (Many b) →
+        HasKind rules s a (Class c) → HasKind rules s t Text → HasKind rules (bound_kinds s b) e Truth → HasKind rules s (SeekAny a part key t e) Truth
+    seek_first : {s : ScopeKinds} {a t e : Expr} (c part b : ℕ) (key : Key) → shape_of_part rules.classes c part ≡ Some (Many b) →
+        HasKind rules s a (Class c) → HasKind rules s t Text → HasKind rules (bound_kinds s b) e Truth → HasKind rules s (SeekFirst a part key t e) (Class b)
 
   -- the arguments have these kinds, each in its place
   pub data HaveKinds (rules : Rules) : ScopeKinds → Exprs → List Kind → Type 0 where
@@ -122,15 +158,18 @@ mutual
 
 -- rules ---------------------------------------------------------------------------------------------------------------
 
--- a parameter is a text or a node of a class that is there
+-- a parameter is an int, a boolean, a text, or a node of a class that is there
 abbrev pub IsParameter : Classes → Kind → Type 0
 IsParameter classes Text = ⊤
 IsParameter classes (Class c) = c < length classes
+IsParameter classes Int = ⊤
+IsParameter classes Truth = ⊤
 IsParameter classes k = ⊥
 
 -- a class that it names is there
 abbrev pub IsKindThere : Classes → Kind → Type 0
 IsKindThere classes (Class c) = c < length classes
+IsKindThere classes (Nodes c) = c < length classes
 IsKindThere classes k = ⊤
 
 -- its class and its kinds are there, it has at most two parameters, and where it is circular it is boolean

@@ -3,6 +3,7 @@ pub mod Texts
 pub mod Classes
 pub mod Declarations
 pub mod Trees
+pub mod Drawers
 pub mod Terms
 pub mod Paths
 pub mod Run
@@ -11,6 +12,7 @@ pub mod Bodies
 pub mod Rules
 pub mod Meaning
 pub mod Support
+pub mod Seeking
 pub mod Nested
 pub mod Turning
 pub mod Alike
@@ -40,3 +42,4 @@ pub mod Playing
 pub mod SampleSessions
 pub mod SampleGrammars
 pub mod Working
+pub mod Lists

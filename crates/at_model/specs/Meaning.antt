@@ -1,10 +1,11 @@
 -- What equations mean: the outcome of each instance, and circles (Knuth 1968, "Semantics of context-free languages";
 -- Hedin 2000, "Reference attributed grammars").
-use Rattle.std.specs.Prelude.{◌≡◌, ◌⊎◌, ℕ, zero, suc, false, List, [], ◌∷◌, ◌++◌, Option, Some, None, option_map}
+use Rattle.std.specs.Prelude.{◌≡◌, ◌⊎◌, ℕ, zero, suc, Bool, false, cond, List, [], ◌∷◌, ◌++◌, Option, Some, None, option_map}
 use Rattle.at_model.specs.Trees.{Tree, Token, Cell, Trees, Holds as holds, class_of}
 use Rattle.at_model.specs.Trees as tree
+use Rattle.at_model.specs.Drawers.{Key, stands_under}
 use Rattle.at_model.specs.Paths.{Node, node_eq, parent_of, tree_at, cell_at, children_at}
-use Rattle.at_model.specs.Run.{Value, Instance, Is, Tok, Slot, Up, Idx, Contents, FaultKind, Run, Gives, Fails, Looks, Demands, Known, Tried, Valued, Faulted, Needs, tried}
+use Rattle.at_model.specs.Run.{Value, Instance, Is, Tok, Slot, Up, Idx, Drawer, Contents, FaultKind, Run, Gives, Fails, Looks, Demands, Known, Tried, Valued, Faulted, Needs, tried}
 use Rattle.at_model.specs.Bodies.{eval}
 use Rattle.at_model.specs.Rules.{Rules, Source, evaluation}
 
@@ -100,6 +101,15 @@ abbrev pub token_in : Option Cell → Token
 token_in (Some (holds v)) = v
 token_in _ = tree.Truth false
 
+-- a tree stands under the mark, by that key
+abbrev pub is_marked : Key → ℕ → Tree → Bool
+is_marked key m u = stands_under key m (class_of u) (token_in (cell_at u key.token))
+
+-- the nodes of those of these trees for which the test is true, which stand in a part of the node from this position on
+abbrev pub chosen_nodes : {A : Type 0} → (A → Bool) → Node → ℕ → ℕ → List A → List Node
+chosen_nodes f n part i [] = []
+chosen_nodes f n part i (t ∷ ts) = cond (f t) ((n ++ (part, i) ∷ []) ∷ chosen_nodes f n part (suc i) ts) (chosen_nodes f n part (suc i) ts)
+
 -- what stands at a location of a tree; a node that is not there has class 0 and nothing in it
 abbrev pub content : Tree → Contents Node
 content t (Is n) = elim (tree_at t n) [ None ↦ 0 | Some u ↦ class_of u ]
@@ -107,6 +117,7 @@ content t (Tok n part) = elim (tree_at t n) [ None ↦ tree.Truth false | Some u
 content t (Slot n part) = elim (tree_at t n) [ None ↦ [] | Some u ↦ child_nodes n part 0 (children_at u part) ]
 content t (Up n) = option_map (λ p. (p.0, p.1.0)) (parent_of n)
 content t (Idx n) = elim (parent_of n) [ None ↦ 0 | Some p ↦ p.1.1 ]
+content t (Drawer n part key m) = elim (tree_at t n) [ None ↦ [] | Some u ↦ chosen_nodes (is_marked key m) n part 0 (children_at u part) ]
 
 -- how the instances of a tree are evaluated
 abbrev pub equations : Rules → Equations Node

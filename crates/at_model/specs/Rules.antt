@@ -7,14 +7,15 @@ use Rattle.at_model.specs.Trees.{Tree, class_of}
 use Rattle.at_model.specs.Terms.{max_depth}
 use Rattle.at_model.specs.Paths.{Node, tree_at}
 use Rattle.at_model.specs.Run.{Value, Instance, Is, Up, Null, Run, Fails, Looks}
-use Rattle.at_model.specs.Bodies.{Expr, Scope, ref_of, eval}
+use Rattle.at_model.specs.Bodies.{Expr, Scope, mentioned, eval}
 
--- the kinds of values: a class kind has null and every class below
+-- the kinds of values: a class kind has null and every class below, and so have nodes of a class, without null
 pub data Kind : Type 0 where
   Int : Kind
   Truth : Kind
   Text : Kind
   Class : (class : ℕ) → Kind
+  Nodes : (class : ℕ) → Kind
 
 -- A declaration: syn or inh, with or without lazy, then the result, the class and the name, and the parameters; and the value
 -- from which it starts, where it is circular. One name may be declared for several classes, none of which is above another one.
@@ -114,10 +115,15 @@ is_lazy rules attribute = elim (slice_get rules.attributes attribute) [ None ↦
 abbrev pub start_of : Rules → ℕ → Option Bool
 start_of rules attribute = elim (slice_get rules.attributes attribute) [ None ↦ None | Some a ↦ a.start ]
 
--- the classes of the nodes among the arguments are looked at, and then it goes on
+-- the classes of these nodes are looked at, and then it goes on
+abbrev pub past_nodes : {N A : Type 0} → List N → Run N A → Run N A
+past_nodes [] r = r
+past_nodes (n ∷ ns) r = Looks (Is n) (λ c. past_nodes ns r)
+
+-- and those of the nodes among the arguments
 abbrev pub past_arguments : {N A : Type 0} → List (Value N) → Run N A → Run N A
 past_arguments [] r = r
-past_arguments (v ∷ vs) r = elim (ref_of v) [ None ↦ past_arguments vs r | Some n ↦ Looks (Is n) (λ c. past_arguments vs r) ]
+past_arguments (v ∷ vs) r = past_nodes (mentioned v) (past_arguments vs r)
 
 -- by the equation where there is one, else that evaluation
 abbrev pub by_equation : {N : Type 0} → Rules → (N → N → Bool) → Scope N → Run N (Value N) → Option Expr → Run N (Value N)

@@ -1,13 +1,16 @@
 -- Evaluations: what one asks of a tree and of other instances, in order. The nodes may be named in any way, by paths or by numbers.
 use Rattle.std.specs.Prelude.{◌≡◌, ℕ, ℤ, Bool, true, false, List, [], ◌∷◌, Option, Some, None}
 use Rattle.at_model.specs.Trees.{Token}
+use Rattle.at_model.specs.Drawers.{Key}
 
--- the value of an attribute: also a reference to a node, or null (Hedin 2000, "Reference attributed grammars")
+-- the value of an attribute: also a reference to a node, or null (Hedin 2000, "Reference attributed grammars"), or nodes, each once,
+-- in the order in which they came up
 pub data Value (N : Type 0) : Type 0 where
   Int : ℤ → Value N
   Truth : Bool → Value N
   Text : List ℕ → Value N
   Ref : Option N → Value N
+  Nodes : List N → Value N
 
 -- the question for an attribute of a node, with arguments: texts, nodes and null
 pub record Instance (N : Type 0) : Type 0 where
@@ -16,21 +19,23 @@ pub record Instance (N : Type 0) : Type 0 where
   pub arguments : List (Value N)
 
 -- what an evaluation can look at of a node: that it is there and of which class, a token, the children in a component, its
--- parent, its index in a list
+-- parent, its index in a list; and the children in a component that stand under a mark, a drawer
 pub data Location (N : Type 0) : Type 0 where
   Is : N → Location N
   Tok : N → (part : ℕ) → Location N
   Slot : N → (part : ℕ) → Location N
   Up : N → Location N
   Idx : N → Location N
+  Drawer : N → (part : ℕ) → Key → (mark : ℕ) → Location N
 
--- what stands there: the class, the token, the children, the parent with the component of it, the index
+-- what stands there: the class, the token, the children, the parent with the component of it, the index; in a drawer children, too
 abbrev pub Content : {N : Type 0} → Location N → Type 0
 Content (Is n) = ℕ
 Content (Tok n part) = Token
 Content {N} (Slot n part) = List N
 Content {N} (Up n) = Option (N × ℕ)
 Content (Idx n) = ℕ
+Content {N} (Drawer n part key m) = List N
 
 -- a tree, as what stands at each location
 abbrev pub Contents : Type 0 → Type 0

@@ -1,11 +1,11 @@
 -- What an instance rests on: the locations that its evaluation and all that it leads to look at.
-use Rattle.std.specs.Prelude.{◌≡◌, ◌⊎◌, IsSome, IfSome, ℕ, List, [], ◌∷◌, ◌++◌, Option, Some, None}
+use Rattle.std.specs.Prelude.{◌≡◌, ◌⊎◌, IsSome, IfSome, ℕ, List, [], ◌∷◌, ◌++◌, map, Option, Some, None, ⊤}
 use Rattle.std.specs.List.{flat_map, AllByRecursion}
 use Rattle.at_model.specs.Trees.{Tree}
 use Rattle.at_model.specs.Paths.{Node, tree_at}
-use Rattle.at_model.specs.Bodies.{ref_of}
+use Rattle.at_model.specs.Bodies.{mentioned}
 use Rattle.at_model.specs.Rules.{Rules, prefixes, source_at}
-use Rattle.at_model.specs.Run.{Value, Instance, Location, Is, Up, Contents, Run, Gives, Fails, Looks, Demands}
+use Rattle.at_model.specs.Run.{Value, Ref, Nodes, Instance, Location, Is, Up, Contents, Run, Gives, Fails, Looks, Demands}
 use Rattle.at_model.specs.Meaning.{Equations, HasValue, Leads}
 
 -- an evaluation looks at the location, and each demand before it has a value
@@ -22,7 +22,7 @@ Supports {N} look equation l i = (j : Instance N) × Leads look equation i j × 
 -- the classes of the nodes among the arguments
 abbrev pub argument_classes : {N : Type 0} → List (Value N) → List (Location N)
 argument_classes [] = []
-argument_classes (v ∷ vs) = elim (ref_of v) [ None ↦ argument_classes vs | Some n ↦ Is n ∷ argument_classes vs ]
+argument_classes (v ∷ vs) = map (λ n. Is n) (mentioned v) ++ argument_classes vs
 
 -- the elements up to the first one with an answer
 abbrev pub up_to_first : {A B : Type 0} → (A → Option B) → List A → List A
@@ -43,7 +43,9 @@ IsThere t n = IsSome (tree_at t n)
 
 -- the value is no reference to a node elsewhere
 abbrev pub IsValueThere : Tree → Value Node → Type 0
-IsValueThere t v = IfSome (ref_of v) (IsThere t)
+IsValueThere t (Ref n) = IfSome n (IsThere t)
+IsValueThere t (Nodes ns) = AllByRecursion (IsThere t) ns
+IsValueThere t v = ⊤
 
 -- the instance is one of a node of the tree, and so are the nodes among its arguments
 pub record IsInstanceThere (t : Tree) (i : Instance Node) : Type 0 where

@@ -1,8 +1,8 @@
 -- What each form of expression takes of its parts.
 use Rattle.std.specs.Prelude.{◌≡◌, ℕ, true, Some, option_and_then, slice_get, ⊤}
 use Rattle.at_model.specs.Classes.{TokenKind, Many, Maybe, Token, is_sub}
-use Rattle.at_model.specs.Bodies.{Expr, Negate, Not, Arithmetic, Compare, Join, JoinInt, Same, Differ, And, Or, Choose, Equals, InstanceOf, CastTo, Child, Element, Count, Has, TokenOf, Call, Exists, First, Sum}
-use Rattle.at_model.specs.Rules.{Rules, Kind, Int, Truth, Text, Class, Attribute}
+use Rattle.at_model.specs.Bodies.{Expr, Negate, Not, Arithmetic, Compare, Join, JoinInt, Same, Differ, And, Or, Choose, Equals, InstanceOf, CastTo, Child, Element, Count, Has, TokenOf, Call, Exists, First, Sum, SeekAny, SeekFirst, Fold, AnyOf, FirstOf, SumOf, Gather, Close, Listed, Only, Union, Contains, Over, Children, Parent, Passed}
+use Rattle.at_model.specs.Rules.{Rules, Kind, Int, Truth, Text, Class, Nodes, Attribute}
 use Rattle.at_model.specs.Kinds.{ScopeKinds, HasKind, HaveKinds, AreComparable, bound_kinds, shape_of_part, single_class}
 
 -- a node or null
@@ -13,6 +13,22 @@ HasNode rules s a = (c : ℕ) × HasKind rules s a (Class c)
 abbrev pub HasFold : Rules → ScopeKinds → Expr → (part : ℕ) → Expr → Kind → Type 0
 HasFold rules s a part e k =
     (c : ℕ) × (b : ℕ) × HasKind rules s a (Class c) × (shape_of_part rules.classes c part ≡ Some (Many b)) × HasKind rules (bound_kinds s b) e k
+
+-- nodes, and in the braces a value of the kind for each
+abbrev pub HasFoldOver : Rules → ScopeKinds → Expr → Expr → Kind → Type 0
+HasFoldOver rules s a e k = (b : ℕ) × HasKind rules s a (Nodes b) × HasKind rules (bound_kinds s b) e k
+
+-- what a fold takes of nodes, and in its braces
+abbrev pub TakesOver : Rules → ScopeKinds → Fold → Expr → Expr → Type 0
+TakesOver rules s AnyOf a e = HasFoldOver rules s a e Truth
+TakesOver rules s FirstOf a e = HasFoldOver rules s a e Truth
+TakesOver rules s SumOf a e = HasFoldOver rules s a e Int
+TakesOver rules s Gather a e = (d : ℕ) × HasFoldOver rules s a e (Nodes d)
+TakesOver rules s Close a e = (b : ℕ) × HasKind rules s a (Nodes b) × HasKind rules (bound_kinds s b) e (Nodes b)
+
+-- nodes of a class in each of the two
+abbrev pub HaveNodes : Rules → ScopeKinds → Expr → Expr → Type 0
+HaveNodes rules s a b = (c : ℕ) × HasKind rules s a (Nodes c) × HasKind rules s b (Nodes c)
 
 -- two values between which `==` may stand
 abbrev pub AreCompared : Rules → ScopeKinds → Expr → Expr → Type 0
@@ -49,4 +65,14 @@ Takes rules s (Call a attribute es) =
 Takes rules s (Exists a part e) = HasFold rules s a part e Truth
 Takes rules s (First a part e) = HasFold rules s a part e Truth
 Takes rules s (Sum a part e) = HasFold rules s a part e Int
+Takes rules s (Listed a part) = (c : ℕ) × (b : ℕ) × HasKind rules s a (Class c) × (shape_of_part rules.classes c part ≡ Some (Many b))
+Takes rules s (Only a) = HasNode rules s a
+Takes rules s (Union a b) = HaveNodes rules s a b
+Takes rules s (Contains a b) = (c : ℕ) × HasKind rules s a (Nodes c) × HasNode rules s b
+Takes rules s (Over fold a e) = TakesOver rules s fold a e
+Takes rules s (Children a) = HasNode rules s a
+Takes rules s (Parent a) = HasNode rules s a
+Takes rules s (Passed a) = (k : Kind) × HasKind rules s a k
+Takes rules s (SeekAny a part key t e) = HasFold rules s a part e Truth × HasKind rules s t Text
+Takes rules s (SeekFirst a part key t e) = HasFold rules s a part e Truth × HasKind rules s t Text
 Takes rules s e = ⊤

@@ -1,14 +1,15 @@
 -- Evaluations that keep to the kinds. The nodes may be named in any way: what is known is which are there, and their classes.
-use Rattle.std.specs.Prelude.{◌≡◌, ℕ, ◌<◌, true, List, [], ◌∷◌, length, Option, Some, IsSome, IfSome, option_and_then, option_map, slice_get, ⊤}
+use Rattle.std.specs.Prelude.{◌≡◌, ℕ, ◌<◌, ◌≤◌, true, List, [], ◌∷◌, length, Option, Some, IsSome, IfSome, option_and_then, option_map, slice_get, ⊤}
 use Rattle.std.specs.List.{AllByRecursion}
 use Rattle.at_model.specs.Classes.{Classes, TokenKind, Token, is_sub}
 use Rattle.at_model.specs.Trees.{Tree, class_of}
+use Rattle.at_model.specs.Drawers.{Key}
 use Rattle.at_model.specs.Terms.{IsInt32}
 use Rattle.at_model.specs.Paths.{Node, tree_at}
-use Rattle.at_model.specs.Run.{Value, Instance, Location, Is, Tok, Slot, Up, Idx, Contents, Run, Gives, Fails, Looks, Demands}
+use Rattle.at_model.specs.Run.{Value, Instance, Location, Is, Tok, Slot, Up, Idx, Drawer, Contents, Run, Gives, Fails, Looks, Demands}
 use Rattle.at_model.specs.Run as run
-use Rattle.at_model.specs.Bodies.{Scope, value_of}
-use Rattle.at_model.specs.Rules.{Rules, Kind, Int, Truth, Text, Class, Attribute}
+use Rattle.at_model.specs.Bodies.{Scope, value_of, max_list}
+use Rattle.at_model.specs.Rules.{Rules, Kind, Int, Truth, Text, Class, Nodes, Attribute}
 use Rattle.at_model.specs.Kinds.{ScopeKinds, shape_of_part, class_of_part, kind_of_token}
 
 -- the class of each node that is there
@@ -29,12 +30,14 @@ class_numbered path at n = option_and_then at (path n)
 abbrev pub IsNodeOf : {N : Type 0} → Classes → ClassAt N → N → ℕ → Type 0
 IsNodeOf classes at n b = (c : ℕ) × (at n ≡ Some c) × (is_sub classes c b ≡ true)
 
--- the value is of the kind: an int of 32 bits, a boolean, a text, a node of the class or below, or null
+-- the value is of the kind: an int of 32 bits, a boolean, a text, a node of the class or below, or null,
+-- or at most so many nodes of the class or below
 abbrev pub IsOfKind : {N : Type 0} → Classes → ClassAt N → Value N → Kind → Type 0
 IsOfKind classes at (run.Int n) Int = IsInt32 n
 IsOfKind classes at (run.Truth b) Truth = ⊤
 IsOfKind classes at (run.Text bytes) Text = ⊤
 IsOfKind classes at (run.Ref n) (Class b) = IfSome n (λ m. IsNodeOf classes at m b)
+IsOfKind classes at (run.Nodes ns) (Nodes b) = AllByRecursion (λ m. IsNodeOf classes at m b) ns × (length ns ≤ max_list)
 IsOfKind classes at v k = ⊥
 
 -- which texts may be arguments
@@ -77,6 +80,7 @@ IsLocationThere classes at (Tok n part) = (kind : TokenKind) × (option_and_then
 IsLocationThere classes at (Slot n part) = (b : ℕ) × (option_and_then (λ c. class_of_part classes c part) (at n) ≡ Some b)
 IsLocationThere classes at (Up n) = IsSome (at n)
 IsLocationThere classes at (Idx n) = IsSome (at n)
+IsLocationThere classes at (Drawer n part key m) = (b : ℕ) × (option_and_then (λ c. class_of_part classes c part) (at n) ≡ Some b)
 
 -- The evaluation is typed: what it gives is as is said, what it looks at is there, what it demands is well typed, and with
 -- whichever value of the attribute's kind comes back, it goes on typed.
@@ -109,5 +113,8 @@ pub record AreContentsTyped {N : Type 0} (classes : Classes) (at : ClassAt N) (A
   pub said : (n : N) (part : ℕ) → IsAllowed {N = N} Allowed (value_of (look (Tok n part)))
   pub children : (n : N) (c part b : ℕ) → at n ≡ Some c → class_of_part classes c part ≡ Some b →
       AllByRecursion (λ m. IsNodeOf classes at m b) (look (Slot n part))
+  pub parent : (n : N) → IsSome (at n) → IfSome (look (Up n)) (λ p. (c : ℕ) × (at p.0 ≡ Some c) × (c < length classes))
+  pub chosen : (n : N) (c part b : ℕ) (key : Key) (m : ℕ) → at n ≡ Some c → class_of_part classes c part ≡ Some b →
+      AllByRecursion (λ k. IsNodeOf classes at k b) (look (Drawer n part key m))
   pub few : (n : N) (part : ℕ) → length (look (Slot n part)) < 2147483648
   pub early : (n : N) → IsSome (at n) → look (Idx n) < 2147483648

@@ -2,7 +2,8 @@
 use Rattle.std.specs.Prelude.{◌≡◌, ℕ, ℤ, pos, Bool, true, false, List, [], ◌∷◌, nat_eq, if◌then◌else◌, refl}
 use Rattle.std.specs.Coded.{Coded, code_by, coded×, coded_list, coded_ℕ, coded_ℤ}
 use Rattle.std.proofs.Common.{ap, ◌∙◌}
-use Rattle.at_model.specs.Bodies.{Expr, Exprs, Operator, Order, Multiply, Divide, Remainder, Add, Subtract, Below, AtMost, Above, AtLeast, IntLiteral, TruthLiteral, TextLiteral, NullLiteral, This, Name, IndexName, Negate, Not, Arithmetic, Compare, Join, JoinInt, Same, Differ, And, Or, Choose, Equals, InstanceOf, CastTo, Child, Element, Count, Has, TokenOf, Call, Exists, First, Sum, no_exprs, expr}
+use Rattle.at_model.specs.Drawers.{Key}
+use Rattle.at_model.specs.Bodies.{Expr, Exprs, Operator, Order, Multiply, Divide, Remainder, Add, Subtract, Below, AtMost, Above, AtLeast, IntLiteral, TruthLiteral, TextLiteral, NullLiteral, This, Name, IndexName, Negate, Not, Arithmetic, Compare, Join, JoinInt, Same, Differ, And, Or, Choose, Equals, InstanceOf, CastTo, Child, Element, Count, Has, TokenOf, Call, Exists, First, Sum, SeekAny, SeekFirst, Fold, AnyOf, FirstOf, SumOf, Gather, Close, Listed, Only, Union, Contains, Over, Children, Parent, Passed, no_exprs, expr}
 
 -- the number of a form, and what of it is no expression
 abbrev pub Mark : Type 0
@@ -34,9 +35,35 @@ order_number AtLeast = 3
 abbrev pub order_at : ℕ → Order
 order_at n = if nat_eq n 0 then Below else (if nat_eq n 1 then AtMost else (if nat_eq n 2 then Above else AtLeast))
 
+abbrev pub fold_number : Fold → ℕ
+fold_number AnyOf = 0
+fold_number FirstOf = 1
+fold_number SumOf = 2
+fold_number Gather = 3
+fold_number Close = 4
+
+abbrev pub fold_at : ℕ → Fold
+fold_at n = if nat_eq n 0 then AnyOf else (if nat_eq n 1 then FirstOf else (if nat_eq n 2 then SumOf else (if nat_eq n 3 then Gather else Close)))
+
 abbrev pub first_of : List ℕ → ℕ
 first_of [] = 0
 first_of (n ∷ ns) = n
+
+abbrev pub past_first : List ℕ → List ℕ
+past_first [] = []
+past_first (n ∷ ns) = ns
+
+-- the number of a component, and then those of a key
+abbrev pub with_key : ℕ → Key → List ℕ
+with_key n key = n ∷ key.first ∷ key.classes ∷ key.token ∷ []
+
+-- the key behind the number of a component
+abbrev pub key_in : List ℕ → Key
+key_in ns = record {
+  first = first_of (past_first ns);
+  classes = first_of (past_first (past_first ns));
+  token = first_of (past_first (past_first (past_first ns)));
+}
 
 -- the marks of an expression before those behind it
 abbrev mutual
@@ -71,6 +98,16 @@ abbrev mutual
   marks (Exists a n b) tail = (27, (n ∷ [], pos 0)) ∷ marks a (marks b tail)
   marks (First a n b) tail = (28, (n ∷ [], pos 0)) ∷ marks a (marks b tail)
   marks (Sum a n b) tail = (29, (n ∷ [], pos 0)) ∷ marks a (marks b tail)
+  marks (Listed a n) tail = (32, (n ∷ [], pos 0)) ∷ marks a tail
+  marks (Only a) tail = plain_mark 33 ∷ marks a tail
+  marks (Union a b) tail = plain_mark 34 ∷ marks a (marks b tail)
+  marks (Contains a b) tail = plain_mark 35 ∷ marks a (marks b tail)
+  marks (Over f a b) tail = (36, (fold_number f ∷ [], pos 0)) ∷ marks a (marks b tail)
+  marks (Children a) tail = plain_mark 37 ∷ marks a tail
+  marks (Parent a) tail = plain_mark 38 ∷ marks a tail
+  marks (Passed a) tail = plain_mark 39 ∷ marks a tail
+  marks (SeekAny a n key b c) tail = (40, (with_key n key, pos 0)) ∷ marks a (marks b (marks c tail))
+  marks (SeekFirst a n key b c) tail = (41, (with_key n key, pos 0)) ∷ marks a (marks b (marks c tail))
 
   pub marks_of_row : Exprs → List Mark → List Mark
   marks_of_row no_exprs tail = plain_mark 30 ∷ tail
@@ -92,6 +129,22 @@ as_exprs ps = no_exprs
 abbrev pub behind : List Part → List Part
 behind [] = []
 behind (p ∷ ps) = ps
+
+-- the forms of nodes, of arguments and of drawers
+abbrev pub read_nodes : Mark → List Part → List Part
+read_nodes m ps =
+    if nat_eq m.0 32 then of_expr (Listed (as_expr ps) (first_of m.1.0)) ∷ behind ps
+    else (if nat_eq m.0 33 then of_expr (Only (as_expr ps)) ∷ behind ps
+    else (if nat_eq m.0 34 then of_expr (Union (as_expr ps) (as_expr (behind ps))) ∷ behind (behind ps)
+    else (if nat_eq m.0 35 then of_expr (Contains (as_expr ps) (as_expr (behind ps))) ∷ behind (behind ps)
+    else (if nat_eq m.0 36 then of_expr (Over (fold_at (first_of m.1.0)) (as_expr ps) (as_expr (behind ps))) ∷ behind (behind ps)
+    else (if nat_eq m.0 37 then of_expr (Children (as_expr ps)) ∷ behind ps
+    else (if nat_eq m.0 38 then of_expr (Parent (as_expr ps)) ∷ behind ps
+    else (if nat_eq m.0 39 then of_expr (Passed (as_expr ps)) ∷ behind ps
+    else (if nat_eq m.0 40 then of_expr (SeekAny (as_expr ps) (first_of m.1.0) (key_in m.1.0)
+    (as_expr (behind ps)) (as_expr (behind (behind ps)))) ∷ behind (behind (behind ps))
+    else of_expr (SeekFirst (as_expr ps) (first_of m.1.0) (key_in m.1.0)
+    (as_expr (behind ps)) (as_expr (behind (behind ps)))) ∷ behind (behind (behind ps))))))))))
 
 abbrev pub read : Mark → List Part → List Part
 read m ps =
@@ -126,7 +179,8 @@ read m ps =
     else (if nat_eq m.0 28 then of_expr (First (as_expr ps) (first_of m.1.0) (as_expr (behind ps))) ∷ behind (behind ps)
     else (if nat_eq m.0 29 then of_expr (Sum (as_expr ps) (first_of m.1.0) (as_expr (behind ps))) ∷ behind (behind ps)
     else (if nat_eq m.0 30 then of_exprs no_exprs ∷ ps
-    else of_exprs (expr (as_expr ps) (as_exprs (behind ps))) ∷ behind (behind ps)))))))))))))))))))))))))))))))
+    else (if nat_eq m.0 31 then of_exprs (expr (as_expr ps) (as_exprs (behind ps))) ∷ behind (behind ps)
+    else read_nodes m ps)))))))))))))))))))))))))))))))
 
 abbrev pub read_all : List Mark → List Part
 read_all [] = []
@@ -148,6 +202,13 @@ same_order Below = refl
 same_order AtMost = refl
 same_order Above = refl
 same_order AtLeast = refl
+
+same_fold : (f : Fold) → fold_at (fold_number f) ≡ f
+same_fold AnyOf = refl
+same_fold FirstOf = refl
+same_fold SumOf = refl
+same_fold Gather = refl
+same_fold Close = refl
 
 mutual
   pub read_marks : (e : Expr) (tail : List Mark) → read_all (marks e tail) ≡ of_expr e ∷ read_all tail
@@ -187,6 +248,22 @@ mutual
   read_marks (Exists a n b) tail = ap (read (27, (n ∷ [], pos 0))) (read_marks a (marks b tail) ∙ ap (λ ps. of_expr a ∷ ps) (read_marks b tail))
   read_marks (First a n b) tail = ap (read (28, (n ∷ [], pos 0))) (read_marks a (marks b tail) ∙ ap (λ ps. of_expr a ∷ ps) (read_marks b tail))
   read_marks (Sum a n b) tail = ap (read (29, (n ∷ [], pos 0))) (read_marks a (marks b tail) ∙ ap (λ ps. of_expr a ∷ ps) (read_marks b tail))
+  read_marks (Listed a n) tail = ap (read (32, (n ∷ [], pos 0))) (read_marks a tail)
+  read_marks (Only a) tail = ap (read (plain_mark 33)) (read_marks a tail)
+  read_marks (Union a b) tail = ap (read (plain_mark 34)) (read_marks a (marks b tail) ∙ ap (λ ps. of_expr a ∷ ps) (read_marks b tail))
+  read_marks (Contains a b) tail = ap (read (plain_mark 35)) (read_marks a (marks b tail) ∙ ap (λ ps. of_expr a ∷ ps) (read_marks b tail))
+  read_marks (Over f a b) tail =
+      ap (read (36, (fold_number f ∷ [], pos 0))) (read_marks a (marks b tail) ∙ ap (λ ps. of_expr a ∷ ps) (read_marks b tail))
+      ∙ ap (λ x. of_expr (Over x a b) ∷ read_all tail) (same_fold f)
+  read_marks (Children a) tail = ap (read (plain_mark 37)) (read_marks a tail)
+  read_marks (Parent a) tail = ap (read (plain_mark 38)) (read_marks a tail)
+  read_marks (Passed a) tail = ap (read (plain_mark 39)) (read_marks a tail)
+  read_marks (SeekAny a n key b c) tail =
+      ap (read (40, (with_key n key, pos 0)))
+      (read_marks a (marks b (marks c tail)) ∙ ap (λ ps. of_expr a ∷ ps) (read_marks b (marks c tail) ∙ ap (λ ps. of_expr b ∷ ps) (read_marks c tail)))
+  read_marks (SeekFirst a n key b c) tail =
+      ap (read (41, (with_key n key, pos 0)))
+      (read_marks a (marks b (marks c tail)) ∙ ap (λ ps. of_expr a ∷ ps) (read_marks b (marks c tail) ∙ ap (λ ps. of_expr b ∷ ps) (read_marks c tail)))
 
   read_row : (es : Exprs) (tail : List Mark) → read_all (marks_of_row es tail) ≡ of_exprs es ∷ read_all tail
   read_row no_exprs tail = refl

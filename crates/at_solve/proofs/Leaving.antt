@@ -1,5 +1,5 @@
 -- The last group is a component.
-use Rattle.std.proofs.Common.{◌≡◌, ℕ, zero, suc, ◌+◌, ◌<◌, ◌≤◌, ◌⊎◌, inl, inr, List, [], ◌∷◌, ◌++◌, length, length-append, refl, ap, sym, ◌∙◌, subst, arith, true≢false, Bool, true, false, Option, Some, None, Global}
+use Rattle.std.proofs.Common.{◌≡◌, ℕ, zero, suc, ◌+◌, ◌<◌, ◌≤◌, ◌⊎◌, inl, inr, List, [], ◌∷◌, ◌++◌, length, refl, ap, sym, ◌∙◌, subst, arith, true≢false, Bool, true, false, Some, Global}
 use Rattle.std.specs.Prelude.{drop, take, get_or, slice_get, Vec, unwrap_or}
 use Rattle.at_model.specs.Meaning.{Among}
 use Rattle.std.proofs.lemmas.List.{length-take}
@@ -9,9 +9,9 @@ use Rattle.at_solve.specs.declared.search.Mark.{Mark}
 use Rattle.at_solve.specs.declared.search.Mark.TheVariants.{Unmet, OnPath, Listed}
 use Rattle.at_solve.specs.declared.search.Search.{Search}
 use Rattle.at_solve.specs.Components.{listed_at, IsEdge, Leads}
-use Rattle.at_solve.specs.Searching.{At, Belongs, HasListed, IsFound, IsGoneTo, IsPath, Reaches, Searches, Together, cost_from, is_unmet, mark_at, weight}
+use Rattle.at_solve.specs.Searching.{At, Belongs, HasListed, IsFound, IsGoneTo, IsPath, Searches, cost_from, is_unmet, mark_at, weight}
 use Rattle.at_solve.proofs.SpreadingLemmas.{same_or}
-use Rattle.at_solve.proofs.Places.{at_within, at_once, at_front, at_take, at_taken, among_dropped, dropped_at}
+use Rattle.at_solve.proofs.Places.{at_within, at_once, at_take, at_taken, among_dropped, dropped_at}
 use Rattle.at_solve.proofs.Entering.{path_at, found_at}
 use Rattle.at_solve.proofs.Merging.{before_or_behind}
 
@@ -264,16 +264,6 @@ one_more_listed nodes n d old mid new less s size here others = record {
         by [] m room e = absurd (omega (arith, room))
         by (x ∷ xs) zero room e = inl e
         by (x ∷ xs) (suc m) room e = inr (by xs m (omega (arith, room)) e)
-
--- without the last of a list
-pub popped_is : (old new : List Group) (g : Group) (k : ℕ) → old ≡ new ++ g ∷ [] → length old ≡ k + 1 → new ≡ take k old
-popped_is old new g k is count = sym (ap (take k) is ∙ front_of new k (omega (arith, ap length is, length-append new (g ∷ []), count)))
-  where
-    front_of : (xs : List Group) (m : ℕ) → length xs ≡ m → take m (xs ++ g ∷ []) ≡ xs
-    front_of [] zero e = refl
-    front_of [] (suc m) e = absurd (omega (arith, e))
-    front_of (x ∷ xs) zero e = absurd (omega (arith, e))
-    front_of (x ∷ xs) (suc m) e = ap (λ ys. x ∷ ys) (front_of xs m (omega (arith, e)))
 
 -- those of the part are on the path, so there are marks of them
 part_listed : {Z : Type 0} (edges : List (Vec ℕ Z)) (n : ℕ) (marks new : List Mark) (path todo : List ℕ) (groups : List Group) (m : ℕ) → IsPath edges n (λ w. ⊥) marks path todo groups

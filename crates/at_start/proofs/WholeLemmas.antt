@@ -1,17 +1,20 @@
 -- What a run that came to its end has written.
-use Rattle.std.proofs.Common.{◌≡◌, ◌∙◌, ℕ, Bool, List, [], ◌++◌, sym, ap, refl, append-nil, subst, Option, Some, None, Result, Ok}
+use Rattle.std.proofs.Common.{◌≡◌, ◌∙◌, ℕ, Bool, true, false, List, [], ◌∷◌, ◌++◌, Option, Some, None, Result, Ok}
+use Rattle.std.proofs.Common.{sym, ap, refl, append-nil, subst, arith}
 use Rattle.std.specs.Io.KnownBytes.{Appends, Consumes, IsAtEnd}
 use Rattle.at_model.specs.Machine.{State, Outputs, text_of}
+use Rattle.at_model.specs.Replies.{Reply}
 use Rattle.at_cache.specs.Kept.{Entries}
 use Rattle.at_cache.specs.Traced.{Memories}
 use Rattle.at_engine.specs.Engines.{rules_of, slice_of, state_of}
 use Rattle.at_engine.specs.Keeping.{IsSpare, work_of}
 use Rattle.at_engine.specs.Running.{Ran, RunsFor, max_reads}
+use Rattle.at_engine.specs.Taking.{wants}
 use Rattle.at_engine.specs.declared.engine.Engine.{Engine}
 use Rattle.at_engine.specs.declared.stream.desk.Report.{Report}
 use Rattle.at_engine.specs.declared.stream.desk.RunFault.{RunFault}
 use Rattle.at_start.specs.Starts.{Starts, opening}
-use Rattle.at_start.specs.Whole.{Answers, MeansOutput, RunsFiles}
+use Rattle.at_start.specs.Whole.{Answers, IsWithinMemory, MeansOutput, RunsFiles}
 use Rattle.at_start.specs.declared.files.Files.{Files}
 use Rattle.at_start.specs.declared.serving.Answered.{Answered}
 
@@ -25,8 +28,17 @@ written_whole : (bytes : List ℕ) (after : Option (List ℕ)) → Appends (Some
 written_whole bytes None written = absurd written
 written_whole bytes (Some ys) written = ap (λ l. Some l) written
 
-pub whole : (files : Files) (slice : ℕ) (report : Report) (input : List ℕ) (left after : Option (List ℕ)) → Answers files slice (Ok report) (Some input) left (Some []) after
-    → (output : List ℕ) × (after ≡ Some output) × MeansOutput files slice input output
+-- where no want of memory is counted none was told
+none_wanted : (told : List (Bool × Reply)) → wants told ≡ 0 → IsWithinMemory told
+none_wanted [] none = tt
+none_wanted ((false, reply) ∷ told) none =
+    let less : wants told ≡ 0 = omega (arith, none) in (refl, none_wanted told less)
+none_wanted ((true, reply) ∷ told) none = absurd (omega (arith, none))
+
+pub whole : (files : Files) (slice : ℕ) (report : Report) (input : List ℕ) (left after : Option (List ℕ))
+    → Answers files slice (Ok report) (Some input) left (Some []) after
+    → (output : List ℕ) × (after ≡ Some output) × (m : MeansOutput files slice input output)
+    × (report.memory ≡ 0 → IsWithinMemory m.told)
 whole files slice report input left after a =
     let r = a.ran in
     let s = a.starts in
@@ -46,6 +58,7 @@ whole files slice report input left after a =
         outputs = subst (λ (l : List ℕ). Outputs a.rules slice (opening files.nodes s.opened) l r.told a.new) all from;
         text = refl;
       },
+      λ none. none_wanted r.told (sym r.memory ∙ none),
     )
 
 -- the run over an engine that files make, with so many turns behind each line
@@ -62,15 +75,16 @@ answers_by {K} files slice made set new run readable left before after is starts
 -- so all that the run promises holds of it
 pub runs_by : {K R W : Type 0} (exact : Bool) (entries : K → Entries) (memories : K → Memories)
     (remaining : R → Option (List ℕ)) (misread ending : R → Option Bool) (count : R → Option ℕ) (contents : W → Option (List ℕ))
-    (failure : W → Option Bool) (waiting : W → Bool) (files : Files) (slice : ℕ) (made set : Engine K) (reader left : R) (writer later : W)
+    (failure : W → Option Bool) (waiting : W → Bool) (files : Files) (slice : ℕ) (gathers : Bool) (made set : Engine K)
+    (reader left : R) (writer later : W)
     (answered : Answered K) → set ≡ record made { slice = slice } → Starts files (rules_of made) (state_of made)
     → IsSpare entries made → work_of made ≡ 0
-    → RunsFor exact entries memories remaining misread ending count contents failure waiting max_reads set answered.engine reader left writer
-    later answered.run
-    → RunsFiles exact entries memories remaining misread ending count contents failure waiting files slice reader left writer
-    later answered
-runs_by {K} exact entries memories remaining misread ending count contents failure waiting files slice made set reader left
-    writer later answered is starts spare idle runs = record {
+    → RunsFor exact entries memories remaining misread ending count contents failure waiting max_reads gathers set
+    answered.engine reader left writer later answered.run
+    → RunsFiles exact entries memories remaining misread ending count contents failure waiting files slice gathers
+    reader left writer later answered
+runs_by {K} exact entries memories remaining misread ending count contents failure waiting files slice gathers made set
+    reader left writer later answered is starts spare idle runs = record {
       made = set;
       starts = subst (λ (e : Engine K). Starts files (rules_of e) (state_of e)) (sym is) starts;
       spare = subst (IsSpare entries) (sym is) spare;

@@ -35,15 +35,15 @@ pub record Answers (files : Files) (slice : ℕ) (run : Result Report RunFault) 
 -- leaves the engine that is given.
 pub record RunsFiles {K R W : Type 0} (exact : Bool) (entries : K → Entries) (memories : K → Memories)
     (remaining : R → Option (List ℕ)) (misread ending : R → Option Bool) (count : R → Option ℕ) (contents : W → Option (List ℕ))
-    (failure : W → Option Bool) (waiting : W → Bool) (files : Files) (slice : ℕ) (reader left : R) (writer later : W)
+    (failure : W → Option Bool) (waiting : W → Bool) (files : Files) (slice : ℕ) (gathers : Bool) (reader left : R) (writer later : W)
     (answered : Answered K) : Type 0 where
   pub made : Engine K
   pub starts : Starts files (rules_of made) (state_of made)
   pub spare : IsSpare entries made
   pub idle : work_of made ≡ 0
   pub turns : slice_of made ≡ slice
-  pub runs : RunsFor exact entries memories remaining misread ending count contents failure waiting max_reads made answered.engine
-      reader left writer later answered.run
+  pub runs : RunsFor exact entries memories remaining misread ending count contents failure waiting max_reads gathers made
+      answered.engine reader left writer later answered.run
 
 -- So it is; or the fault is that of the first file that is refused, and nothing was read or written.
 abbrev pub AnswersFiles : {K : Type 0} → Files → (slice : ℕ) → Result (Answered K) StartFault → (readable left before after : Option (List ℕ)) → Type 0

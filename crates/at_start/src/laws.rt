@@ -11,11 +11,13 @@ ghost use Rattle.at_start.specs.Whole.{Answers, IsWithinMemory, MeansOutput};
 ghost use Rattle.at_start.specs.declared.files.Files.{Files};
 
 /// From the bytes of the files and of the lines to the bytes written: where all bytes of the lines are known, and those that
-/// were written, a run that came to its end has written the output that the files mean for them, and nothing else.
+/// were written, a run that came to its end has written the output that the files mean for them, and nothing else. Where its
+/// report counts no want of memory nothing of it was told for that.
 pub fn whole()
     ensures { (files : Files) (slice : ℕ) (report : Report) (input : List ℕ) (left after : Option (List ℕ))
         → Answers files slice (Ok report) (Some input) left (Some []) after
-        → (output : List ℕ) × (after ≡ Some output) × MeansOutput files slice input output }
+        → (output : List ℕ) × (after ≡ Some output) × (m : MeansOutput files slice input output)
+        × (report.memory ≡ 0 → IsWithinMemory m.told) }
 {}
 
 /// Where the form isn't read no attribute of the rules that files give is circular.

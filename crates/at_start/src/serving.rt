@@ -40,7 +40,7 @@ pub fn answer<K: Keeper, R: Input, W: Output>(
     requires { KeepsNothing K.contents K.memories keeper }
     ensures answers { AnswersFiles files.old slice result (R.remaining reader.old) (R.remaining reader.new) (W.contents writer.old) (W.contents writer.new) }
     ensures runs { IfOk result (RunsFiles K.exact K.contents K.memories R.remaining R.failed R.ended R.reads W.contents W.failed W.waits files.old slice
-        reader.old reader.new writer.old writer.new) }
+        gathers reader.old reader.new writer.old writer.new) }
     ensures none { IfErr result (λ _. (reader.new ≡ reader.old) × (writer.new ≡ writer.old)) }
     ensures rest { AreSameButTree files.old files.new }
 {

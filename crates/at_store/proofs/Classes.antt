@@ -27,11 +27,6 @@ module _ (memory later : ℕ → Option Info) (gone : ℕ → Bool) (change : �
   pub classes_stay : (place : Place) (s : Tree) → Stored later place s → relabel (class_in later) s ≡ relabel (class_in memory) s
   classes_stay place s h = relabel_same (class_in later) (class_in memory) s (λ n v is. class_left (class_of v) _ (h n v is).is)
 
-  -- the tree of classes after the edit
-  pub classes_after : (place : Place) (s : Tree) (e : Edit) → Stored later place (left_by s e) → relabel
-      (class_in later) (left_by s e) ≡ left_by (relabel (class_in memory) s) (relabel_edit (class_in memory) e)
-  classes_after place s e h = classes_stay place (left_by s e) h ∙ relabelled-left (class_in memory) s e
-
 module _ (f : ℕ → ℕ) where
   mutual
     pub depth_relabelled : (t : Tree) → depth (relabel f t) ≡ depth t

@@ -86,23 +86,10 @@ drop_at (y ∷ ys) (suc i) x e = drop_at ys i x e
 pub renumbered_step : (ns : List ℕ) (i n k : ℕ) (o : Option Info) → slice_get ns i ≡ Some n → renumbered (drop i ns) i k o ≡ renumbered (drop (suc i) ns) (suc i) k (indexed n i k o)
 renumbered_step ns i n k o e = ap (λ xs. renumbered xs i k o) (drop_at ns i n e)
 
--- a child after another is given its index
-pub numbered_on : (ns : List ℕ) (i n k : ℕ) (o q r : Option Info) → slice_get ns i ≡ Some n → q ≡ indexed n i k o → renumbered (drop i ns) i k o ≡ r → renumbered (drop (suc i) ns) (suc i) k q ≡ r
-numbered_on ns i n k o q r e same h = ap (renumbered (drop (suc i) ns) (suc i) k) same ∙ sym (renumbered_step ns i n k o e) ∙ h
-
 pub none_past : {A : Type 0} (xs : List A) (i : ℕ) → slice_get xs i ≡ None → length xs ≤ i
 none_past [] i e = omega arith
 none_past (x ∷ xs) zero e = absurd cc
 none_past (x ∷ xs) (suc i) e = let h = none_past xs i e in omega (arith, h)
-
-pub renumbered_end : (ns : List ℕ) (i k : ℕ) (o : Option Info) → length ns ≤ i → renumbered (drop i ns) i k o ≡ o
-renumbered_end ns i k o h = ap (λ xs. renumbered xs i k o) (none ns i h)
-  where
-    none : (xs : List ℕ) (i : ℕ) → length xs ≤ i → drop i xs ≡ []
-    none [] zero h = refl
-    none [] (suc i) h = refl
-    none (x ∷ xs) zero h = let f : suc (length xs) ≤ 0 = h in absurd (omega arith)
-    none (x ∷ xs) (suc i) h = let f : suc (length xs) ≤ suc i = h in none xs i (omega arith)
 
 inserted_there : (ns : List ℕ) (i n : ℕ) → i ≤ length ns → slice_get (insert ns i n) i ≡ Some n
 inserted_there [] zero n h = refl

@@ -31,52 +31,12 @@ abbrev pub rest_left : List CellValue → (i room levels : ℕ) → Option ℕ
 rest_left xs i room levels = left_of (cells_nodes (to_cells (map cell_view (drop i xs)))) (cells_depth
     (to_cells (map cell_view (drop i xs)))) (cells_tokens_short (to_cells (map cell_view (drop i xs)))) room levels
 
-pub rest_left-here : (xs : List CellValue) (i : ℕ) (x : CellValue) (room levels : ℕ) → i < length xs
-    → x ≡ get_or xs i x → rest_left xs i room levels
-    ≡ option_and_then (λ q. rest_left xs (i + 1) q levels) (left_by_cell (cell_view x) room levels)
-rest_left-here xs i x room levels less is =
-    rw (drop-cons xs i x less, ← is, add-one)
-    (left_joined (cell_nodes (cell_view x)) (cells_nodes (to_cells (map cell_view (drop (suc i) xs))))
-    (cell_depth (cell_view x)) (cells_depth (to_cells (map cell_view (drop (suc i) xs))))
-    (cell_tokens_short (cell_view x)) (cells_tokens_short (to_cells (map cell_view (drop (suc i) xs)))) room levels)
-
-pub rest_left-end : (xs : List CellValue) (i room levels : ℕ) → length xs ≤ i → rest_left xs i room levels ≡ Some room
-rest_left-end xs i room levels most = rw (drop_all i xs most) (left_end room levels)
-
 -- what is left of the trees
 abbrev pub rest_trees_left : List TreeValue → (i room levels : ℕ) → Option ℕ
 rest_trees_left xs i room levels = left_by_trees (to_trees (map tree_view (drop i xs))) room levels
 
-pub rest_trees_left-here : (xs : List TreeValue) (i : ℕ) (x : TreeValue) (room levels : ℕ) → i < length xs
-    → x ≡ get_or xs i x → rest_trees_left xs i room levels
-    ≡ option_and_then (λ q. rest_trees_left xs (i + 1) q levels) (left_by_tree (tree_view x) room levels)
-rest_trees_left-here xs i x room levels less is =
-    rw (drop-cons xs i x less, ← is, add-one)
-    (left_joined (nodes (tree_view x)) (trees_nodes (to_trees (map tree_view (drop (suc i) xs))))
-    (depth (tree_view x)) (trees_depth (to_trees (map tree_view (drop (suc i) xs))))
-    (tokens_short (tree_view x)) (trees_tokens_short (to_trees (map tree_view (drop (suc i) xs)))) room levels)
-
-pub rest_trees_left-end : (xs : List TreeValue) (i room levels : ℕ) → length xs ≤ i → rest_trees_left xs i room levels ≡ Some room
-rest_trees_left-end xs i room levels most = rw (drop_all i xs most) (left_end room levels)
-
 whole : (t : TreeValue) (room levels : ℕ) → left_by_tree (tree_view t) room levels ≡ left_by_tree (branch (out-Tree t).class (to_cells (map cell_view (out-Tree t).cells.items))) room levels
 whole t room levels = ap (λ u. left_by_tree u room levels) (fold_out-Tree Cell Tree see_cell see_tree t)
-
-pub left_by_cells : (t : TreeValue) (xs : List CellValue) (room levels : ℕ) → xs ≡ (out-Tree t).cells.items → (room ≡ 0
-    → ⊥) → (levels ≡ 0 → ⊥) → left_by_tree (tree_view t) room levels ≡ rest_left xs 0 (room - 1) (levels - 1)
-left_by_cells t xs room levels is some deep =
-    whole t room levels
-    ∙ left_whole (cells_nodes (to_cells (map cell_view (out-Tree t).cells.items)))
-    (cells_depth (to_cells (map cell_view (out-Tree t).cells.items)))
-    (cells_tokens_short (to_cells (map cell_view (out-Tree t).cells.items))) room levels some deep
-    ∙ ap (λ ys. rest_left ys 0 (room - 1) (levels - 1)) (sym is)
-
-pub left_by_none : (t : TreeValue) (room levels : ℕ) → (room ≡ 0) ⊎ (levels ≡ 0) → left_by_tree (tree_view t) room levels ≡ None
-left_by_none t room levels none =
-    whole t room levels
-    ∙ left_none (cells_nodes (to_cells (map cell_view (out-Tree t).cells.items)))
-    (cells_depth (to_cells (map cell_view (out-Tree t).cells.items)))
-    (cells_tokens_short (to_cells (map cell_view (out-Tree t).cells.items))) room levels none
 
 left_beside : (n d others level most deep : ℕ) (s : Bool) → is_some (left_of (1 + n) (1 + d) s (most - others) (deep - level))
     ≡ (nat_le (others + (1 + n)) most && nat_le (level + (1 + d)) deep && s)

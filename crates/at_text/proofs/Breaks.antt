@@ -83,15 +83,6 @@ broken_from text (Bad at) memory (inr f) = record {
       subst (λ n. Breaks f.1 (length (flat_map spell f.0)) (Bad n)) (sym f.3.4) (misplaced f.3.0 f.3.1 f.3.2 f.3.3);
 }
 
-pub to_faults : (text : List ℕ) (e : ScanFault) → Broken text e → FaultsAt text e
-to_faults text e b = from b.pieces b.rest e b.cut b.breaks
-  where
-    from : (ps : List Piece) (rest : List ℕ) (f : ScanFault) → Cut text ps rest → Breaks rest (length (flat_map spell ps)) f → FaultsAt text f
-    from ps rest _ c (comment d) = (ps, rest, c, refl, d)
-    from ps rest _ c (unclosed u) = (ps, rest, c, refl, u)
-    from ps rest _ c (none n) = inl (ps, rest, c, refl, n)
-    from ps rest _ c (misplaced body tail o m) = inr (ps, rest, c, (body, tail, o, m, refl))
-
 -- what is cut to its end has no fault
 pub cut_unbroken : (text : List ℕ) (ps : List Piece) (e : ScanFault) → Cut text ps [] → Broken text e → ⊥
 cut_unbroken text ps e c b =

@@ -97,9 +97,3 @@ breaks_else c text after (Ok found) f q e h = h
 breaks_else c text after (Err (Bad tail)) f q e h = inl (breaks_none c text after f q e h.1 h.2, h.0)
 breaks_else c text after (Err OpenText) f q e h = absurd h
 breaks_else c text after (Err OpenComment) f q e h = h
-
--- a text between quotes that breaks off
-pub breaks_quoted : (c : ℕ) (text more : List ℕ) (flaw : Break) → c ≡ 34 → text ≡ encode_utf8 c ++ more → BreaksQuoted more flaw → BreaksPiece text flaw
-breaks_quoted c text more (Bad tail) q e h = inr (h.0, opened c text more q e ∙ ap (λ l. 34 ∷ l) h.1, h.2, h.3)
-breaks_quoted c text more OpenText q e h = (h.0, h.1, opened c text more q e ∙ ap (λ l. 34 ∷ l) h.2, h.3)
-breaks_quoted c text more OpenComment q e h = absurd h

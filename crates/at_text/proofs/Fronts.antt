@@ -46,9 +46,6 @@ pub record Passed (p : ℕ → Bool) (text rest : List ℕ) : Type 0 where
   pub split : text ≡ encode_utf8_all front ++ rest
   pub each : AllByRecursion (λ c. p c ≡ true) front
 
-pub none_passed : (p : ℕ → Bool) (text : List ℕ) → Passed p text text
-none_passed p text = record { front = []; split = refl; each = tt }
-
 all_push : (P : ℕ → Type 0) (cs : List ℕ) (c : ℕ) → AllByRecursion P cs → P c → AllByRecursion P (cs ++ c ∷ [])
 all_push P [] c h q = (q, tt)
 all_push P (x ∷ xs) c h q = (h.0, all_push P xs c h.1 q)

@@ -168,9 +168,6 @@ pub record Read (text rest : List ℕ) : Type 0 where
   pub split : text ≡ flat_map escaped body ++ rest
   pub is : IsUtf8 body
 
-pub read_none : (text : List ℕ) → Read text text
-read_none text = record { body = []; split = refl; is = IsUtf8-nil }
-
 pub read_more : (text rest after more : List ℕ) → Read text rest → Means more rest after → Read text after
 read_more text rest after more r m = record {
   body = r.body ++ more;

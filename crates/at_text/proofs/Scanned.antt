@@ -73,9 +73,6 @@ pub record Scanned (text rest : List ℕ) (tokens : List Token) : Type 0 where
   pub are : tokens ≡ tokens_at 0 pieces
   pub spans : All (IsSpan text) tokens
 
-pub scanned_none : (text : List ℕ) → Scanned text text []
-scanned_none text = record { pieces = []; cut = cut_none text; are = refl; spans = λ k d h. absurd (omega (arith, h)) }
-
 -- the place behind a piece
 piece_end : (text rest after : List ℕ) (ps : List Piece) (p : Piece) → Cut text ps rest → rest ≡ spell p ++ after → length text - length after ≡ 0 + length (flat_map spell ps) + length (spell p)
 piece_end text rest after ps p c e = omega (arith, ap length c.whole, length-append (flat_map spell ps) rest, ap length e, length-append (spell p) after)
@@ -161,9 +158,6 @@ pub record Lexed (text rest : List ℕ) (lexemes : List Lexeme) : Type 0 where
   pub are : map spelled lexemes ≡ spelled_at 0 pieces
   pub kinds : All (λ x. IsOfKind x.kind x.text.now) lexemes
   pub starts : All (λ x. IsCharBoundary text x.start) lexemes
-
-pub lexed_none : (text : List ℕ) → Lexed text text []
-lexed_none text = record { pieces = []; cut = cut_none text; are = refl; kinds = λ k d h. absurd (omega (arith, h)); starts = λ k d h. absurd (omega (arith, h)) }
 
 pub lexed_blank : (text rest after : List ℕ) (old : List Lexeme) → Lexed text rest old → IsFound rest None after → Lexed text after old
 lexed_blank text rest after old s f = record {

@@ -89,14 +89,6 @@ long_two (suc (suc (suc (suc (suc (suc (suc k))))))) h = absurd (omega (arith, h
 long_whole : (text rest : List ℕ) (k : ℕ) (h : k < 7) → text ≡ get_or long_signs k [] ++ rest → text ≡ (long_two k h).0 ∷ (long_two k h).1 ∷ ((long_two k h).2 ++ rest)
 long_whole text rest k h e = e ∙ ap (λ s. s ++ rest) (long_two k h).3
 
--- none fits a text of less than two bytes
-pub too_short : (text : List ℕ) → length text < 2 → FitsNone long_signs 7 text
-too_short text less k rest h e = let l = ap length (long_whole text rest k h e) in absurd (omega (arith, less, l))
-
--- or one with another second byte
-pub other_second : (text : List ℕ) (d : ℕ) → is_second (get_or text 1 d) ≡ false → FitsNone long_signs 7 text
-other_second text d other k rest h e = clash (is_second (get_or text 1 d)) (ap (λ l. is_second (get_or l 1 d)) (long_whole text rest k h e) ∙ (long_two k h).4) other
-
 pub long_found : (text after : List ℕ) → EndsLong text after → EndsSign text after
 long_found text after (k, h, none, e, valid) = (
   sign_at k,

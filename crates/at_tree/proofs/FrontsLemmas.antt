@@ -45,9 +45,6 @@ tree_front classes text mid rest b c levels ps cs t some named fit begins all in
     let whole : (fits classes c b && cells_conform classes cs (parts classes c)) ≡ true = and_true _ _ fit (ap (cells_conform classes cs) (sym all) ∙ inside.1) in
     subst (IsTreeFront classes text rest b levels) (sym is) (written, whole, (some, named, inside.2))
 
-pub cell_front_by : (classes : Classes) (text rest : List ℕ) (s s' : Shape) (levels : ℕ) (c c' : Cell) → s ≡ s' → c ≡ c' → IsCellFront classes text rest s' levels c' → IsCellFront classes text rest s levels c
-cell_front_by classes text rest s s' levels c c' e f h = subst (λ (z : Shape). IsCellFront classes text rest z levels c) (sym e) (subst (IsCellFront classes text rest s' levels) (sym f) h)
-
 -- the cells so far ----------------------------------------------------------------------------------------------------
 
 abbrev pub HasCells : Classes → List ℕ → List ℕ → List Component → ℕ → ℕ → List Cell → Type 0

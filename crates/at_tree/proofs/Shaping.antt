@@ -27,23 +27,8 @@ term_view_is t = fold_out-Term ModelCell Term see_cell see_term t
 abbrev pub cells_known_from : Classes → List CellValue → ℕ → Bool
 cells_known_from classes xs i = cells_name_classes classes (to_cells (map cell_view (drop i xs)))
 
-pub cells_known-here : (classes : Classes) (xs : List CellValue) (i : ℕ) (x : CellValue) → i < length xs → x ≡ get_or xs i x → cells_known_from classes xs i ≡ (cell_names_classes classes (cell_view x) && cells_known_from classes xs (i + 1))
-cells_known-here classes xs i x less is = rw (drop-cons xs i x less, ← is, add-one) refl
-
-pub cells_known-end : (classes : Classes) (xs : List CellValue) (i : ℕ) → length xs ≤ i → cells_known_from classes xs i ≡ true
-cells_known-end classes xs i most = rw (drop_all i xs most) refl
-
 abbrev pub terms_known_from : Classes → List TermValue → ℕ → Bool
 terms_known_from classes xs i = terms_name_classes classes (to_terms (map term_view (drop i xs)))
-
-pub terms_known-here : (classes : Classes) (xs : List TermValue) (i : ℕ) (x : TermValue) → i < length xs → x ≡ get_or xs i x → terms_known_from classes xs i ≡ (names_classes classes (term_view x) && terms_known_from classes xs (i + 1))
-terms_known-here classes xs i x less is = rw (drop-cons xs i x less, ← is, add-one) refl
-
-pub terms_known-end : (classes : Classes) (xs : List TermValue) (i : ℕ) → length xs ≤ i → terms_known_from classes xs i ≡ true
-terms_known-end classes xs i most = rw (drop_all i xs most) refl
-
-pub known-whole : (classes : Classes) (t : TermValue) (xs : List CellValue) → xs ≡ (out-Term t).cells.items → names_classes classes (term_view t) ≡ (names_concrete_class classes (string_bytes (out-Term t).name) && cells_known_from classes xs 0)
-known-whole classes t xs is = ap (names_classes classes) (term_view_is t) ∙ ap (λ ys. names_concrete_class classes (string_bytes (out-Term t).name) && cells_name_classes classes (to_cells (map cell_view ys))) (sym is)
 
 -- trees ---------------------------------------------------------------------------------------------------------------
 
@@ -125,17 +110,6 @@ shaped-whole classes t b c xs ps is named same fit =
     ∙ ap (λ ys. option_map (Node c) (cells_shaped classes (to_cells (map cell_view ys)) (parts classes c))) (sym is)
     ∙ ap (λ qs. option_map (Node c) (cells_shaped classes (to_cells (map cell_view xs)) qs)) (sym same)
 
-pub shaped-unnamed : (classes : Classes) (t : TermValue) (b : ℕ) → class_of_name classes (string_bytes (out-Term t).name) ≡ None → shaped classes (term_view t) b ≡ None
-shaped-unnamed classes t b none =
-    ap (λ u. shaped classes u b) (term_view_is t)
-    ∙ ap (option_and_then (λ k. if fits classes k b then option_map (Node k) (cells_shaped classes (to_cells (map cell_view (out-Term t).cells.items)) (parts classes k)) else None)) none
-
-pub shaped-unfit : (classes : Classes) (t : TermValue) (b c : ℕ) → class_of_name classes (string_bytes (out-Term t).name) ≡ Some c → fits classes c b ≡ false → shaped classes (term_view t) b ≡ None
-shaped-unfit classes t b c named unfit =
-    ap (λ u. shaped classes u b) (term_view_is t)
-    ∙ ap (option_and_then (λ k. if fits classes k b then option_map (Node k) (cells_shaped classes (to_cells (map cell_view (out-Term t).cells.items)) (parts classes k)) else None)) named
-    ∙ ap (λ f. if f then option_map (Node c) (cells_shaped classes (to_cells (map cell_view (out-Term t).cells.items)) (parts classes c)) else None) unfit
-
 abbrev pub trees_from : Classes → List TermValue → ℕ → ℕ → Option Trees
 trees_from classes xs b i = terms_shaped classes (to_terms (map term_view (drop i xs))) b
 
@@ -151,11 +125,6 @@ pub trees_from-more : (classes : Classes) (xs : List TermValue) (b i : ℕ) (x :
 trees_from-more classes xs b i x done u all less is shape so_far =
     so_far ∙ ap (option_map (onto_trees done)) (trees_from-here classes xs b i x less is ∙ ap (option_and_then (λ z. option_map (tree z) (trees_from classes xs b (i + 1)))) shape)
     ∙ both_trees done u (trees_from classes xs b (i + 1))
-
-pub trees_from-none : (classes : Classes) (xs : List TermValue) (b i : ℕ) (x : TermValue) (done : List Tree) (all : Option Trees) → i < length xs → x ≡ get_or xs i x
-    → shaped classes (term_view x) b ≡ None → all ≡ option_map (onto_trees done) (trees_from classes xs b i) → all ≡ None
-trees_from-none classes xs b i x done all less is shape so_far =
-    so_far ∙ ap (option_map (onto_trees done)) (trees_from-here classes xs b i x less is ∙ ap (option_and_then (λ z. option_map (tree z) (trees_from classes xs b (i + 1)))) shape)
 
 pub trees_from-end : (classes : Classes) (xs : List TermValue) (b i : ℕ) (done : List Tree) (all : Option Trees) → length xs ≤ i → all ≡ option_map (onto_trees done) (trees_from classes xs b i) → all ≡ Some (to_trees done)
 trees_from-end classes xs b i done all most so_far = so_far ∙ rw (drop_all i xs most) (ap Some (onto_trees-none done))

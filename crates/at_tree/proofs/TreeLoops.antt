@@ -52,12 +52,6 @@ nodes-whole t xs i most is = ap nodes (tree_view_out t) ∙ ap (λ ys. 1 + cells
 pub depth-whole : (t : TreeValue) (xs : List CellValue) (i : ℕ) → length xs ≤ i → xs ≡ (out-Tree t).cells.items → depth (tree_view t) ≡ 1 + cells_depth (to_cells (map cell_view (take i xs)))
 depth-whole t xs i most is = ap depth (tree_view_out t) ∙ ap (λ ys. 1 + cells_depth (to_cells (map cell_view ys))) (sym (take_all i xs most ∙ is))
 
-pub trees_nodes-whole : (xs : List TreeValue) (i : ℕ) → length xs ≤ i → trees_nodes (to_trees (map tree_view xs)) ≡ trees_nodes (to_trees (map tree_view (take i xs)))
-trees_nodes-whole xs i most = ap (λ ys. trees_nodes (to_trees (map tree_view ys))) (sym (take_all i xs most))
-
-pub trees_depth-whole : (xs : List TreeValue) (i : ℕ) → length xs ≤ i → trees_depth (to_trees (map tree_view xs)) ≡ trees_depth (to_trees (map tree_view (take i xs)))
-trees_depth-whole xs i most = ap (λ ys. trees_depth (to_trees (map tree_view ys))) (sym (take_all i xs most))
-
 -- conforming --------------------------------------------------------------------------------------------------------
 
 -- what is left of the cells and of the components
@@ -93,9 +87,3 @@ conforms-whole classes t b xs ps is same =
 
 abbrev pub rest_of_trees : Classes → List TreeValue → ℕ → ℕ → Bool
 rest_of_trees classes xs b i = trees_conform classes (to_trees (map tree_view (drop i xs))) b
-
-pub rest_of_trees-here : (classes : Classes) (xs : List TreeValue) (b i : ℕ) (x : TreeValue) → i < length xs → x ≡ get_or xs i x → rest_of_trees classes xs b i ≡ (conforms classes (tree_view x) b && rest_of_trees classes xs b (i + 1))
-rest_of_trees-here classes xs b i x less is = rw (drop-cons xs i x less, ← is, add-one) refl
-
-pub rest_of_trees-end : (classes : Classes) (xs : List TreeValue) (b i : ℕ) → length xs ≤ i → rest_of_trees classes xs b i ≡ true
-rest_of_trees-end classes xs b i most = rw (drop_all i xs most) refl

@@ -1,16 +1,17 @@
 -- Connections, one after the other.
-use Rattle.std.proofs.Common.{◌≡◌, ◌∙◌, ℕ, ◌+◌, ◌≤◌, ◌==◌, Bool, true, false, not, if◌then◌else◌, Result, Ok, Err}
+use Rattle.std.proofs.Common.{◌≡◌, ◌∙◌, ℕ, ◌+◌, ◌≤◌, ◌==◌, Bool, true, false, not, if◌then◌else◌, List, Option, Result, Ok, Err}
 use Rattle.std.proofs.Common.{inl, inr, ap, eqb-true, eq-eqb, subst, sym, refl, arith, true≢false}
 use Rattle.at_model.specs.Rules.{Rules}
-use Rattle.at_model.specs.Machine.{State}
+use Rattle.at_cache.specs.Kept.{Entries}
+use Rattle.at_cache.specs.Traced.{Memories}
 use Rattle.at_engine.specs.Keeping.{KeepsWhole}
-use Rattle.at_engine.specs.Running.{KeepsWhole as RunKeepsWhole}
+use Rattle.at_engine.specs.Running.{RunsFor, KeepsWhole as RunKeepsWhole}
+use Rattle.at_engine.specs.declared.engine.Engine.{Engine}
 use Rattle.at_engine.specs.declared.stream.desk.Report.{Report}
 use Rattle.at_engine.specs.declared.stream.desk.RunFault.{RunFault}
 use Rattle.at_engine.specs.declared.stream.desk.RunFault.TheVariants as run
 use Rattle.attrd.specs.Connections.{counted, faults, lack, lacks}
-use Rattle.attrd.specs.Doors.{ServesAll, ServesNext, ending, one_more}
-use Rattle.attrd.specs.Seen.{Seen}
+use Rattle.attrd.specs.Doors.{ending}
 use Rattle.attrd.specs.declared.serving.Served.{Served}
 use Rattle.attrd.specs.declared.serving.ConnectionFault.{ConnectionFault}
 use Rattle.attrd.specs.declared.serving.ConnectionFault.TheVariants.{Socket, Run}
@@ -126,11 +127,19 @@ run_whole rules (Ok report) told is whole =
 run_whole rules (Err fault) told is whole =
     subst (λ (t : Result Report ConnectionFault). KeepsWhole rules (lacks t)) is whole
 
-pub served_on : (rules others : Rules) (slice turns n : ℕ) (old mid new : State) (door between later : Seen)
-    (before after : Served) (told : Result Report ConnectionFault) → others ≡ rules → turns ≡ slice → after ≡ counted told before
-    → ServesAll rules slice old door n mid between before → ServesNext others turns mid new between later told
-    → ServesAll rules slice old door (n + 1) new later after
-served_on rules others slice turns n old mid new door between later before after told e f is all next =
-    let same = subst (λ (r : Rules). ServesNext r turns mid new between later told) e next in
-    let more = one_more all (subst (λ (k : ℕ). ServesNext rules k mid new between later told) f same) in
-    subst (ServesAll rules slice old door (n + 1) new later) (sym is) more
+-- what a run promises is that of the door's way of sending
+pub runs_so : {K R W : Type 0} {exact : Bool} {entries : K → Entries} {memories : K → Memories}
+    {remaining : R → Option (List ℕ)} {misread ended : R → Option Bool} {count : R → Option ℕ}
+    {contents : W → Option (List ℕ)} {failure : W → Option Bool} {waiting : W → Bool} {most_reads : ℕ}
+    {asked gathers : Bool} {old new : Engine K} {reader left : R} {writer later : W} {result : Result Report RunFault}
+    → asked ≡ gathers
+    → RunsFor exact entries memories remaining misread ended count contents failure waiting most_reads asked
+    old new reader left writer later result
+    → RunsFor exact entries memories remaining misread ended count contents failure waiting most_reads gathers
+    old new reader left writer later result
+runs_so {exact = exact} {entries = entries} {memories = memories} {remaining = remaining} {misread = misread}
+    {ended = ended} {count = count} {contents = contents} {failure = failure} {waiting = waiting}
+    {most_reads = most_reads} {old = old} {new = new} {reader = reader} {left = left} {writer = writer} {later = later}
+    {result = result} same runs =
+    subst (λ (b : Bool). RunsFor exact entries memories remaining misread ended count contents failure waiting
+    most_reads b old new reader left writer later result) same runs

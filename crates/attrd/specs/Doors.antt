@@ -1,12 +1,13 @@
 -- What is done with the connections that come through a door.
-use Rattle.std.specs.Prelude.{◌≡◌, ℕ, ◌+◌, List, Option, Result, Ok, Err}
-use Rattle.at_model.specs.Rules.{Rules}
-use Rattle.at_model.specs.Machine.{State}
-use Rattle.at_engine.specs.Running.{Ran, max_reads}
+use Rattle.std.specs.Prelude.{◌≡◌, ℕ, ◌+◌, Bool, List, Option, Result, Ok, Err}
+use Rattle.at_cache.specs.Kept.{Entries}
+use Rattle.at_cache.specs.Traced.{Memories}
+use Rattle.at_engine.specs.Running.{RunsFor, max_reads}
+use Rattle.at_engine.specs.declared.engine.Engine.{Engine}
 use Rattle.at_engine.specs.declared.stream.desk.Report.{Report}
 use Rattle.at_engine.specs.declared.stream.desk.RunFault.{RunFault}
 use Rattle.attrd.specs.Connections.{counted, nobody}
-use Rattle.attrd.specs.Seen.{Seen, IsRefused, IsServed, Comes}
+use Rattle.attrd.specs.Seen.{Seen, AreFresh, IsRefused, IsServed, Comes}
 use Rattle.attrd.specs.declared.serving.Served.{Served}
 use Rattle.attrd.specs.declared.serving.ConnectionFault.{ConnectionFault}
 use Rattle.attrd.specs.declared.serving.ConnectionFault.TheVariants.{Socket, Run}
@@ -16,22 +17,28 @@ abbrev pub ending : Result Report RunFault → Result Report ConnectionFault
 ending (Ok report) = Ok report
 ending (Err fault) = Err (Run fault)
 
--- One has come, a run has served what can be read from it, and what that has written was sent to it; or the door
+-- One has come, all that a run promises holds of the one that has served it, and what that has written was sent to it; or the door
 -- refused it, and nothing was done. Either is told.
-pub data ServesNext (rules : Rules) (slice : ℕ) (old new : State) (door later : Seen)
+pub data ServesNext {K R W : Type 0} (exact : Bool) (entries : K → Entries) (memories : K → Memories)
+    (remaining : R → Option (List ℕ)) (misread ended : R → Option Bool) (count : R → Option ℕ) (contents : W → Option (List ℕ))
+    (failure : W → Option Bool) (waiting : W → Bool) (gathers : Bool) (old new : Engine K) (door later : Seen)
     (told : Result Report ConnectionFault) : Type 0 where
-  by_run : (run : Result Report RunFault) (opened : Seen) (readable left before after : Option (List ℕ))
-      → Comes door opened readable before → Ran max_reads run rules slice old new readable left before after
-      → IsServed opened later after → told ≡ ending run
-      → ServesNext rules slice old new door later told
-  not_accepted : new ≡ old → IsRefused door later → told ≡ Err Socket → ServesNext rules slice old new door later told
+  by_run : (run : Result Report RunFault) (reader left : R) (writer written : W) (opened : Seen)
+      → Comes door opened (remaining reader) (contents writer) → AreFresh (misread reader) (ended reader) (failure writer) (waiting writer)
+      → RunsFor exact entries memories remaining misread ended count contents failure waiting max_reads gathers old new
+      reader left writer written run
+      → IsServed opened later (contents written) → told ≡ ending run
+      → ServesNext exact entries memories remaining misread ended count contents failure waiting gathers old new door later told
+  not_accepted : new ≡ old → IsRefused door later → told ≡ Err Socket
+      → ServesNext exact entries memories remaining misread ended count contents failure waiting gathers old new door later told
 
--- So many were served so, each in the state in which the one before it has left the machine, and it was counted how
--- they ended.
-pub data ServesAll (rules : Rules) (slice : ℕ) (old : State) (door : Seen) : (connections : ℕ) → State → (later : Seen)
-    → Served → Type 0 where
-  none : ServesAll rules slice old door 0 old door nobody
-  one_more : {n : ℕ} {mid new : State} {between later : Seen} {served : Served}
-      {told : Result Report ConnectionFault}
-      → ServesAll rules slice old door n mid between served → ServesNext rules slice mid new between later told
-      → ServesAll rules slice old door (n + 1) new later (counted told served)
+-- So many were served so, each by the engine as the one before it has left that, and it was counted how they ended.
+pub data ServesAll {K R W : Type 0} (exact : Bool) (entries : K → Entries) (memories : K → Memories)
+    (remaining : R → Option (List ℕ)) (misread ended : R → Option Bool) (count : R → Option ℕ) (contents : W → Option (List ℕ))
+    (failure : W → Option Bool) (waiting : W → Bool) (gathers : Bool) (old : Engine K) (door : Seen)
+    : (connections : ℕ) → Engine K → (later : Seen) → Served → Type 0 where
+  none : ServesAll exact entries memories remaining misread ended count contents failure waiting gathers old door 0 old door nobody
+  one_more : {n : ℕ} {mid new : Engine K} {between later : Seen} {served : Served} {told : Result Report ConnectionFault}
+      → ServesAll exact entries memories remaining misread ended count contents failure waiting gathers old door n mid between served
+      → ServesNext exact entries memories remaining misread ended count contents failure waiting gathers mid new between later told
+      → ServesAll exact entries memories remaining misread ended count contents failure waiting gathers old door (n + 1) new later (counted told served)

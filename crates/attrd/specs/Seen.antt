@@ -1,5 +1,5 @@
 -- What is known of a door, and what becomes of it where a connection comes and ends.
-use Rattle.std.specs.Prelude.{◌≡◌, ℕ, ⊤, List, [], ◌∷◌, ◌++◌, Option, Some, None}
+use Rattle.std.specs.Prelude.{◌≡◌, ℕ, ⊤, Bool, false, List, [], ◌∷◌, ◌++◌, Option, Some, None}
 use Rattle.at_engine.specs.Ends.{Counted}
 
 -- What those that come will send, each in its turn; what was written to each that has come and was served; and how many
@@ -36,6 +36,15 @@ pub record Comes (before after : Seen) (readable written : Option (List ℕ)) : 
   pub unwritten : IsUnwritten before.sent written
   pub sent : after.sent ≡ before.sent
   pub refused : after.refused ≡ before.refused
+
+-- where it is known whether something happened, it didn't
+abbrev pub IsUnset : Option Bool → Type 0
+IsUnset None = ⊤
+IsUnset (Some happened) = happened ≡ false
+
+-- both ends of a connection that has come: no call has failed, no read has brought no byte, where these are known, and nothing waits
+abbrev pub AreFresh : (misread ended failure : Option Bool) → (waits : Bool) → Type 0
+AreFresh misread ended failure waits = IsUnset misread × IsUnset ended × IsUnset failure × (waits ≡ false)
 
 -- none came, and that is counted
 pub record IsRefused (before after : Seen) : Type 0 where

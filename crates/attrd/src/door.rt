@@ -1,6 +1,6 @@
 //! Where connections come from.
-ghost use Rattle.std.specs.Prelude.{IfOk, OnErr};
-ghost use Rattle.attrd.specs.Seen.{Comes, IsRefused, IsServed, Seen, unseen};
+ghost use Rattle.std.specs.Prelude.{◌≡◌, Bool, true, false, IfOk, OnErr};
+ghost use Rattle.attrd.specs.Seen.{AreFresh, Comes, IsRefused, IsServed, Seen, unseen};
 
 use at_engine::{Input, Output, Watched};
 use std::alloc::Global;
@@ -27,8 +27,12 @@ pub trait Door {
     /// What is known of those that come, of what is written to them, and of how many aren't accepted.
     ghost seen: { Self → Seen };
 
+    /// Whether replies are gathered.
+    ghost gathering: { Bool };
+
     /// Whether replies are gathered: then the ends for them have buffers.
-    fn gathers(&self) -> bool;
+    fn gathers(&self) -> bool
+        ensures { result ≡ gathering };
 
     /// Both ends of the connection that comes next.
     ///
@@ -38,6 +42,8 @@ pub trait Door {
     fn open(&mut self) -> io::Result<Ends<Self::Reader, Self::Writer>>
         ensures comes { IfOk result (λ ends. Comes (seen self.old) (seen self.new) (Self.Reader.remaining ends.reader)
             (Self.Writer.contents ends.writer)) }
+        ensures fresh { IfOk result (λ ends. AreFresh (Self.Reader.failed ends.reader) (Self.Reader.ended ends.reader)
+            (Self.Writer.failed ends.writer) (Self.Writer.waits ends.writer)) }
         ensures refused { OnErr result (IsRefused (seen self.old) (seen self.new)) };
 
     /// Notes that the connection that has come last was served. Where nothing is known of a door, nothing is noted; where what is
@@ -52,6 +58,8 @@ impl Door for UnixListener {
     type Writer = Watched<UnixStream>;
 
     ghost seen = { λ _. unseen };
+
+    ghost gathering = { false };
 
     fn gathers(&self) -> bool {
         false
@@ -84,6 +92,8 @@ impl<'a> Door for Gathering<'a> {
     type Writer = Watched<BufWriter<UnixStream>>;
 
     ghost seen = { λ _. unseen };
+
+    ghost gathering = { true };
 
     fn gathers(&self) -> bool {
         true

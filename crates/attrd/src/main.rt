@@ -5,13 +5,13 @@
 //! `Doors` what is done with their connections, `Connections` how these ended, `Statuses` with which status the program ends.
 //!
 //! **Where to begin:** `main`, below; `options/words.rt` reads the words, `socket.rt` has the socket and its file,
-//! `door.rt` where connections come from, `serving.rt` serves them, `failure.rt` has what is printed.
+//! `door.rt` where connections come from, `serving.rt` serves them, `failure.rt` has what is printed, `stack.rt` takes the stack.
 //!
 //! **What it keeps true:** standard input is answered by `at_start`'s `answer`, and connections one after the other by
 //! `at_engine`'s `run`, each in the state in which the one before it has left the engine. Nothing else is written.
 #![tactic(auto)]
 
-ghost use Rattle.std.specs.Prelude.{◌≡◌, None, IfOk, IfSome, option_map};
+ghost use Rattle.std.specs.Prelude.{◌≡◌, None, IfOk, IfSome, is_none, option_map};
 ghost use Rattle.std.specs.Option.{unwrap_or};
 ghost use Rattle.at_model.specs.Edits.{usual_nodes};
 ghost use Rattle.at_cache.specs.Bound.{bounded_by, kept_by, remembered_by};
@@ -25,6 +25,7 @@ mod failure;
 mod options;
 mod serving;
 mod socket;
+mod stack;
 
 use at_cache::{KeepAtMost, KeepCutOff, KeepCutOffAtMost, KeepRecorded, Keeper};
 use at_engine::{Engine, Output, Watched};
@@ -36,6 +37,7 @@ use failure::{Failure, status, tell};
 use options::{Options, options};
 use serving::{Served, serve};
 use socket::Socket;
+use stack::take_stack;
 use std::alloc::Global;
 use std::fs::File;
 use std::io::{BufWriter, ErrorKind, Read};
@@ -44,10 +46,15 @@ use std::process::ExitCode;
 use std::{env, io, mem};
 
 /// Serves what the words of the command line ask for, and ends with status 0; 1 where a file is refused, 2 where the
-/// words are, 3 where a file, the socket or a stream fails, 4 for want of memory.
+/// words are, 3 where a file, the socket or a stream fails, 4 for want of memory. The stack of the deepest question is taken
+/// before a file is read.
 fn main(rt: HostRuntime) -> ExitCode {
     let mut work = None;
-    let served = serve_words(&rt, &mut work);
+    let served = if take_stack() {
+        serve_words(&rt, &mut work)
+    } else {
+        Err(Failure::Memory)
+    };
     ended(&rt, &served, work)
 }
 
@@ -129,6 +136,7 @@ fn serve_cutting(
 /// An empty keeper with the bound that is asked for, where there is one.
 fn bounded(alloc: Global, options: &Options) -> Option<KeepAtMost>
     ensures bound { option_map (λ k. k.most) result ≡ options.now.keep }
+    ensures none { is_none result ≡ is_none options.now.keep }
     ensures empty { IfSome result (λ k. KeepsAll (λ _. None) (kept_by k)) }
 {
     match options.keep {
@@ -140,6 +148,7 @@ fn bounded(alloc: Global, options: &Options) -> Option<KeepAtMost>
 /// The same with cut-off.
 fn bounded_cutting(alloc: Global, options: &Options) -> Option<KeepCutOffAtMost>
     ensures bound { option_map (λ k. k.most) result ≡ options.now.keep }
+    ensures none { is_none result ≡ is_none options.now.keep }
     ensures empty { IfSome result (λ k. KeepsAll (λ _. None) (bounded_by k)) }
     ensures traces { IfSome result (λ k. TracesNothing (remembered_by k)) }
 {
@@ -149,7 +158,8 @@ fn bounded_cutting(alloc: Global, options: &Options) -> Option<KeepCutOffAtMost>
     }
 }
 
-/// Serves what is asked for over an empty keeper, and notes the engine's work, where that is asked for, too.
+/// Serves what is asked for over an empty keeper, which is exact just where no bound is asked for, and notes the engine's work, where
+/// that is asked for, too.
 fn serve_over<K: Keeper>(
     rt: &HostRuntime,
     options: &Options,
@@ -157,7 +167,8 @@ fn serve_over<K: Keeper>(
     keeper: K,
     work: &mut Option<Work>,
 ) -> Result<(), Failure>
-    requires { KeepsNothing K.contents K.memories keeper }
+    requires empty { KeepsNothing K.contents K.memories keeper }
+    requires unbounded { K.exact ≡ is_none options.now.keep }
 {
     let mut done = None;
     let served = match &options.socket {

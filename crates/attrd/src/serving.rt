@@ -1,6 +1,6 @@
 //! The connections of a socket, served one after the other.
 ghost use Rattle.std.specs.Prelude.{◌≡◌, ◌≤◌, ◌+◌, ◌<◌, ◌^◌, ◌==◌, IsTrue};
-ghost use Rattle.at_engine.specs.Engines.{rules_of, slice_of, state_of, IsSound};
+ghost use Rattle.at_engine.specs.Engines.{rules_of, slice_of, IsSound};
 ghost use Rattle.at_engine.specs.Keeping.{IsSpare, KeepsWhole};
 ghost use Rattle.attrd.specs.Connections.{counted, faults, lack, lacks, nobody};
 ghost use Rattle.attrd.specs.Doors.{ServesAll, ServesNext, ending};
@@ -111,8 +111,9 @@ impl Served {
 /// ends that connection alone; one that isn't accepted counts, too.
 pub fn serve<K: Keeper, D: Door>(engine: &mut Engine<K>, door: &mut D, n: u16) -> Served
     requires sound { IsSound K.contents K.memories engine.old }
-    ensures serves { ServesAll (rules_of engine.old) (slice_of engine.old) (state_of engine.old) (D.seen door.old) n
-        (state_of engine.new) (D.seen door.new) result }
+    ensures serves { ServesAll K.exact K.contents K.memories D.Reader.remaining D.Reader.failed D.Reader.ended D.Reader.reads
+        D.Writer.contents D.Writer.failed D.Writer.waits D.gathering
+        engine.old (D.seen door.old) n engine.new (D.seen door.new) result }
     ensures spare { KeepsWhole (rules_of engine.old) (lack result) → IsTrue K.exact → IsSpare K.contents engine.old → IsSpare K.contents engine.new }
     ensures ended { result.ended ≡ n }
     ensures faults { faults result + result.lacking ≤ n }
@@ -134,8 +135,9 @@ fn serve_next<K: Keeper, D: Door>(
     door: &mut D,
 ) -> Result<Report, ConnectionFault>
     requires sound { IsSound K.contents K.memories engine.old }
-    ensures serves { ServesNext (rules_of engine.old) (slice_of engine.old) (state_of engine.old) (state_of engine.new)
-        (D.seen door.old) (D.seen door.new) result }
+    ensures serves { ServesNext K.exact K.contents K.memories D.Reader.remaining D.Reader.failed D.Reader.ended D.Reader.reads
+        D.Writer.contents D.Writer.failed D.Writer.waits D.gathering
+        engine.old engine.new (D.seen door.old) (D.seen door.new) result }
     ensures spare { KeepsWhole (rules_of engine.old) (lacks result) → IsTrue K.exact → IsSpare K.contents engine.old → IsSpare K.contents engine.new }
     ensures rules { rules_of engine.new ≡ rules_of engine.old }
     ensures slice { slice_of engine.new ≡ slice_of engine.old }

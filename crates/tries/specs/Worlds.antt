@@ -1,9 +1,10 @@
 -- What holds of a world, and of the values that are named in it and known.
 use Rattle.std.specs.Prelude.{ℕ, Some, IsSome, option_map, ⊤}
+use Rattle.std.specs.List.{AllByRecursion}
 use Rattle.std.specs.Map.{lookup}
 use Rattle.at_model.specs.Instances.{AnyText}
 use Rattle.at_model.specs.Rules.{Kind}
-use Rattle.at_model.specs.Run.{Value, Ref, Instance, Known}
+use Rattle.at_model.specs.Run.{Value, Ref, Nodes, Instance, Known}
 use Rattle.at_model.specs.TypedRuns.{ClassAt, IsOfKind, IsOfItsKind, IsWellTyped}
 use Rattle.at_model.specs.WellFormed.{AreWellFormed, IsTreeSound}
 use Rattle.at_store.specs.Shown.{IsIdle, tree}
@@ -23,9 +24,10 @@ pub record IsSound (w : World) : Type 0 where
 abbrev pub classes_at : World → ClassAt ℕ
 classes_at w = class_shown w.store
 
--- the node to which the value refers, where it refers to one, is there
+-- the nodes to which the value refers, where it refers to any, are there
 abbrev pub RefersThere : World → Value ℕ → Type 0
 RefersThere w (Ref (Some n)) = IsSome (classes_at w n)
+RefersThere w (Nodes ns) = AllByRecursion (λ n. IsSome (classes_at w n)) ns
 RefersThere w v = ⊤
 
 -- the value is of the kind

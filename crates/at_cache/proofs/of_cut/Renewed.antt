@@ -89,54 +89,6 @@ module _ {lists : Location ℕ → List Edge} {puts : ℕ} {m mid : Memory} {x :
             let same : g ≡ f = same_Some g f (sym had ∙ found) in
             (e, there, subst (λ (n : Info). n ≡ with_users n.users e) same is)
 
-    -- without the entry
-    pub stale_tied : IsTied later (puts + 1) mid
-    stale_tied = record {
-      idle = λ k f found. let (g, there, is) = back k f found in ap (λ (n : Info). n.going) is ∙ tied.idle k g there;
-      known = λ k f found.
-          let (g, there, is) = back k f found in
-          let less = tied.known k g there in
-          let a = ap (λ (n : Info). n.stamp) is in
-          omega (arith, less, a);
-      used = λ k f found p h.
-          let (g, there, is) = back k f found in
-          let (a, in_p, edge) = tied_there m k g p (tied.used k g there p
-          (ap (λ (n : Info). list_any (nat_eq p) n.links) (sym is) ∙ h)) in
-          let (b, now, alike) = u.there p a in_p in
-          let c = u.users.keeps p (edge_to k g) (subst (λ es. Contains es (edge_to k g)) (sym (users_of m p a in_p))
-          (is_in a.users (edge_to k g) edge)) g there refl in
-          let it : edge_to k g ≡ edge_to k f = λ n. record { slot = k; stamp = (ap (λ (i : Info). i.stamp) (sym is)) n }
-          in
-          ap (λ (o : Option Info). elim o as (λ _. Bool) [ None ↦ false | Some g ↦ is_listed (edge_to k f) g.users ]) now
-          ∙ has b.users (edge_to k f) (subst (λ es. Contains es (edge_to k f)) (users_of mid p b now)
-          (subst (Contains (users_at mid p)) it c));
-      uses = λ p f found y h g at_y same.
-          let (a, in_p, is) = back p f found in
-          let (b, there, alike) = back y.slot g at_y in
-          elim (u.users.only p y (subst (λ es. Contains es y) (sym (users_of mid p f found)) (is_in f.users y h))) [
-            | inl c ↦
-                ap (λ (n : Info). list_any (nat_eq p) n.links) alike
-                ∙ tied.uses p a in_p y (has a.users y (subst (λ es. Contains es y) (users_of m p a in_p) c)) b there
-                (ap (λ (n : Info). n.stamp) (sym alike) ∙ same)
-            | inr (new_one, c) ↦
-                let less = tied.known y.slot b there in
-                let d = ap (λ (n : Info). n.stamp) alike in
-                let z = ap (λ (z : Edge). z.stamp) new_one in
-                absurd (omega (arith, less, d, z, same, stamp))
-          ];
-      past_readers = λ l y h. elim (r.only l y (is_in (later l) y h)) [
-        | inl c ↦ let less = tied.past_readers l y (has (lists l) y c) in omega (arith, less)
-        | inr (new_one, c) ↦ let a = ap (λ (z : Edge). z.stamp) new_one in omega (arith, a, stamp)
-      ];
-      past_users = λ p f found y h.
-          let (a, in_p, is) = back p f found in
-          elim (u.users.only p y (subst (λ es. Contains es y) (sym (users_of mid p f found)) (is_in f.users y h))) [
-            | inl c ↦ let less = tied.past_users p a in_p y (has a.users y
-                (subst (λ es. Contains es y) (users_of m p a in_p) c)) in omega (arith, less)
-            | inr (new_one, c) ↦ let z = ap (λ (z : Edge). z.stamp) new_one in omega (arith, z, stamp)
-          ];
-    }
-
     -- with the entry
     module _ {slot : ℕ} {new : Memory} (e : Info) (at_slot : x.slot ≡ slot) (its_stamp : e.stamp ≡ puts)
         (its_links : e.links ≡ uses)

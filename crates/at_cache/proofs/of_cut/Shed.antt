@@ -15,7 +15,7 @@ use Rattle.at_cache.specs.Kept.{KeepsAll}
 use Rattle.at_cache.specs.Recorded.{IsIndexed, edge_to, is_listed}
 use Rattle.at_cache.specs.Shedding.{AreHeld, LosesTraces, Sheds, ShedsAt, Shrinks}
 use Rattle.at_cache.specs.Standings.{AreValued, IsTaken, IsTied, but_for, held, instances_in, is_tied, kept_held, nothing, remembered, shown, standing_of, trace_of}
-use Rattle.at_cache.specs.Traced.{FlushesTraces, IsStill, Memories, StayTraced, Trace, TracesNothing}
+use Rattle.at_cache.specs.Traced.{FlushesTraces, IsStill, Memories, StayTraced, Trace}
 use Rattle.at_cache.proofs.Ending.{on_right}
 use Rattle.at_cache.proofs.Index.{kept_at}
 use Rattle.at_cache.proofs.Showing.{same_of}
@@ -224,12 +224,6 @@ module _ (lists : Location ℕ → List Edge) (t : Table) (ss ts : List Standing
       absurd (untraced k on)
 
 -- one after the other
-pub stays_still : (m : Memories) → StayTraced m m
-stays_still m i t h = record { traced = h; value = refl; uses = λ u c. refl }
-
-pub stays_nothing : (m n : Memories) → TracesNothing n → StayTraced m n
-stays_nothing m n none i t h = absurd (none-some t (sym (none i) ∙ h))
-
 still_then : (a b c : Memories) (i : Instance ℕ) (t : Trace) → StayTraced a b → IsStill b c i t → IsStill a c i t
 still_then a b c i t first next = let was = first i t next.traced in
     record { traced = was.traced; value = next.value ∙ was.value; uses = λ u h. next.uses u h ∙ was.uses u h }

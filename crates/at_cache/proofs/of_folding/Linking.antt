@@ -1,5 +1,5 @@
 -- The links of entries into which others are folded, and the memory that has them.
-use Rattle.std.proofs.Common.{◌≡◌, ◌⊎◌, inl, inr, ℕ, zero, suc, ◌<◌, ◌+◌, List, [], ◌∷◌, ◌++◌, length, Option, None, Some, Contains, slice_get, slice_set, refl, sym, ap, ◌∙◌, subst, arith}
+use Rattle.std.proofs.Common.{◌≡◌, ◌⊎◌, inl, inr, ℕ, zero, suc, ◌+◌, List, [], ◌∷◌, ◌++◌, Option, None, Some, Contains, slice_get, slice_set, refl, sym, ap, ◌∙◌, subst, arith}
 use Rattle.std.proofs.lemmas.Bool.{cases_eq}
 use Rattle.std.proofs.lemmas.Option.{none-some, same_Some}
 use Rattle.std.proofs.lemmas.List.Elements.{Contains-append_cases, Contains-append_left, Contains-append_right, Contains-push_cases}
@@ -8,7 +8,6 @@ use Rattle.at_cache.specs.Folding.{HasLinked, Linked, LinkedTo, Stays, listed_at
 use Rattle.at_cache.specs.Info.{Info, Memory}
 use Rattle.at_cache.proofs.Dooming.{head_of}
 use Rattle.at_cache.proofs.Gained.{get_other, get_same}
-use Rattle.at_cache.proofs.Moving.{within}
 use Rattle.at_cache.proofs.Taking.{none_in}
 use Rattle.at_cache.proofs.of_folding.Gathering.{only_one}
 
@@ -139,14 +138,6 @@ none_pushed xs new v is empty before r = ap (λ ys. slots_at ys r) is ∙ by xs 
     by [] h (suc r) = refl
     by (y ∷ ys) h zero = h zero
     by (y ∷ ys) h (suc r) = by ys (λ k. h (suc k)) r
-
--- a slot that has a list is one of those
-pub planned : (lists : List (SmallVec ℕ)) (s r : ℕ) → Contains (slots_at lists s) r → s < length lists
-planned lists s r c = by (slice_get lists s) refl c
-  where
-    by : (o : Option (SmallVec ℕ)) → slice_get lists s ≡ o → Contains (elim o [ None ↦ [] | Some v ↦ v.items ]) r → s < length lists
-    by None is d = absurd (none_in r d)
-    by (Some v) is d = within lists s v is
 
 module _ {m : Memory} {into : ℕ → List ℕ} where
   pub from_entry : (s : ℕ) (e : Info) {old new : ℕ → List ℕ} → m s ≡ Some e → LinkedTo into (into s) e.links old new → HasLinked m into s old new

@@ -55,12 +55,6 @@ module _ (there : Edge → Bool) (into : ℕ → List ℕ) where
   behind_all all left old new b none =
       subst (λ es. Gathered there into es old new) (sym (append-nil b.front) ∙ ap (λ es. b.front ++ es) (sym none) ∙ sym b.is) b.gathered
 
-  -- one row more
-  pub gathered_row : (rows : List Row) (i : ℕ) (d : Row) (old mid new : List ℕ) → i < length rows → Gathered there into (edges_along (take i rows)) old mid
-      → Gathered there into (edges_of (get_or rows i d)) mid new → Gathered there into (edges_along (take (i + 1) rows)) old new
-  gathered_row rows i d old mid new less a b =
-      subst (λ es. Gathered there into es old new) (sym (row_more rows i d less)) (gathered_then there into (edges_along (take i rows)) (edges_of (get_or rows i d)) a b)
-
   pub alone_row : (rows : List Row) (i : ℕ) (d : Row) → i < length rows → AreAlone there into (edges_along (take i rows))
       → AreAlone there into (edges_of (get_or rows i d)) → AreAlone there into (edges_along (take (i + 1) rows))
   alone_row rows i d less a b =

@@ -1,9 +1,8 @@
 -- Edges of a run, some of which go, and one of which comes.
-use Rattle.std.proofs.Common.{◌≡◌, ◌⊎◌, inl, inr, ℕ, ◌<◌, List, [], ◌∷◌, ◌++◌, Bool, true, false, cond, Option, None, Some, Contains, length, get_or, slice_get, slice_set, swap_remove, IsPermutation, nat_eq, if◌then◌else◌, refl, sym, ap, ◌∙◌, subst, eqb-true}
+use Rattle.std.proofs.Common.{◌≡◌, ◌⊎◌, inl, inr, ℕ, List, [], ◌∷◌, ◌++◌, Bool, true, false, cond, Option, None, Some, Contains, slice_get, slice_set, nat_eq, if◌then◌else◌, refl, sym, ap, ◌∙◌, subst, eqb-true}
 use Rattle.std.proofs.lemmas.Bool.{cases_eq, eq-eqb}
-use Rattle.std.proofs.lemmas.List.Elements.{Contains-append_left, Contains-push, Contains-push_cases}
-use Rattle.std.proofs.lemmas.List.Sorted.{Contains-permutation, IsPermutation-swap_remove, IsPermutation-sym}
-use Rattle.slab.proofs.SlabLemmas.{Contains-cons, Contains-cons_cases}
+use Rattle.std.proofs.lemmas.List.Elements.{Contains-append_left, Contains-push_cases}
+use Rattle.slab.proofs.SlabLemmas.{Contains-cons_cases}
 use Rattle.at_cache.specs.declared.edge.Edge.{Edge}
 use Rattle.at_cache.specs.declared.run.Reach.{Reach}
 use Rattle.at_cache.specs.declared.run.Run.{Run}
@@ -23,18 +22,6 @@ module _ {X : Type 0} {live : X → Bool} where
   pub holds_then : {old mid new : List X} → Holds live old mid → Holds live mid new → Holds live old new
   holds_then a b = record { keeps = λ x c on. b.keeps x (a.keeps x c on) on; from = λ x c. a.from x (b.from x c) }
 
-  -- one that isn't live goes
-  pub holds_swapped : {old new : List X} (i : ℕ) (x : X) → i < length old → x ≡ get_or old i x → live x ≡ false → new ≡ swap_remove old i x → Holds live old new
-  holds_swapped {old} {new} i x inside is stale swapped =
-      let shuffled : IsPermutation old (x ∷ new) = subst (λ ys. IsPermutation old (x ∷ ys)) (sym swapped) (IsPermutation-swap_remove old i x inside is) in
-      record {
-        keeps = λ y c on. elim (Contains-cons_cases x y new (Contains-permutation old (x ∷ new) y shuffled c)) [
-          | inl same ↦ absurd (let off = ap live same in cc)
-          | inr d ↦ d
-        ];
-        from = λ y c. Contains-permutation (x ∷ new) old y (IsPermutation-sym old (x ∷ new) shuffled) (Contains-cons x y new c);
-      }
-
   pub holds_popped : {old new : List X} (x : X) → old ≡ new ++ x ∷ [] → live x ≡ false → Holds live old new
   holds_popped {old} {new} x is stale = record {
     keeps = λ y c on. elim (Contains-push_cases new x y (subst (λ ys. Contains ys y) is c)) [
@@ -44,18 +31,8 @@ module _ {X : Type 0} {live : X → Bool} where
     from = λ y c. subst (λ ys. Contains ys y) (sym is) (Contains-append_left new (x ∷ []) y c);
   }
 
--- what comes behind what is left
-pub gains_pushed : {m : Memory} {x : Reach} {old mid new : List Reach} → HoldsReach m x.edge old mid → new ≡ mid ++ x ∷ [] → Gains m x old new
-gains_pushed {m} {x} {old} {mid} {new} h is = record {
-  keeps = λ r c on. subst (λ rs. Contains rs r) (sym is) (Contains-append_left mid (x ∷ []) r (h.keeps r c on));
-  only = λ r c. elim (Contains-push_cases mid x r (subst (λ rs. Contains rs r) is c)) [ inl d ↦ inl (h.from r d) | inr same ↦ inr (sym same) ];
-}
-
 pub gains_none : {m : Memory} {x : Reach} {old new : List Reach} → HoldsReach m x.edge old new → Gains m x old new
 gains_none h = record { keeps = h.keeps; only = λ r c. inl (h.from r c) }
-
-pub pushed_has : (mid : List Reach) {new : List Reach} (x : Reach) → new ≡ mid ++ x ∷ [] → Contains new x
-pushed_has mid x is = subst (λ rs. Contains rs x) (sym is) (Contains-push mid x)
 
 -- one edge over a place
 over_one : ℕ → Reach → List Edge

@@ -70,14 +70,7 @@ pub stays_added : {m : Memory} {x : Edge} {ls : List (Location ℕ)} {old new : 
     → (l : Location ℕ) → Contains (old l) x → Contains (new l) x
 stays_added {m} {x} a l c = a.keeps l x c (live_itself m x)
 
--- lists lose what isn't live before it, or behind it
-pub adds_behind : {m : Memory} {x : Edge} {ls : List (Location ℕ)} {old mid new : Location ℕ → List Edge}
-    → ((l : Location ℕ) → Holds (is_live m x) (old l) (mid l)) → AddsReads m x ls mid new → AddsReads m x ls old new
-adds_behind h a = record {
-  keeps = λ l y c on. a.keeps l y ((h l).keeps y c on) on;
-  only = λ l y c. elim (a.only l y c) [ inl d ↦ inl ((h l).from y d) | inr both ↦ inr both ];
-}
-
+-- lists lose what isn't live behind it
 pub adds_before : {m : Memory} {x : Edge} {ls : List (Location ℕ)} {old mid new : Location ℕ → List Edge}
     → AddsReads m x ls old mid → ((l : Location ℕ) → Holds (is_live m x) (mid l) (new l)) → AddsReads m x ls old new
 adds_before a h = record {
@@ -98,13 +91,6 @@ lists_kept m {x} b h = record {
   all = λ l c. elim (b.all l c) [ inl d ↦ inl ((h l).keeps x d (live_itself m x)) | inr e ↦ inr e ];
   rest = b.rest;
 }
-
--- nothing has changed yet
-pub adds_unchanged : (m : Memory) (x : Edge) (ls : List (Location ℕ)) (lists : Location ℕ → List Edge) → AddsReads m x ls lists lists
-adds_unchanged m x ls lists = record { keeps = λ l y c on. c; only = λ l y c. inl c }
-
-pub all_left : (x : Edge) (ls : List (Location ℕ)) (lists : Location ℕ → List Edge) → ListsBut x ls ls lists
-all_left x ls lists = record { all = λ l c. inr c; rest = λ l c. c }
 
 -- some of the locations have the edge, and others come to have it
 pub but_then : {x : Edge} {mid new : Location ℕ → List Edge} {all rest left : List (Location ℕ)} → ListsBut x all rest mid → Stays x mid new

@@ -1,5 +1,5 @@
 -- A find's value is kept, or the find comes to those that were found: what that says of what is known.
-use Rattle.std.proofs.Common.{◌≡◌, ◌⊎◌, ℕ, Bool, true, false, List, [], ◌∷◌, ◌++◌, length, Option, Some, None, Result, Ok, Err, IfOk, OnOk, inl, inr, refl, sym, ap, ◌∙◌, subst, if◌then◌else◌, true≢false, arith}
+use Rattle.std.proofs.Common.{◌≡◌, ◌⊎◌, ℕ, Bool, true, false, List, [], ◌∷◌, ◌++◌, Option, Some, None, Result, Ok, Err, IfOk, inl, inr, refl, sym, ap, ◌∙◌, subst, if◌then◌else◌, true≢false, arith}
 use Rattle.std.specs.Prelude.{IsErrAnd, IsSome, IsTrue}
 use Rattle.std.specs.Map.{lookup}
 use Rattle.std.specs.Option.{option_map}
@@ -11,14 +11,12 @@ use Rattle.at_body.specs.Same.{same_instance}
 use Rattle.at_body.specs.Values.{value_view}
 use Rattle.at_cache.specs.Kept.{Entries}
 use Rattle.at_cache.specs.Traced.{Memories}
-use Rattle.at_cache.specs.declared.keeper.Put.{Put}
 use Rattle.at_cache.specs.declared.keeper.Put.TheVariants as put
 use Rattle.at_demand.specs.declared.evaluation.Demanded.{Demanded}
 use Rattle.at_demand.specs.declared.evaluation.Find.{Find}
 use Rattle.at_demand.specs.declared.question.Question.{Question}
 use Rattle.at_demand.specs.Answerable.{CanBeKept}
-use Rattle.at_demand.specs.Groups.{CanBeFirst, CanBeOther, HasKeptFirst, HasPutLast, IsFirstAt, IsKeptOrFound, IsOtherFind, UsesFirst}
-use Rattle.at_demand.specs.Keeping.{IsKeptWhereLazy, SaysKept}
+use Rattle.at_demand.specs.Groups.{CanBeFirst, CanBeOther, HasKeptFirst, HasPutLast, IsFirstAt, IsOtherFind, UsesFirst}
 use Rattle.at_demand.specs.Known.{AreValued, IsKept, found_values, kept_values, known_in}
 use Rattle.at_demand.specs.Levels.{known_to}
 use Rattle.at_demand.proofs.Entered.{is_there}
@@ -105,38 +103,6 @@ can_follow rules entries q first place b i f can none is = record {
   unknown = none;
   plain = can.plain;
 }
-
-module _ (rules : Rules) (exact : Bool) (before after : Entries) (former latter : Memories) (earlier later : ℕ) (old new : Question) (i : Instance ℕ) (f : Find) where
-  -- it comes to those that were found, and is kept by an exact keeper where it is lazy
-  abbrev pub IsPutBehind : Type 0
-  IsPutBehind = (new.found.entries ≡ insert_entry same_instance old.found.entries i f) × (IsTrue exact → is_lazy rules i.attribute ≡ true → IsKept after i)
-
-  pub kept_or_found : {E : Type 0} (k : Result Put E) → IsKeptWhereLazy rules exact before after former latter earlier later old.found.entries i f k →
-      (new.found.entries ≡ old.found.entries) ⊎ IsPutBehind → new ≡ record old { found = new.found } →
-      IsKeptOrFound rules exact before after former latter earlier later old new i f
-  kept_or_found k h finds same = record {
-    adds = h.keeps.adds;
-    covers = h.keeps.covers;
-    gains = h.keeps.gains;
-    only = h.keeps.only;
-    plain = h.keeps.plain;
-    counts = h.keeps.counts;
-    traces = h.traces;
-    finds = finds;
-    same = same;
-  }
-
--- what is said of the keeping of a find
-pub says_kept : {E : Type 0} (after : Entries) (i : Instance ℕ) (f : Find) (k : Result Put E) → k ≡ Ok put.Kept → IfOk k (SaysKept after i f) → kept_values after i ≡ Some (value_view f.value)
-says_kept after i f k is h = subst (λ r. IfOk r (SaysKept after i f)) is h
-
-pub keeps_lazily : {E : Type 0} (after : Entries) (i : Instance ℕ) (k : Result Put E) (p : Put) → k ≡ Ok p → OnOk k (IsKept after i) → IsKept after i
-keeps_lazily after i k p is h = subst (λ r. OnOk r (IsKept after i)) is h
-
--- the place of a find that came last
-pub put_place : {E : Type 0} (old new : Question) (i : Instance ℕ) (f : Find) (r : Result ℕ E) (p : ℕ) → r ≡ Ok p → HasPutLast old new i f r →
-    (p ≡ length old.found.entries) × (new.found.entries ≡ insert_entry same_instance old.found.entries i f)
-put_place old new i f r p is h = subst (λ z. IfOk z (λ n. (n ≡ length old.found.entries) × (new.found.entries ≡ insert_entry same_instance old.found.entries i f))) is h.place
 
 pub put_behind : {E : Type 0} (rules : Rules) (exact : Bool) (after : Entries) (old new : Question) (i : Instance ℕ) (f : Find) (r : Result ℕ E) → HasPutLast old new i f r →
     (IsTrue exact → is_lazy rules i.attribute ≡ true → IsKept after i) →

@@ -148,9 +148,6 @@ module _ (rules : Rules) (s : Shown) (exact : Bool) where
       traces = t.traces;
     }
 
-    pub tells_wider : Tells rules s exact before after former latter earlier later old new those First
-    tells_wider = tells_so First t.spare
-
   -- one step, and another one
   module _ (before between after : Entries) (former among' latter : Memories) (earlier meanwhile later : ℕ)
       (old mid new : Question)

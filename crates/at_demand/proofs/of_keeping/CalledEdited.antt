@@ -2,7 +2,7 @@
 use Rattle.std.proofs.Common.{◌≡◌, ◌↔◌, ℕ, false, nat_eq, List, Option, Some, sym, ap, ◌∙◌, subst}
 use Rattle.at_model.specs.Trees.{Tree}
 use Rattle.at_model.specs.Paths.{Node, node_eq}
-use Rattle.at_model.specs.Run.{Value, Instance, Location, Is, Tok, Slot, Up, Idx, Contents}
+use Rattle.at_model.specs.Run.{Value, Instance, Location, Is, Tok, Slot, Up, Idx, Drawer, Contents}
 use Rattle.at_model.specs.Rules.{Rules}
 use Rattle.at_model.specs.Meaning.{content}
 use Rattle.at_model.specs.of_fixpoints.Evaluations.{forms}
@@ -10,9 +10,9 @@ use Rattle.at_model.specs.of_fixpoints.Fixpoints.{HasValue}
 use Rattle.at_model.specs.of_fixpoints.Formulas.{Forms}
 use Rattle.at_model.specs.of_fixpoints.Likeness.{FormsLike}
 use Rattle.at_model.specs.of_fixpoints.Resting.{IsUntouched, Supports}
-use Rattle.at_model.specs.Alike.{neither, both, ListLike, end, more, ValueLike, int, truth, text, ref, InstanceLike, LocationLike, is, tok, slot, up, idx, Names, IsInjective, AlikeAt}
+use Rattle.at_model.specs.Alike.{neither, both, ListLike, end, more, ValueLike, int, truth, text, ref, nodes, InstanceLike, LocationLike, is, tok, slot, up, idx, drawer, Names, IsInjective, AlikeAt}
 use Rattle.at_model.specs.Edits.{Edit, carried}
-use Rattle.at_model.specs.Touches.{touches}
+use Rattle.at_model.specs.Touches.{touches_in}
 use Rattle.at_model.proofs.of_likeness.CarryingCircles.{names_agree}
 use Rattle.at_model.proofs.of_formulas.CarriedByFormulas.{supports_back, supports_there}
 use Rattle.at_model.proofs.of_formulas.FormulasAlike.{evaluation-like}
@@ -22,12 +22,17 @@ use Rattle.at_demand.proofs.of_keeping.CalledAsked.{Called}
 
 -- from the one relation and the other to a third one
 module _ {A B C : Type 0} {R : A → B → Type 0} {S : B → C → Type 0} {T : A → C → Type 0} (join : (a : A) (b : B) (c : C) → R a b → S b c → T a c) where
+  nodes_joined : {ns : List A} {ms : List B} {ks : List C} → ListLike R ns ms → ListLike S ms ks → ListLike T ns ks
+  nodes_joined end end = end
+  nodes_joined (more r rs) (more s ss) = more (join _ _ _ r s) (nodes_joined rs ss)
+
   value_joined : {v : Value A} {w : Value B} {x : Value C} → ValueLike R v w → ValueLike S w x → ValueLike T v x
   value_joined (int n) (int _) = int n
   value_joined (truth b) (truth _) = truth b
   value_joined (text bytes) (text _) = text bytes
   value_joined (ref neither) (ref neither) = ref neither
   value_joined (ref (both r)) (ref (both s)) = ref (both (join _ _ _ r s))
+  value_joined (nodes rs) (nodes ss) = nodes (nodes_joined rs ss)
 
   values_joined : {vs : List (Value A)} {ws : List (Value B)} {xs : List (Value C)} → ListLike (ValueLike R) vs ws → ListLike (ValueLike S) ws xs → ListLike (ValueLike T) vs xs
   values_joined end end = end
@@ -38,12 +43,17 @@ module _ {A B C : Type 0} {R : A → B → Type 0} {S : B → C → Type 0} {T :
 
 -- the other way round
 module _ {A B : Type 0} {R : A → B → Type 0} where
+  nodes_turned : {ns : List A} {ms : List B} → ListLike R ns ms → ListLike (λ b a. R a b) ms ns
+  nodes_turned end = end
+  nodes_turned (more r rs) = more r (nodes_turned rs)
+
   value_turned : {v : Value A} {w : Value B} → ValueLike R v w → ValueLike (λ b a. R a b) w v
   value_turned (int n) = int n
   value_turned (truth b) = truth b
   value_turned (text bytes) = text bytes
   value_turned (ref neither) = ref neither
   value_turned (ref (both r)) = ref (both r)
+  value_turned (nodes rs) = nodes (nodes_turned rs)
 
   values_turned : {vs : List (Value A)} {ws : List (Value B)} → ListLike (ValueLike R) vs ws → ListLike (ValueLike (λ b a. R a b)) ws vs
   values_turned end = end
@@ -62,6 +72,7 @@ one_location path (tok part r) (tok _ s) = ap (λ n. Tok n part) (same_name _ _ 
 one_location path (slot part r) (slot _ s) = ap (λ n. Slot n part) (same_name _ _ _ r s)
 one_location path (up r) (up s) = ap Up (same_name _ _ _ r s)
 one_location path (idx r) (idx s) = ap Idx (same_name _ _ _ r s)
+one_location path (drawer part key mark r) (drawer _ _ _ s) = ap (λ n. Drawer n part key mark) (same_name _ _ _ r s)
 
 module _ (rules : Rules) (e : Edit) (t : Tree) (look : Contents ℕ) (path later : ℕ → Option Node) (named_once : IsInjective path) (alike : (l : Location ℕ) → AlikeAt (Names path) look (content t) l)
     (goes : (k : ℕ) (n : Node) → path k ≡ Some n → later k ≡ carried e n) where
@@ -76,7 +87,8 @@ module _ (rules : Rules) (e : Edit) (t : Tree) (look : Contents ℕ) (path later
 
   -- the edit touches nothing that supports the instance
   abbrev pub IsFree : Instance ℕ → Type 0
-  IsFree i = (l : Location ℕ) → Supports look means l i → (m : Location Node) → LocationLike (Names path) l m → touches e m ≡ false
+  IsFree i = (l : Location ℕ) → Supports look means l i → (m : Location Node) → LocationLike (Names path) l m
+      → touches_in t e m ≡ false
 
   module _ (Old New : Instance ℕ → Type 0) (there : (i : Instance ℕ) → Old i → (j : Instance Node) × Like i j) (valued : (i : Instance ℕ) → Old i → (v : Value ℕ) × HasValue look means i v) (just : (i : Instance ℕ) → New i ↔ (Old i × IsFree i)) where
     abbrev pub Stays : Instance Node → Type 0
@@ -92,7 +104,7 @@ module _ (rules : Rules) (e : Edit) (t : Tree) (look : Contents ℕ) (path later
     free_here i j s free l rests m u =
         let (n, w, after) = supports_there (names_agree path named_once) look (content t) means (forms rules) like i j l
         (s, λ l h. alike l) rests in
-        subst (λ x. touches e x ≡ false) (one_location path w u) (free n after)
+        subst (λ x. touches_in t e x ≡ false) (one_location path w u) (free n after)
 
     -- just what isn't touched stays, under the paths to which its nodes are carried
     pub called_edited : (j : Instance Node) → Called later New j ↔ Stays j

@@ -3,8 +3,8 @@ use Rattle.std.proofs.Common.{◌≡◌, ℕ, true, false, nat_eq, List, [], ◌
 use Rattle.at_model.specs.Classes.{Classes}
 use Rattle.at_model.specs.Trees.{Tree, conforms}
 use Rattle.at_model.specs.Paths.{Node, node_eq, tree_at}
-use Rattle.at_model.specs.Run.{Value, Ref, Instance, Location, Is, Tok, Slot, Up, Idx, Run, Contents}
-use Rattle.at_model.specs.Rules.{Rules, past_arguments}
+use Rattle.at_model.specs.Run.{Value, Ref, Nodes, Instance, Location, Is, Tok, Slot, Up, Idx, Drawer, Run, Contents}
+use Rattle.at_model.specs.Rules.{Rules, past_nodes, past_arguments}
 use Rattle.at_model.specs.Meaning.{Finds, content}
 use Rattle.at_model.specs.Support.{Sees}
 use Rattle.at_model.specs.of_fixpoints.Evaluations.{evaluation, forms}
@@ -12,13 +12,14 @@ use Rattle.at_model.specs.of_fixpoints.Fixpoints.{HasValue, Holds}
 use Rattle.at_model.specs.of_fixpoints.Formulas.{Forms}
 use Rattle.at_model.specs.of_fixpoints.Likeness.{AlikeBelow, FormsLike}
 use Rattle.at_model.specs.of_fixpoints.Resting.{Leads, stays, Supports}
-use Rattle.at_model.specs.Alike.{OptionLike, neither, both, ListLike, end, more, ValueLike, int, truth, text, ref, InstanceLike, LocationLike, is, tok, slot, up, idx, Names, IsInjective, AlikeAt}
+use Rattle.at_model.specs.Alike.{OptionLike, neither, both, ListLike, end, more, ValueLike, int, truth, text, ref, nodes, InstanceLike, LocationLike, is, tok, slot, up, idx, drawer, Names, IsInjective, AlikeAt}
 use Rattle.at_model.specs.Edits.{Edit, carried, edited}
-use Rattle.at_model.specs.Touches.{touches}
+use Rattle.at_model.specs.Touches.{touches, shifts, touches_in}
 use Rattle.at_model.proofs.of_likeness.CarryingCircles.{Agrees, names_agree}
 use Rattle.at_model.proofs.of_formulas.CarriedByFormulas.{outcome_there, leads_back, supports_back, supports_there}
 use Rattle.at_model.proofs.of_formulas.EndsAlike.{found_like}
 use Rattle.at_model.proofs.of_formulas.FormulasAlike.{evaluation-like}
+use Rattle.at_model.proofs.GrammarKept.{or_off}
 use Rattle.at_model.proofs.Nodes.{same_like, nat_eq-is, node_eq-is}
 use Rattle.at_model.proofs.of_edits.Edited.{edited_alike, gone_where_touched}
 
@@ -42,12 +43,18 @@ module _ {A B C D : Type 0} {P : A → B → Type 0} {Q : B → C → Type 0} {R
 
 -- values and locations of numbers that are the same
 module _ {R : ℕ → ℕ → Type 0} (same : (a b : ℕ) → R a b → a ≡ b) where
+  same_nodes : {ns ms : List ℕ} → ListLike R ns ms → ns ≡ ms
+  same_nodes end = refl
+  same_nodes (more {a = a} {b = b} {as' = ns} {bs = ms} r rs) =
+      ap (λ n. n ∷ ns) (same a b r) ∙ ap (λ xs. b ∷ xs) (same_nodes rs)
+
   pub same_value : {v w : Value ℕ} → ValueLike R v w → v ≡ w
   same_value (int n) = refl
   same_value (truth b) = refl
   same_value (text bytes) = refl
   same_value (ref neither) = refl
   same_value (ref (both r)) = ap (λ n. Ref (Some n)) (same _ _ r)
+  same_value (nodes rs) = ap (λ ns. Nodes ns) (same_nodes rs)
 
   pub same_location : {l m : Location ℕ} → LocationLike R l m → l ≡ m
   same_location (is r) = ap Is (same _ _ r)
@@ -55,6 +62,7 @@ module _ {R : ℕ → ℕ → Type 0} (same : (a b : ℕ) → R a b → a ≡ b)
   same_location (slot part r) = ap (λ n. Slot n part) (same _ _ r)
   same_location (up r) = ap Up (same _ _ r)
   same_location (idx r) = ap Idx (same _ _ r)
+  same_location (drawer part key mark r) = ap (λ n. Drawer n part key mark) (same _ _ r)
 
   cons_same : (v w : Value ℕ) (vs ws : List (Value ℕ)) → v ≡ w → vs ≡ ws → v ∷ vs ≡ w ∷ ws
   cons_same v w vs ws e f = ap (λ x. x ∷ vs) e ∙ ap (λ xs. w ∷ xs) f
@@ -70,6 +78,21 @@ module _ {R : ℕ → ℕ → Type 0} (same : (a b : ℕ) → R a b → a ≡ b)
   same_instance i j s =
       ap (λ n. instance n i.attribute i.arguments) (same _ _ s.node) ∙ ap (λ a. instance j.node a i.arguments) s.attribute ∙ ap (λ vs. instance j.node j.attribute vs) (same_values s.arguments)
 
+-- what looks at nodes
+nodes_stay : (path : ℕ → Option Node) (e : Edit) (look : Contents ℕ) (Has : Instance ℕ → Value ℕ → Type 0) {A : Type 0}
+    (r : Run ℕ A) {ns : List ℕ} {ms : List Node} → ListLike (Names path) ns ms
+    → ((n : ℕ) (m : Node) → path n ≡ Some m → Sees look Has (past_nodes ns r) (Is n) → Stays path e n n)
+    → ListLike (Stays path e) ns ns
+nodes_stay path e look Has r end h = end
+nodes_stay path e look Has r (more p ps) h =
+    more (h _ _ p (inl refl)) (nodes_stay path e look Has r ps (λ n m q s. h n m q (inr s)))
+
+-- what stands behind them is seen
+seen_past : (look : Contents ℕ) (Has : Instance ℕ → Value ℕ → Type 0) {A : Type 0} (r : Run ℕ A) (ns : List ℕ)
+    (l : Location ℕ) → Sees look Has r l → Sees look Has (past_nodes ns r) l
+seen_past look Has r [] l s = s
+seen_past look Has r (n ∷ ns) l s = inr (seen_past look Has r ns l s)
+
 -- what looks at the nodes among the arguments
 arguments_stay : (path : ℕ → Option Node) (e : Edit) (look : Contents ℕ) (Has : Instance ℕ → Value ℕ → Type 0) {A : Type 0} (r : Run ℕ A) {vs : List (Value ℕ)} {ws : List (Value Node)} → ListLike (ValueLike (Names path)) vs ws →
     ((n : ℕ) (m : Node) → path n ≡ Some m → Sees look Has (past_arguments vs r) (Is n) → Stays path e n n) → ListLike (ValueLike (Stays path e)) vs vs
@@ -79,15 +102,23 @@ arguments_stay path e look Has r (more (truth b) vs) h = more (truth b) (argumen
 arguments_stay path e look Has r (more (text bytes) vs) h = more (text bytes) (arguments_stay path e look Has r vs h)
 arguments_stay path e look Has r (more (ref neither) vs) h = more (ref neither) (arguments_stay path e look Has r vs h)
 arguments_stay path e look Has r (more (ref (both p)) vs) h = more (ref (both (h _ _ p (inl refl)))) (arguments_stay path e look Has r vs (λ n m q s. h n m q (inr s)))
+arguments_stay path e look Has r (more {as' = ws} (nodes {ns = ns} ps) vs) h =
+    more (nodes (nodes_stay path e look Has (past_arguments ws r) ps h))
+    (arguments_stay path e look Has r vs (λ n m q s. h n m q (seen_past look Has (past_arguments ws r) ns (Is n) s)))
 
 -- numbers that stay, under the paths to which their nodes are carried
 module _ {R : ℕ → ℕ → Type 0} (later : ℕ → Option Node) (named : (a b : ℕ) → R a b → (m : Node) × (later b ≡ Some m)) where
+  nodes_named : {ns ms : List ℕ} → ListLike R ns ms → (xs : List Node) × ListLike (Names later) ms xs
+  nodes_named end = ([], end)
+  nodes_named (more r rs) = let (m, p) = named _ _ r in let (xs, ps) = nodes_named rs in (m ∷ xs, more p ps)
+
   value_named : {v w : Value ℕ} → ValueLike R v w → (x : Value Node) × ValueLike (Names later) w x
   value_named (int n) = (_, int n)
   value_named (truth b) = (_, truth b)
   value_named (text bytes) = (_, text bytes)
   value_named (ref neither) = (_, ref neither)
   value_named (ref (both r)) = let (m, p) = named _ _ r in (Ref (Some m), ref (both p))
+  value_named (nodes rs) = let (xs, ps) = nodes_named rs in (Nodes xs, nodes ps)
 
   values_named : {vs ws : List (Value ℕ)} → ListLike (ValueLike R) vs ws → (xs : List (Value Node)) × ListLike (ValueLike (Names later)) ws xs
   values_named end = ([], end)
@@ -128,9 +159,9 @@ module _ (rules : Rules) {e : Edit} {t u : Tree} {path later : ℕ → Option No
 
   -- all that is like the location by paths isn't touched
   abbrev pub Untouched : Location ℕ → Type 0
-  Untouched l = (m : Location Node) → LocationLike (Names path) l m → touches e m ≡ false
+  Untouched l = (m : Location Node) → LocationLike (Names path) l m → touches_in t e m ≡ false
 
-  by_paths : (m : Location Node) → touches e m ≡ false → AlikeAt (Names (carried e)) (content t) (content u) m
+  by_paths : (m : Location Node) → touches_in t e m ≡ false → AlikeAt (Names (carried e)) (content t) (content u) m
   by_paths m free = edited_alike rules.classes t over.conforming e u over.accepted m free
 
   -- what isn't touched shows the same numbers
@@ -145,6 +176,13 @@ module _ (rules : Rules) {e : Edit} {t u : Tree} {path later : ℕ → Option No
       option_round joined_up (over.shown (Up a) (Up s.was) (up s.named)) (by_paths (Up s.was) (free (Up s.was) (up s.named)) (Up s.goes) (up s.carries)) (over.shown_later (Up b) (Up s.goes) (up (named_later a b s)))
   alike_there _ free _ (idx {n = a} {m = b} s) =
       over.shown (Idx a) (Idx s.was) (idx s.named) ∙ by_paths (Idx s.was) (free (Idx s.was) (idx s.named)) (Idx s.goes) (idx s.carries) ∙ sym (over.shown_later (Idx b) (Idx s.goes) (idx (named_later a b s)))
+  alike_there _ free _ (drawer {n = a} {m = b} part key mark s) =
+      list_round joined
+      (over.shown (Drawer a part key mark) (Drawer s.was part key mark) (drawer part key mark s.named))
+      (by_paths (Drawer s.was part key mark) (free (Drawer s.was part key mark) (drawer part key mark s.named))
+      (Drawer s.goes part key mark) (drawer part key mark s.carries))
+      (over.shown_later (Drawer b part key mark) (Drawer s.goes part key mark)
+      (drawer part key mark (named_later a b s)))
 
   stays_agree : Agrees (Stays path e)
   stays_agree a b c d r s = (λ q. sym r.same ∙ q ∙ s.same, λ q. r.same ∙ q ∙ sym s.same)
@@ -155,7 +193,9 @@ module _ (rules : Rules) {e : Edit} {t u : Tree} {path later : ℕ → Option No
   pub node_stays : (n : ℕ) (m : Node) → path n ≡ Some m → Untouched (Is n) → Stays path e n n
   node_stays n m p free =
       let (v, found) = over.there n m p in
-      let (x, carries) = goes_on (carried e m) (gone_where_touched rules.classes t u e over.accepted m v found ∙ free (Is m) (is p)) in
+      let still = (or_off (touches e (Is m)) (shifts t e (Is m)) (free (Is m) (is p))).0 in
+      let gone = gone_where_touched rules.classes t u e over.accepted m v found in
+      let (x, carries) = goes_on (carried e m) (gone ∙ still) in
       record { same = refl; was = m; goes = x; named = p; carries = carries }
 
   -- an instance of the tree that rests on nothing that is touched

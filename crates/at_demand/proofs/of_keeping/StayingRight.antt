@@ -8,7 +8,7 @@ use Rattle.at_model.specs.Classes.{Classes}
 use Rattle.at_model.specs.of_fixpoints.Resting.{Supports}
 use Rattle.at_model.specs.Alike.{LocationLike, Names}
 use Rattle.at_model.specs.Edits.{Edit, edited, left_by}
-use Rattle.at_model.specs.Touches.{touches}
+use Rattle.at_model.specs.Touches.{touches_in}
 use Rattle.at_model.proofs.of_edits.Conforming.{accepted}
 use Rattle.at_store.specs.Memory.{class_in}
 use Rattle.at_store.specs.View.{memory_of}
@@ -39,14 +39,17 @@ module _ (rules : Rules) (old new : Shown) (e : Edit) (t : Tree) (idle : IsIdle 
     shown_later = contents_alike (class_in (memory_of new.slab)) (numbers new) done.idle.keeps.apart;
   }
 
-  module _ (says : Location ℕ → Bool → Type 0) (true_to : (l : Location ℕ) (m : Location Node) → says l false → LocationLike (Names (path old)) l m → touches e m ≡ false)
+  module _ (says : Location ℕ → Bool → Type 0)
+      (true_to : (l : Location ℕ) (m : Location Node) → says l false → LocationLike (Names (path old)) l m
+      → touches_in (tree old) e m ≡ false)
       (before later : Entries) (right : AreRight rules old before) (leaves : LeavesUntouched says before later) where
     -- an entry that is left
     module _ (i : Instance ℕ) (k : Kept) (left : later i ≡ Some k) where
       was : before i ≡ Some k
       was = (leaves i k left).0
 
-      free : (l : Location ℕ) → Supports (contents old) (meaning rules) l i → (m : Location Node) → LocationLike (Names (path old)) l m → touches e m ≡ false
+      free : (l : Location ℕ) → Supports (contents old) (meaning rules) l i → (m : Location Node)
+          → LocationLike (Names (path old)) l m → touches_in (tree old) e m ≡ false
       free l rests m like = true_to l m ((leaves i k left).1 l (right.covers i k was l rests)) like
 
       had : IsValued rules old i

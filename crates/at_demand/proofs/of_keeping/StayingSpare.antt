@@ -9,7 +9,7 @@ use Rattle.at_model.specs.of_fixpoints.Fixpoints.{HasValue}
 use Rattle.at_model.specs.of_fixpoints.Resting.{Leads, Supports}
 use Rattle.at_model.specs.Alike.{InstanceLike, LocationLike, Names, IsInjective}
 use Rattle.at_model.specs.Edits.{Edit}
-use Rattle.at_model.specs.Touches.{touches}
+use Rattle.at_model.specs.Touches.{touches_in}
 use Rattle.at_cache.specs.Kept.{Kept, Entries, LeavesUntouched, LosesTouched, value_at}
 use Rattle.at_demand.specs.Known.{meaning}
 use Rattle.at_demand.specs.Sparing.{IsDeep, AreSpare}
@@ -21,17 +21,18 @@ pub some_kept : (o : Option Kept) → IsSome o → (k : Kept) × (o ≡ Some k)
 some_kept None some = absurd (true≢false (sym some))
 some_kept (Some k) some = (k, refl)
 
--- the answer for a location is whether the edit touches it, where it is one of the tree
-abbrev pub Says : (ℕ → Option Node) → Edit → Location ℕ → Bool → Type 0
-Says path e l b = (m : Location Node) → LocationLike (Names path) l m → touches e m ≡ b
+-- the answer for a location is whether the edit of the tree touches it, where it is one of the tree
+abbrev pub Says : (ℕ → Option Node) → Tree → Edit → Location ℕ → Bool → Type 0
+Says path t e l b = (m : Location Node) → LocationLike (Names path) l m → touches_in t e m ≡ b
 
 module _ (rules : Rules) {e : Edit} {t u : Tree} {path later : ℕ → Option Node} {old new : Contents ℕ} (over : IsOver rules.classes e t u path later old new) (named_once : IsInjective path) (before after : Entries)
     (valued : (i : Instance ℕ) (k : Kept) → before i ≡ Some k → (v : Value ℕ) × HasValue old (meaning rules) i v)
     (there : (i : Instance ℕ) (k : Kept) → before i ≡ Some k → (j : Instance Node) × InstanceLike (Names path) i j)
     (covers : (i : Instance ℕ) (k : Kept) → before i ≡ Some k → (l : Location ℕ) → Supports old (meaning rules) l i → k.covers l ≡ true)
-    (spare : AreSpare rules old before) (leaves : LeavesUntouched (Says path e) before after) (loses : LosesTouched (Says path e) before after) where
+    (spare : AreSpare rules old before) (leaves : LeavesUntouched (Says path t e) before after)
+    (loses : LosesTouched (Says path t e) before after) where
   abbrev pub IsFree : Instance ℕ → Type 0
-  IsFree i = (l : Location ℕ) → Supports old (meaning rules) l i → Says path e l false
+  IsFree i = (l : Location ℕ) → Supports old (meaning rules) l i → Says path t e l false
 
   -- what is left
   module _ (i : Instance ℕ) (k : Kept) (left : after i ≡ Some k) where

@@ -647,15 +647,6 @@ module _ (rules : Rules) (s : Shown) (exact : Bool) (before after : Entries) (fo
     since = h.since;
   }
 
-  pub looked_err : (r : Result Resolved AllocError) (e : AllocError) → HasResolved {E = AllocError} rules s exact before after former latter earlier later old new i r →
-      HasLookedAt {E = AllocError} rules s exact before after former latter earlier later old new i (Err e)
-  looked_err r e h = record {
-    tells = tells_where rules s exact before after former latter earlier later (keeps_groups rules r) old new (under (all_levels old)) h.tells;
-    can = tt;
-    is = tt;
-    since = h.since;
-  }
-
 -- the last level of a question
 module _ (rules : Rules) (s : Shown) (before : Entries) (old mid : Question) (set : List (Instance ℕ)) (is : set ≡ reverse (seen_in old.level))
     (lost : HasLostSeen old mid) (can : CanSolveLevel rules s before old) where

@@ -1,12 +1,12 @@
 -- What a well-typed instance leads to is well typed, and where it has a value it is whole: all of it stands in a list.
 use Rattle.std.proofs.Common.{◌≡◌, ℕ, zero, suc, ◌+◌, ◌*◌, ◌≤◌, nat_eq, length, List, [], ◌∷◌, map, Option, Some, None, ◌++◌, refl, sym, ap, ◌∙◌, subst, arith}
 use Rattle.at_model.specs.Asking.{IsWellFormed}
-use Rattle.at_model.specs.Alike.{InstanceLike, ListLike, ValueLike, Names, both, end, int, more, neither, ref, text, truth}
+use Rattle.at_model.specs.Alike.{InstanceLike, ListLike, ValueLike, Names, both, end, int, more, neither, nodes, ref, text, truth}
 use Rattle.at_model.specs.Instances.{AnyText, instances}
 use Rattle.at_model.specs.Meaning.{Among, Answer, content}
 use Rattle.at_model.specs.Paths.{Node, node_eq, tree_at}
 use Rattle.at_model.specs.Rules.{Rules}
-use Rattle.at_model.specs.Run.{Value, Int, Truth, Text, Ref, Instance, Contents, Known}
+use Rattle.at_model.specs.Run.{Value, Int, Truth, Text, Ref, Nodes, Instance, Contents, Known}
 use Rattle.at_model.specs.Trees.{Tree, class_of}
 use Rattle.at_model.specs.TypedRuns.{IsWellTyped, class_at}
 use Rattle.at_model.specs.WellFormed.{AreWellFormed, IsTreeSound}
@@ -60,6 +60,7 @@ numbered_value t (Truth b) = Truth b
 numbered_value t (Text bytes) = Text bytes
 numbered_value t (Ref None) = Ref None
 numbered_value t (Ref (Some n)) = Ref (Some (number_at t n))
+numbered_value t (Nodes ns) = Nodes (map (number_at t) ns)
 
 abbrev numbered_values : Tree → List (Value Node) → List (Value ℕ)
 numbered_values t [] = []
@@ -71,12 +72,19 @@ numbered t j = record { node = number_at t j.node; attribute = j.attribute; argu
 number_is : (t : Tree) (k : ℕ) (n : Node) → path_in k t ≡ Some n → number_at t n ≡ k
 number_is t k n e = let (u, there, is) = number_found t k n e in ap (λ o. number_of o) there ∙ is
 
+nodes_are : (t : Tree) {ks : List ℕ} {ns : List Node} → ListLike (Names (λ k. path_in k t)) ks ns →
+    map (number_at t) ns ≡ ks
+nodes_are t end = refl
+nodes_are t (more {a = k} {b = n} {as' = ks} {bs = ns} e es) =
+    ap (λ x. x ∷ map (number_at t) ns) (number_is t k n e) ∙ ap (λ xs. k ∷ xs) (nodes_are t es)
+
 value_is : (t : Tree) {v : Value ℕ} {w : Value Node} → ValueLike (Names (λ k. path_in k t)) v w → numbered_value t w ≡ v
 value_is t (int n) = refl
 value_is t (truth b) = refl
 value_is t (text bytes) = refl
 value_is t (ref neither) = refl
 value_is t (ref (both {a = k} {b = n} e)) = ap (λ m. Ref (Some m)) (number_is t k n e)
+value_is t (nodes rs) = ap (λ ks. Nodes ks) (nodes_are t rs)
 
 values_are : (t : Tree) {vs : List (Value ℕ)} {ws : List (Value Node)} → ListLike (ValueLike (Names (λ k. path_in k t))) vs ws →
     numbered_values t ws ≡ vs

@@ -260,12 +260,6 @@ module _ (rules : Rules) (s : Shown) (exact : Bool) (p : Place) where
 
 -- where an expression has that form
 module _ (rules : Rules) (s : Shown) (exact : Bool) where
-  pub come_as : {E : Type 0} (res : Result ValueCode E) (h : Held) (old new : Level) (p : Place) (b : Body) (e : Expr) →
-      body_view b ≡ e → IfOk res (λ v. HasCome rules (contents s) h old new (ev rules.classes e p) (value_view v)) →
-      IfOk res (λ v. HasCome rules (contents s) h old new (run_at rules p b) (value_view v))
-  come_as res h old new p b e is c = subst (λ x. IfOk res (λ v. HasCome rules (contents s) h old new (ev rules.classes x
-      p) (value_view v))) (sym is) c
-
   pub gains_as : (old new : Held) (p : Place) (b : Body) (e : Expr) → body_view b ≡ e →
       HasGained rules s exact (ev rules.classes e p) old new → HasGained rules s exact (run_at rules p b) old new
   gains_as old new p b e is g = subst (λ z. HasGained rules s exact (ev rules.classes z p) old new) (sym is) g

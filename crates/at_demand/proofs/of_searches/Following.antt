@@ -1,5 +1,5 @@
 -- What follows between two tries of a question: past what is known, and where more is told or less is kept.
-use Rattle.std.proofs.Common.{◌≡◌, ◌⊎◌, ℕ, List, ◌∷◌, Option, Some, inl, inr, refl, sym, subst}
+use Rattle.std.proofs.Common.{◌≡◌, ◌⊎◌, ℕ, List, ◌∷◌, Option, Some, inl, inr, sym, subst}
 use Rattle.at_model.specs.Meaning.{Among, Answer, Faults, Finds, Outcome}
 use Rattle.at_model.specs.Run.{Value, Instance, Contents, Known}
 use Rattle.at_model.specs.of_fixpoints.Formulas.{Forms}

@@ -26,14 +26,14 @@ use Rattle.at_demand.specs.declared.trying.Tried.{Tried}
 use Rattle.at_demand.specs.declared.trying.Tried.TheVariants as tried
 use Rattle.at_demand.specs.declared.trying.Trying.{Trying}
 use Rattle.at_demand.specs.InTurns.{PutsInTurns}
-use Rattle.at_demand.specs.Answerable.{CanBeTried, CanTurn}
+use Rattle.at_demand.specs.Answerable.{CanTurn}
 use Rattle.at_demand.specs.Answered.{HasTurnedOn}
 use Rattle.at_demand.specs.Forming.{waits_for}
 use Rattle.at_demand.specs.Groups.{Tells}
 use Rattle.at_demand.specs.Known.{meaning}
 use Rattle.at_demand.specs.LastTried.{CanForm, HasFormed, IsDeeperLast}
 use Rattle.at_demand.specs.Levels.{IsFormOf, all_levels, known_to}
-use Rattle.at_demand.specs.Searches.{CanClose, CanResolve, CanSpoil, CanTryLast, HasClosed, HasResolved, HasSpoilt, IsResolved}
+use Rattle.at_demand.specs.Searches.{CanClose, CanResolve, CanSpoil, HasClosed, HasResolved, HasSpoilt, IsResolved}
 use Rattle.at_demand.specs.Tries.{CanCarryOn, HasCarriedOn, NeedsOther}
 use Rattle.at_demand.specs.Turns.{GainsInChain, HasMetAll, under_way}
 use Rattle.at_demand.proofs.Entered.{not_none}
@@ -48,13 +48,6 @@ use Rattle.at_demand.proofs.of_steps.TriedGains.{at_most, carried_most, chain_id
 use Rattle.at_demand.proofs.of_steps.TriedOn.{gains_since, resolves_at, search_at, sound_at, standing_at, tries_on, turn_at, waits_trying}
 use Rattle.at_demand.proofs.of_steps.TryUnderWay.{IsTrying}
 use Rattle.at_demand.proofs.of_steps.WaitsMet.{fewer_unknown, unknown_of}
-
-pub can_be_tried : (rules : Rules) (s : Shown) (entries : Entries) (q : Question) (t : Trials) → CanTryLast rules s entries q t → CanBeTried rules s entries q t
-can_be_tried rules s entries q t can =
-    let turns = can.turns in
-    let turn = turns.turns in
-    let (u, st) = search_at rules s entries q turn in
-    record { basis = turn.answerable.basis; typed = st.typed q.inst (inl (inl refl)); fit = turns.fit }
 
 module _ (rules : Rules) (s : Shown) (exact : Bool) (before mid : Entries) (f m : Memories) (w x : ℕ) (old q : Question) (t : Trials) (g : Going)
     (c : IsTrying rules s exact before mid f m w x old q t g) where

@@ -2,12 +2,13 @@
 use Rattle.std.proofs.Common.{◌≡◌, ◌||◌, ℕ, Bool, true, false, List, ◌∷◌, Option, Some, None, Ok, refl, sym, ap, ◌∙◌}
 use Rattle.at_model.specs.Trees.{Tree, conforms}
 use Rattle.at_model.specs.Paths.{Node, parent_of}
-use Rattle.at_model.specs.Run.{Instance, Location, Is, Tok, Slot, Up, Idx, Contents}
+use Rattle.at_model.specs.Run.{Instance, Location, Is, Tok, Slot, Up, Idx, Drawer, Contents}
 use Rattle.at_model.specs.Rules.{Rules}
-use Rattle.at_model.specs.Alike.{OptionLike, neither, both, ListLike, end, more, is, tok, slot, up, idx}
+use Rattle.at_model.specs.Alike.{OptionLike, neither, both, ListLike, end, more, is, tok, slot, up, idx, drawer}
 use Rattle.at_model.specs.Edits.{Edit, Set, Put, Drop, Insert, Token, Move, edited}
-use Rattle.at_model.specs.Touches.{touches, node_of}
+use Rattle.at_model.specs.Touches.{touches, shifts, touches_in, node_of}
 use Rattle.at_model.proofs.GrammarKept.{or_off}
+use Rattle.at_model.proofs.of_edits.NoDrawer.{touched_as_before}
 use Rattle.at_store.specs.Shown.{Shown, IsIdle, contents, path, tree}
 use Rattle.at_store.specs.Preparing.{IsCommitted}
 use Rattle.at_cache.specs.Traced.{Trace, Memories, FlushesTraces}
@@ -44,6 +45,13 @@ node_free (Move node to part index) l free = moved_quiet (parent_of node)
     moved_quiet None = refl
     moved_quiet (Some p) = refl
 
+-- so it is of the edit of a tree
+still_there : (t : Tree) (e : Edit) (l : Location Node) → touches_in t e l ≡ false
+    → touches_in t e (Is (node_of l)) ≡ false
+still_there t e l free =
+    touched_as_before t (Is (node_of l)) (λ n part u. refl) e
+    ∙ node_free e l (or_off (touches e l) (shifts t e l) free).0
+
 module _ {path : ℕ → Option Node} {e : Edit} where
   same_lists : {ns ms : List ℕ} → ListLike (Stays path e) ns ms → ns ≡ ms
   same_lists end = refl
@@ -59,10 +67,12 @@ module _ (rules : Rules) {e : Edit} {t u : Tree} {path later : ℕ → Option No
   -- the node of a location that isn't touched is there still
   node_untouched : (l : Location ℕ) → Untouched rules over l → Untouched rules over (Is (node_of l))
   node_untouched (Is k) free m s = free m s
-  node_untouched (Tok k part) free _ (is {m = n} r) = node_free e (Tok n part) (free (Tok n part) (tok part r))
-  node_untouched (Slot k part) free _ (is {m = n} r) = node_free e (Slot n part) (free (Slot n part) (slot part r))
-  node_untouched (Up k) free _ (is {m = n} r) = node_free e (Up n) (free (Up n) (up r))
-  node_untouched (Idx k) free _ (is {m = n} r) = node_free e (Idx n) (free (Idx n) (idx r))
+  node_untouched (Tok k part) free _ (is {m = n} r) = still_there t e (Tok n part) (free (Tok n part) (tok part r))
+  node_untouched (Slot k part) free _ (is {m = n} r) = still_there t e (Slot n part) (free (Slot n part) (slot part r))
+  node_untouched (Up k) free _ (is {m = n} r) = still_there t e (Up n) (free (Up n) (up r))
+  node_untouched (Idx k) free _ (is {m = n} r) = still_there t e (Idx n) (free (Idx n) (idx r))
+  node_untouched (Drawer k part key mark) free _ (is {m = n} r) =
+      still_there t e (Drawer n part key mark) (free (Drawer n part key mark) (drawer part key mark r))
 
   stays_at : (l : Location ℕ) (n : Node) → path (node_of l) ≡ Some n → Untouched rules over l
       → Stays path e (node_of l) (node_of l)
@@ -76,6 +86,9 @@ module _ (rules : Rules) {e : Edit} {t u : Tree} {path later : ℕ → Option No
       sym (same_lists (alike_there rules over (Slot k part) free (Slot k part) (slot part s)))
   same_there (Up k) s free = sym (same_places (alike_there rules over (Up k) free (Up k) (up s)))
   same_there (Idx k) s free = sym (alike_there rules over (Idx k) free (Idx k) (idx s))
+  same_there (Drawer k part key mark) s free =
+      sym (same_lists (alike_there rules over (Drawer k part key mark) free (Drawer k part key mark)
+      (drawer part key mark s)))
 
   pub same_untouched : (l : Location ℕ) (n : Node) → path (node_of l) ≡ Some n → Untouched rules over l → new l ≡ old l
   same_untouched l n p free = same_there l (stays_at l n p free) free

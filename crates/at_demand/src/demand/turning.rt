@@ -14,7 +14,7 @@ ghost use Rattle.at_demand.specs.Answerable.{CanBeTried, CanGoOn, CanTurn, CanTu
 ghost use Rattle.at_demand.specs.Levels.{IsSearch, StandsFor};
 ghost use Rattle.at_demand.specs.Sound.{AreSound};
 ghost use Rattle.at_demand.specs.Turns.{IsStanding, IsSparingTurns, under_way};
-ghost use Rattle.at_demand.specs.Answered.{HasTurned, HasTurnedOften, HasTurnedOn, HasTurnedWith, TracesNothing};
+ghost use Rattle.at_demand.specs.Answered.{HasTurnedOften, HasTurnedOn, HasTurnedWith, TracesNothing};
 ghost use Rattle.at_demand.specs.Attempts.{HasAttempted, IsGoing};
 ghost use Rattle.at_demand.specs.Searches.{CanResolve, CanSpoil, CanTryLast, CanTurnOn, HasResolved, HasSpoilt, NotesOf, NotesTold, WasTold};
 ghost use Rattle.at_demand.specs.Tries.{CanCarryOn, HasCarriedOn};
@@ -52,33 +52,12 @@ impl<K: Keeper> Demand<K> {
         Ok(Question::new(self.alloc, inst))
     }
 
-    /// One turn of a question that was posted on the tree as it is: its answer, or none, where its chain has one level more, or
-    /// the equation of its last instance has ended. First what can be kept again with no evaluation is kept, of the last instance, what it
-    /// used, and so on. Then at most one equation is tried, once, and at most the values of the last instance and of those that searches
-    /// under way have seen come to what is kept. An error where memory is wanting, or where no turn more can be counted; then the question
-    /// is of no use any more.
-    pub fn turn(
-        &mut self,
-        rules: &Rules,
-        store: &Store,
-        question: &mut Question,
-    ) -> Result<Option<Answer>, AllocError>
-        requires can { CanTurn rules.now store.now (K.contents self.old.keeper) question.old }
-        requires justified { AreJustified rules.now (contents store.now) (K.memories self.old.keeper) }
-        ensures { TracesNothing K.exact (HasTurned rules.now store.now K.exact (K.memories self.old.keeper) (K.contents self.old.keeper)
-            (K.contents self.new.keeper) self.old.work self.new.work question.old question.new result)
-            (K.memories self.old.keeper) (K.memories self.new.keeper) self.old.made self.new.made }
-    {
-        // Positions among the finds of one question say nothing of another one.
-        self.sharing.clear();
-        let mut trials = Trials::new(self.alloc);
-        self.keep_again(&question.inst);
-        self.turn_with(rules, store, question, &mut trials)
-    }
-
     /// So many turns of a question that was posted on the tree as it is, or fewer where one of them answers it: how many they
-    /// were, from 0 up to the limit, and its answer, if there is one. A trial that was begun is gone on with, and not begun anew.
-    /// An error where memory is wanting, or where no turn more can be counted; then the question is of no use any more.
+    /// were, from 0 up to the limit, and its answer, if there is one. In each, what can be kept again with no evaluation is kept first, of the
+    /// last instance, what it used, and so on. Then at most one equation is tried, once, and at most the values of the last instance and of
+    /// those that searches under way have seen come to what is kept. Where that doesn't answer it, its chain has one level more, or the
+    /// equation of its last instance has ended. A trial that was begun is gone on with, and not begun anew. An error where memory is
+    /// wanting, or where no turn more can be counted; then the question is of no use any more.
     pub fn turns(
         &mut self,
         rules: &Rules,
@@ -92,7 +71,7 @@ impl<K: Keeper> Demand<K> {
             (K.contents self.new.keeper) self.old.work self.new.work limit question.old question.new result)
             (K.memories self.old.keeper) (K.memories self.new.keeper) self.old.made self.new.made }
     {
-        // As in one turn.
+        // Positions among the finds of one question say nothing of another one.
         self.sharing.clear();
         let mut trials = Trials::new(self.alloc);
         let mut given = 0;

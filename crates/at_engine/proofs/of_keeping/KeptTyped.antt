@@ -1,7 +1,9 @@
 -- Kept instances stay well typed: over an edit that is done, and where what is led to from a well-typed one comes to be kept; so what is kept is whole.
-use Rattle.std.proofs.Common.{◌≡◌, ◌∙◌, ℕ, true, false, List, [], ◌∷◌, Option, Some, None, Ok, option_and_then, option_map, refl, sym, ap, subst}
+use Rattle.std.proofs.Common.{◌≡◌, ◌∙◌, ◌≤◌, ℕ, true, false, List, [], ◌∷◌, Option, Some, None, Ok, option_and_then, option_map, refl, sym, ap, subst}
 use Rattle.std.specs.Prelude.{IsSome, slice_get}
-use Rattle.at_model.specs.Alike.{InstanceLike, LocationLike, ListLike, end, more, ValueLike, int, truth, text, ref, neither, both, Names}
+use Rattle.std.specs.List.{AllByRecursion}
+use Rattle.at_model.specs.Alike.{InstanceLike, LocationLike, ListLike, end, more, ValueLike, int, truth, text, ref, nodes, neither, both, Names}
+use Rattle.at_model.specs.Bodies.{max_list}
 use Rattle.at_model.specs.Edits.{Edit, edited}
 use Rattle.at_model.specs.Instances.{AnyText}
 use Rattle.at_model.specs.Paths.{Node, tree_at}
@@ -9,12 +11,13 @@ use Rattle.at_model.specs.Rules.{Rules, Kind}
 use Rattle.at_model.specs.Rules as model
 use Rattle.at_model.specs.Run.{Value, Int, Truth, Text, Instance, Location}
 use Rattle.at_model.specs.Trees.{Tree, class_of, conforms}
-use Rattle.at_model.specs.Touches.{touches}
-use Rattle.at_model.specs.TypedRuns.{AreArguments, IsOfKind, IsWellTyped, class_at}
+use Rattle.at_model.specs.Touches.{touches_in}
+use Rattle.at_model.specs.TypedRuns.{AreArguments, IsNodeOf, IsOfKind, IsWellTyped, class_at}
 use Rattle.at_model.specs.of_fixpoints.Resting.{Supports}
 use Rattle.at_model.specs.of_fixpoints.Resting as led
 use Rattle.at_model.proofs.Options.{mapped}
 use Rattle.at_model.proofs.of_edits.Edited.{carried_there}
+use Rattle.at_model.proofs.of_likeness.ExpressionsAlike.{length-like}
 use Rattle.at_model.proofs.of_typing.TypedTogether.{any_text}
 use Rattle.at_store.specs.Preparing.{IsCommitted}
 use Rattle.at_store.specs.Shown.{IsIdle, Shown, contents, path, tree}
@@ -83,25 +86,41 @@ module _ (rules : Rules) (old new : Shown) (e : Edit) (t : Tree) (idle : IsIdle 
       ap (λ o. option_and_then (class_at (tree new)) o) (named_later rules is_over a b s) ∙ ap (λ o. option_map class_of o) now.there
       ∙ ap (λ k. Some k) (now.class_same ∙ is)
 
+  nodes_same : (b : ℕ) {ns ms : List ℕ} → ListLike Same ns ms
+      → AllByRecursion (λ n. IsNodeOf rules.classes (class_shown old) n b) ns
+      → AllByRecursion (λ n. IsNodeOf rules.classes (class_shown new) n b) ms
+  nodes_same b end h = tt
+  nodes_same b (more {a = m} {b = n} r rs) ((c, at, sub), are) = ((c, class_same m n c r at, sub), nodes_same b rs are)
+
   value_same : {v w : Value ℕ} → ValueLike Same v w → (k : Kind) → IsOfKind rules.classes (class_shown old) v k
       → IsOfKind rules.classes (class_shown new) w k
   value_same (int n) model.Int h = h
   value_same (int n) model.Truth h = absurd h
   value_same (int n) model.Text h = absurd h
   value_same (int n) (model.Class b) h = absurd h
+  value_same (int n) (model.Nodes b) h = absurd h
   value_same (truth b) model.Int h = absurd h
   value_same (truth b) model.Truth h = tt
   value_same (truth b) model.Text h = absurd h
   value_same (truth b) (model.Class c) h = absurd h
+  value_same (truth b) (model.Nodes c) h = absurd h
   value_same (text bytes) model.Int h = absurd h
   value_same (text bytes) model.Truth h = absurd h
   value_same (text bytes) model.Text h = tt
   value_same (text bytes) (model.Class b) h = absurd h
+  value_same (text bytes) (model.Nodes b) h = absurd h
   value_same (ref r) model.Int h = absurd h
   value_same (ref r) model.Truth h = absurd h
   value_same (ref r) model.Text h = absurd h
+  value_same (ref r) (model.Nodes b) h = absurd h
   value_same (ref neither) (model.Class b) h = tt
   value_same (ref (both {a = m} {b = n} r)) (model.Class b) (c, at, sub) = (c, class_same m n c r at, sub)
+  value_same (nodes rs) model.Int h = absurd h
+  value_same (nodes rs) model.Truth h = absurd h
+  value_same (nodes rs) model.Text h = absurd h
+  value_same (nodes rs) (model.Class b) h = absurd h
+  value_same (nodes rs) (model.Nodes b) (are, few) =
+      (nodes_same b rs are, subst (λ k. k ≤ max_list) (length-like rs) few)
 
   arguments_same : {vs ws : List (Value ℕ)} → ListLike (ValueLike Same) vs ws → (ks : List Kind)
       → AreArguments rules.classes (class_shown old) AnyText vs ks → AreArguments rules.classes (class_shown new) AnyText ws ks
@@ -129,6 +148,7 @@ module _ (rules : Rules) (old new : Shown) (e : Edit) (t : Tree) (idle : IsIdle 
       let was = (leaves i k left).0 in
       let (j, like) = right.there i k was in
       let free : (l : Location ℕ) → Supports (contents old) (meaning rules) l i → (m : Location Node) → LocationLike (Names (path old)) l m
-      → touches e m ≡ false = λ l rests m named. (leaves i k left).1 l (right.covers i k was l rests) m named in
+      → touches_in (tree old) e m ≡ false = λ l rests m named.
+      (leaves i k left).1 l (right.covers i k was l rests) m named in
       let kept : IsKept before i = subst IsSome (sym (ap value_at (was ∙ sym left))) some in
       instance_same i i (instance_stays rules (over rules old new e t idle ok accepted done) i j like free) (typed i kept)

@@ -1,40 +1,15 @@
 -- What is counted of marks, when marks come and go.
-use Rattle.std.proofs.Common.{◌≡◌, ◌∙◌, ◌+◌, ◌-◌, ◌≤◌, ◌||◌, ℕ, zero, suc, nat_lt, Bool, true, false, cond, nat_eq, List, [], ◌∷◌, ◌++◌, length, take, drop, filter, count_by, Option, Some, is_some, arith, refl, sym, ap, subst, append-nil, append_assoc, slice_get}
+use Rattle.std.proofs.Common.{◌≡◌, ◌∙◌, ◌+◌, ◌-◌, ◌≤◌, ◌||◌, ℕ, zero, suc, nat_lt, Bool, true, false, cond, List, [], ◌∷◌, ◌++◌, length, take, drop, filter, count_by, Option, Some, is_some, arith, refl, sym, ap, subst, append-nil, append_assoc, slice_get}
 use Rattle.std.proofs.lemmas.List.{take_all, drop_all}
 use Rattle.std.proofs.lemmas.Bool.{lt-ltb}
 use Rattle.std.specs.List.{list_any}
-use Rattle.std.proofs.lemmas.List.Sums.{sum_by-append, sum_by-cons, sum_by_push}
+use Rattle.std.proofs.lemmas.List.Sums.{sum_by-cons}
 use Rattle.std.proofs.lemmas.List.Elements.{filter-append}
 use Rattle.at_engine.specs.Marks.{Mark}
-use Rattle.at_engine.specs.Tally.{counted, one_at}
-use Rattle.at_engine.specs.Tallied.{AreTallied, IsOf, kept_up_to}
+use Rattle.at_engine.specs.Tallied.{AreTallied, kept_up_to}
 use Rattle.at_engine.specs.declared.marks.tally.Tally.{Tally}
 
--- one more, and one less
-abbrev pub IsMore : ℕ → Tally → Tally → Type 0
-IsMore number old new = (k : ℕ) → counted new.counts.entries k ≡ one_at k number + counted old.counts.entries k
-
-abbrev pub IsLess : ℕ → Tally → Tally → Type 0
-IsLess number old new = (k : ℕ) → counted new.counts.entries k ≡ counted old.counts.entries k - one_at k number
-
-abbrev pub IsSame : Tally → Tally → Type 0
-IsSame old new = (k : ℕ) → counted new.counts.entries k ≡ counted old.counts.entries k
-
 module _ (p : Mark → Bool) where
-  -- a mark among others
-  counted_among : (front back : List Mark) (m : Mark) → count_by p (front ++ m ∷ back) ≡ cond (p m) 1 0 + count_by p (front ++ back)
-  counted_among front back m =
-      let f : Mark → ℕ = λ x. cond (p x) 1 0 in
-      let a : count_by p (front ++ m ∷ back) ≡ count_by p front + count_by p (m ∷ back) = sum_by-append f front (m ∷ back) in
-      let b : count_by p (front ++ back) ≡ count_by p front + count_by p back = sum_by-append f front back in
-      let c : count_by p (m ∷ back) ≡ cond (p m) 1 0 + count_by p back = sum_by-cons f m back in
-      omega (arith, a, b, c)
-
-  counted_behind : (ms : List Mark) (m : Mark) → count_by p (ms ++ m ∷ []) ≡ cond (p m) 1 0 + count_by p ms
-  counted_behind ms m =
-      let a : count_by p (ms ++ m ∷ []) ≡ count_by p ms + cond (p m) 1 0 = sum_by_push (λ (x : Mark). cond (p x) 1 0) ms m in
-      omega (arith, a)
-
   -- where some are counted, there is one
   counted_one : (b : Bool) (n : ℕ) (more : Bool) → nat_lt 0 n ≡ more → nat_lt 0 (cond b 1 0 + n) ≡ (b || more)
   counted_one true n more h = lt-ltb 0 (1 + n) (omega arith)
@@ -43,30 +18,6 @@ module _ (p : Mark → Bool) where
   pub some_counted : (ms : List Mark) → nat_lt 0 (count_by p ms) ≡ list_any p ms
   some_counted [] = refl
   some_counted (m ∷ ms) = ap (nat_lt 0) (sum_by-cons (λ (x : Mark). cond (p x) 1 0) m ms) ∙ counted_one (p m) (count_by p ms) (list_any p ms) (some_counted ms)
-
-at_number : (k : ℕ) (a b : ℕ) → a ≡ b → cond (nat_eq k a) 1 0 ≡ one_at k b
-at_number k a b e = ap (one_at k) e
-
-module _ (ms : List Mark) (s t n u : Tally) where
-  pub same_tallied : IsSame s t → IsSame n u → AreTallied ms s n → AreTallied ms t u
-  same_tallied a b is = record { by_session = λ k. a k ∙ is.by_session k; by_node = λ k. b k ∙ is.by_node k }
-
-  pub more_tallied : (session node : ℕ) (m : Mark) → IsOf session node m → IsMore session s t → IsMore node n u → AreTallied ms s n → AreTallied (ms ++ m ∷ []) t u
-  more_tallied session node m of a b is = record {
-    by_session = λ k. omega (arith, a k, is.by_session k, counted_behind (λ (x : Mark). nat_eq k x.session) ms m, at_number k m.session session of.session');
-    by_node = λ k. omega (arith, b k, is.by_node k, counted_behind (λ (x : Mark). nat_eq k x.node) ms m, at_number k m.node node of.node');
-  }
-
--- one more, and then one less
-pub back_again : (number : ℕ) (s t u : Tally) → IsMore number s t → IsLess number t u → IsSame s u
-back_again number s t u a b k = omega (arith, a k, b k)
-
-module _ (front back : List Mark) (s t n u : Tally) where
-  pub less_tallied : (session node : ℕ) (m : Mark) → IsOf session node m → IsLess session s t → IsLess node n u → AreTallied (front ++ m ∷ back) s n → AreTallied (front ++ back) t u
-  less_tallied session node m of a b is = record {
-    by_session = λ k. omega (arith, a k, is.by_session k, counted_among (λ (x : Mark). nat_eq k x.session) front back m, at_number k m.session session of.session');
-    by_node = λ k. omega (arith, b k, is.by_node k, counted_among (λ (x : Mark). nat_eq k x.node) front back m, at_number k m.node node of.node');
-  }
 
 module _ {N : Type 0} (look : ℕ → Option N) where
   one_kept : (m : Mark) (front back : List Mark) (b : Bool) → is_some (look m.node) ≡ b → filter (λ (x : Mark). is_some (look x.node)) (front ++ m ∷ []) ++ back ≡ filter (λ (x : Mark). is_some (look x.node)) front ++ cond b (m ∷ back) back

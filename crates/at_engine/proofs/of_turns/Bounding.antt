@@ -1,7 +1,7 @@
 -- How many turns an open question has been given: few, by the list of all instances.
 use Rattle.std.proofs.Common.{◌≡◌, ◌∙◌, ℕ, ◌+◌, ◌*◌, ◌≤◌, Bool, true, false, cond, if◌then◌else◌, nat_eq, List, [], ◌∷◌, ◌++◌, map, find, length, Option, Some, None, option_map, option_and_then, ap, arith, refl, sym, subst}
 use Rattle.std.specs.List.{AllByRecursion, flat_map}
-use Rattle.at_model.specs.Instances.{all_nodes, argument_lists, below, instances, literals_of, text_in, text_of_value, tokens}
+use Rattle.at_model.specs.Instances.{all_nodes, argument_lists, below, instances, literals_of, others, text_in, text_of_value, tokens}
 use Rattle.at_model.specs.Edits.{max_nodes}
 use Rattle.at_model.specs.Lines.{Argument, Ask, Place, Ref, Text, Null}
 use Rattle.at_model.specs.Paths.{Node, tree_at}
@@ -73,7 +73,10 @@ module _ (rules : Rules) (s : State) (session : ℕ) where
 
 -- the instances are as many by the same texts
 pub same_universe : (rules : Rules) (t : Tree) (vs ws : List (Value Node)) → flat_map text_of_value vs ≡ flat_map text_of_value ws → length (instances rules t vs) ≡ length (instances rules t ws)
-same_universe rules t vs ws e = ap (λ (ts : List (List ℕ)). length {A = Instance Node} (flat_map (λ n. flat_map (λ k. map (λ xs. record { node = n; attribute = k; arguments = xs }) (argument_lists (map (λ bytes. run.Text bytes) (flat_map text_in (tokens t) ++ (literals_of rules ++ ts)) ++ (run.Ref None ∷ map (λ n. run.Ref (Some n)) (all_nodes t)))))
+same_universe rules t vs ws e = ap (λ (ts : List (List ℕ)). length {A = Instance Node} (flat_map (λ n. flat_map
+    (λ k. map (λ xs. record { node = n; attribute = k; arguments = xs })
+    (argument_lists (map (λ bytes. run.Text bytes) (flat_map text_in (tokens t) ++ (literals_of rules ++ ts))
+    ++ ((run.Ref None ∷ map (λ n. run.Ref (Some n)) (all_nodes t)) ++ others rules))))
     (below (length rules.attributes))) (all_nodes t))) e
 
 by_marks : (b : Bool) (v : Verdict) (i : Instance Node) → (if b then Refuses code.Mark else v) ≡ Asks i → v ≡ Asks i

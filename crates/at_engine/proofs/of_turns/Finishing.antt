@@ -1,5 +1,5 @@
 -- What the turns of the first open question come to, in the words of the machine.
-use Rattle.std.proofs.Common.{◌≡◌, ℕ, zero, suc, ◌+◌, ◌-◌, ◌<◌, ◌≤◌, Bool, true, false, not, if◌then◌else◌, List, [], ◌∷◌, ◌++◌, length, map, Option, Some, None, Result, Ok, Err, IfOk, refl, sym, ap, ◌∙◌, subst, arith, append-nil}
+use Rattle.std.proofs.Common.{◌≡◌, ℕ, zero, suc, ◌+◌, ◌-◌, ◌<◌, ◌≤◌, Bool, true, false, not, if◌then◌else◌, List, [], ◌∷◌, ◌++◌, length, map, Option, Some, None, Result, Ok, Err, refl, sym, ap, ◌∙◌, subst, arith, append-nil}
 use Rattle.std.proofs.lemmas.List.{length-map}
 use Rattle.std.specs.Prelude.{slice_get, slice_set, remove, IfSome, IsTrue, MatchBool, Vec, vec_capacity}
 use Rattle.std.specs.Global.{Global}
@@ -10,7 +10,6 @@ use Rattle.at_model.specs.Machine.{State, Posted as PostedOf, AnswersPosted, Giv
 use Rattle.at_model.specs.Replies.{Form as FormOf, Memory, Reply, reply_text}
 use Rattle.at_model.specs.Rules.{Rules}
 use Rattle.at_model.specs.WellFormed.{AreWellFormed}
-use Rattle.at_protocol.specs.Writable.{IsWritable}
 use Rattle.at_protocol.specs.declared.reply.Form.{Form}
 use Rattle.at_store.specs.Shown.{Shown, path, tree}
 use Rattle.at_cache.specs.Kept.{Entries}
@@ -73,11 +72,6 @@ typed_end {K} m n rest h = record {
   tokens = subst (λ (s : Shown). AreTokens (tree s)) (sym (ap (λ (x : Engine K). x.store) rest)) h.tokens;
 }
 
--- what answers can be written
-pub writable_all : {E : Type 0} (rules : Rules) (s : State) (q : PostedOf) (r : Result Form E) → IfOk r (IsAnswerTo rules s q) → IfOk r IsWritable
-writable_all rules s q (Ok f) answer = answer.writable
-writable_all rules s q (Err e) answer = tt
-
 -- a question at some position is open no longer
 module _ {K : Type 0} (kept : K → Entries) (e : Engine K) {remembered : Memories}
     (sound : IsSoundWith (rules_of e) e.store (marks_of e) e.posts (kept e.demand.keeper) remembered) (position : ℕ) (p : Posted) (there : StandsAt e.posts.items.items position p) (m : Engine K) (rest : m ≡ record e { demand = m.demand; posts = m.posts })
@@ -115,9 +109,6 @@ module _ {K : Type 0} (exact : Bool) (kept : K → Entries) (memories : K → Me
 
   viewed : (state_of e).posted ≡ view p ∷ map view others
   viewed = ap (map view) least
-
-  pub some_posted : (state_of e).posted ≡ [] → ⊥
-  some_posted none = let same : view p ∷ map view others ≡ [] = sym viewed ∙ none in absurd cc
 
   increase : AreNumbered 0 (view p ∷ map view others) e.posts.count
   increase = subst (λ (l : List PostedOf). AreNumbered 0 l e.posts.count) viewed sound.numbered

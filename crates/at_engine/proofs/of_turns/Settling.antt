@@ -3,7 +3,7 @@ use Rattle.std.proofs.Common.{◌≡◌, ℕ, ◌+◌, ◌-◌, ◌*◌, ◌<◌
 use Rattle.std.specs.Prelude.{Bool, IfNone, IfOk, OnErr, Result, Ok, Err}
 use Rattle.std.specs.Option.{option_map}
 use Rattle.std.specs.List.{flat_map}
-use Rattle.at_model.specs.Alike.{ListLike, ValueLike, end, int, more, ref, text, truth}
+use Rattle.at_model.specs.Alike.{ListLike, ValueLike, end, int, more, nodes, ref, text, truth}
 use Rattle.at_model.specs.Instances.{instances, text_of_value}
 use Rattle.at_model.specs.Paths.{Node}
 use Rattle.at_model.specs.Rules.{Rules}
@@ -32,6 +32,7 @@ texts_of (run.Int n ∷ vs) = texts_of vs
 texts_of (run.Truth b ∷ vs) = texts_of vs
 texts_of (run.Text bytes ∷ vs) = run.Text bytes ∷ texts_of vs
 texts_of (run.Ref n ∷ vs) = texts_of vs
+texts_of (run.Nodes ns ∷ vs) = texts_of vs
 
 texts_like : {R : ℕ → Node → Type 0} {vs : List (Value ℕ)} {ws : List (Value Node)} → ListLike (ValueLike R) vs ws → flat_map text_of_value ws ≡ flat_map text_of_value (texts_of vs)
 texts_like end = refl
@@ -39,6 +40,7 @@ texts_like (more (int n) rest) = texts_like rest
 texts_like (more (truth b) rest) = texts_like rest
 texts_like (more (text bytes) rest) = ap (λ l. bytes ∷ l) (texts_like rest)
 texts_like (more (ref n) rest) = texts_like rest
+texts_like (more (nodes ns) rest) = texts_like rest
 
 -- at most so many turns a question for the instance has without an answer
 abbrev pub most_turns : Rules → Shown → Instance ℕ → ℕ

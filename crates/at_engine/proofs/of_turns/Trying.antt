@@ -1,5 +1,5 @@
 -- What comes of turns of the question at a position.
-use Rattle.std.proofs.Common.{◌≡◌, ℕ, ◌<◌, Bool, List, [], length, Option, Some, None, Result, Ok, Err, refl, sym, ap, ◌∙◌, subst, arith, inl, inr}
+use Rattle.std.proofs.Common.{◌≡◌, ℕ, ◌<◌, Bool, List, [], length, Option, Some, None, Result, Ok, Err, refl, sym, ap, ◌∙◌, subst, inl, inr}
 use Rattle.std.specs.Prelude.{slice_get, slice_set, IfSome, IsTrue}
 use Rattle.at_model.specs.Edits.{max_nodes}
 use Rattle.at_model.specs.Alike.{AnswerLike, InstanceLike, Names}

@@ -6,6 +6,14 @@ use Rattle.at_model.specs.Lines.{pieces, is_filled}
 use Rattle.at_engine.specs.Loop.{kept, lets_wait, IsNext, IsOpen}
 use Rattle.at_engine.specs.declared.stream.desk.Desk.{Desk}
 use Rattle.std.proofs.lemmas.Bool.{cases_lt}
+use Rattle.std.specs.Prelude.{OnOk, Result, Ok, Err}
+use Rattle.at_cache.specs.Kept.{Entries}
+use Rattle.at_cache.specs.Traced.{Memories}
+use Rattle.at_engine.specs.Engines.{rules_of}
+use Rattle.at_engine.specs.Going.{SendsEach, Works, sends_answers, sends_nothing, sends_reply}
+use Rattle.at_engine.specs.Taking.{Drains}
+use Rattle.at_engine.specs.declared.engine.Engine.{Engine}
+use Rattle.at_engine.specs.declared.stream.desk.RunFault.{RunFault}
 use Rattle.at_engine.proofs.of_keeping.Kept.{empty_as_kept}
 use Rattle.at_engine.proofs.Pieces.{IsCons, pieces_cons, splits_then}
 
@@ -84,3 +92,35 @@ waits_or_filled rest line behind next desk waits o e keeps (inr (other, after, p
     let more : 0 < length (desk.line.items ++ line) = omega (arith, some, length-append desk.line.items line) in
     let long : 0 < length (kept (desk.line.items ++ line)) = kept_long (desk.line.items ++ line) more in
     inr (omega (arith, long, ap length keeps, next.line.ok.0))
+
+-- one after the other each reply was sent on
+pub each_then : {K W : Type 0} (exact : Bool) (entries : K → Entries) (memories : K → Memories)
+    (contents : W → Option (List ℕ)) (failure : W → Option Bool) (waiting : W → Bool) (old mid : Engine K)
+    (writer between : W) (new : Engine K) (later : W)
+    → SendsEach exact entries memories contents failure waiting old writer mid between
+    → SendsEach exact entries memories contents failure waiting mid between new later
+    → SendsEach exact entries memories contents failure waiting old writer new later
+each_then exact entries memories contents failure waiting old mid writer between _ _ first sends_nothing = first
+each_then exact entries memories contents failure waiting old mid writer between _ _ first
+    (sends_reply next new after later desk desk' done second serves sent) =
+    sends_reply next new after later desk desk' done
+    (each_then exact entries memories contents failure waiting old mid writer between next after first second)
+    serves sent
+each_then exact entries memories contents failure waiting old mid writer between _ _ first
+    (sends_answers next new after later desk desk' done second works) =
+    sends_answers next new after later desk desk' done
+    (each_then exact entries memories contents failure waiting old mid writer between next after first second) works
+
+-- and so were the answers to all that was open
+pub each_drained : {K W : Type 0} (exact : Bool) (entries : K → Entries) (memories : K → Memories)
+    (contents : W → Option (List ℕ)) (failure : W → Option Bool) (waiting : W → Bool) (old mid new : Engine K)
+    (writer between later : W) (desk next : Desk) (result : Result (Unit {0}) RunFault)
+    → SendsEach exact entries memories contents failure waiting old writer mid between
+    → Works exact entries memories contents failure waiting mid new desk next between later
+    (Drains result (rules_of mid)) result
+    → OnOk result (SendsEach exact entries memories contents failure waiting old writer new later)
+each_drained exact entries memories contents failure waiting old mid new writer between later desk next (Ok u) first
+    works =
+    sends_answers mid new between later desk next u first works
+each_drained exact entries memories contents failure waiting old mid new writer between later desk next (Err e) first
+    works = tt

@@ -27,9 +27,6 @@ pub record Ends (rank : ℕ) (s : Option PlacedToken) : Type 0 where
 pub ends_down : (rank : ℕ) (s : Option PlacedToken) → Ends (suc rank) s → Ends rank s
 ends_down rank s e = record { cast = e.cast; dot = e.dot; links = λ j h. e.links j (omega (arith, h)) }
 
-pub ends_first : (rank : ℕ) (s : Option PlacedToken) → Ends rank s → Ends 0 s
-ends_first rank s e = record { cast = e.cast; dot = e.dot; links = λ j h. absurd (omega (arith, h)) }
-
 no_equal : (x : Bool) (a b : ℕ) → a == b ≡ x → (a ≡ b → ⊥) → a == b ≡ false
 no_equal true a b e h = absurd (h (eqb-true a b e))
 no_equal false a b e h = e

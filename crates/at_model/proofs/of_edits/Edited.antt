@@ -10,13 +10,13 @@ use Rattle.at_model.specs.Run.{Location, Is}
 use Rattle.at_model.specs.Meaning.{content}
 use Rattle.at_model.specs.Alike.{IsInjective, Names, AlikeAt}
 use Rattle.at_model.specs.Edits.{Edit, Set, Put, Drop, Insert, Token, Move, shape_at, list_class, optional_class, token_kind, fits_class, fits_kind, fits_as, is_plain, is_element, with_one_more, left_by, children_of, is_within_limits, edited, moved_under, past_set, past_put, past_insert, past_taking, changed_nodes, carried}
-use Rattle.at_model.specs.Touches.{touches, is_slot}
+use Rattle.at_model.specs.Touches.{touches, shifts, touches_in, is_slot}
 use Rattle.at_model.proofs.of_edits.Conforming.{IsAccepted, accepted, set_at, drop_at, at_component, fill, hold, one_more, seen}
 use Rattle.at_model.proofs.of_edits.Moving.{Way, moved_apart}
 use Rattle.at_model.proofs.of_edits.Ways.{same_some, set_apart, put_apart, insert_apart, put_keeps, insert_keeps}
 use Rattle.at_model.proofs.of_edits.Surviving.{at_set as set_out, at_drop as drop_out, put_out, insert_out, none_moved_out, no_children, around, or_none, out_taken}
 use Rattle.at_model.proofs.of_edits.Untouched.{cell_there}
-use Rattle.at_model.proofs.of_edits.Untouching.{at_set as set_alike, at_drop as drop_alike, put_alike, insert_alike, token_alike, put_fits, insert_fits, token_fits, nothing_keeps, moved_nowhere, not_false}
+use Rattle.at_model.proofs.of_edits.Untouching.{at_set as set_alike, at_drop as drop_alike, put_alike, insert_alike, token_alike, put_fits, insert_fits, token_fits, nothing_keeps, moved_nowhere, not_false, false_or}
 use Rattle.at_model.proofs.of_edits.Carried.{IsThere, IsElsewhere, as_there, at_set as set_there, at_drop as drop_there}
 use Rattle.at_model.proofs.of_edits.Moves.{taken_apart, move_apart, stays_somewhere}
 use Rattle.at_model.proofs.of_edits.Moved.{left_is, move_conforms, move_alike, move_there, way}
@@ -120,25 +120,25 @@ module _ (classes : Classes) where
       (subst (λ (x : Tree). conforms classes x 0 ≡ true) made.left (left_conforms t u e made ok), subst (λ (x : Tree). is_within_limits x ≡ true) made.left made.within)
 
 module _ (classes : Classes) (t : Tree) (ok : conforms classes t 0 ≡ true) where
-  left_alike : (e : Edit) (u : Tree) → IsAccepted classes t e u → (l : Location Node) → touches e l ≡ false → AlikeAt (Names (carried e)) (content t) (content (left_by t e)) l
-  left_alike (Set node new) u made l h = set_alike classes t ok node new (parent_of node) refl l h
-  left_alike (Put node part new) u made l h = λ m s. put_alike classes t ok node part new made.component l m h s
-  left_alike (Drop node) u made l h = drop_alike classes t ok node (parent_of node) refl (not_false (is_plain classes t node) made.removable) l h
-  left_alike (Insert node part index new) u made l h = λ m s. insert_alike classes t ok node part index new made.component made.index l m h s
-  left_alike (Token node part v) u made l h =
+  left_alike : (e : Edit) (u : Tree) → IsAccepted classes t e u → (l : Location Node) → touches e l ≡ false → shifts t e l ≡ false → AlikeAt (Names (carried e)) (content t) (content (left_by t e)) l
+  left_alike (Set node new) u made l h hs = set_alike classes t ok node new (parent_of node) refl l h hs
+  left_alike (Put node part new) u made l h hs = λ m s. put_alike classes t ok node part new made.component (no_children (children_of t node part) made.free) l m h hs s
+  left_alike (Drop node) u made l h hs = drop_alike classes t ok node (parent_of node) refl (not_false (is_plain classes t node) made.removable) l h hs
+  left_alike (Insert node part index new) u made l h hs = λ m s. insert_alike classes t ok node part index new made.component made.index l m h hs s
+  left_alike (Token node part v) u made l h hs =
       let P : (Node → Option Node) → Type 0 = λ carry. AlikeAt (Names carry) (content t) (content (left_by t (Token node part v))) l in
       let same : moved_under node (λ (s : Way). Some s) ≡ carried (Token node part v) = λ i n. moved_nowhere node n i in
-      subst P same (λ m s. token_alike classes t ok node part v made.component l m h s)
-  left_alike (Move node to part index) u made l h =
+      subst P same (λ m s. token_alike classes t ok node part v made.component l m h hs s)
+  left_alike (Move node to part index) u made l h hs =
       let move = is_move classes t node to part index made.fit made.removable made.outside in
       let after = left_is classes t ok node to part index move.moved move.found move.place move.above move.listed move.target move.goes made.component made.fit made.index in
       subst (λ (x : Tree). AlikeAt (Names (carried (Move node to part index))) (content t) (content x) l) (sym after)
-      (λ m s. move_alike classes t ok node to part index move.moved move.found move.place move.above move.listed move.target move.goes made.component made.fit made.index l m h s)
+      (λ m s. move_alike classes t ok node to part index move.moved move.found move.place move.above move.listed move.target move.goes made.component made.fit made.index l m h hs s)
 
-  pub edited_alike : (e : Edit) (u : Tree) → edited classes t e ≡ Ok u → (l : Location Node) → touches e l ≡ false → AlikeAt (Names (carried e)) (content t) (content u) l
+  pub edited_alike : (e : Edit) (u : Tree) → edited classes t e ≡ Ok u → (l : Location Node) → touches_in t e l ≡ false → AlikeAt (Names (carried e)) (content t) (content u) l
   edited_alike e u is l h =
       let made = accepted classes t e u is in
-      subst (λ (x : Tree). AlikeAt (Names (carried e)) (content t) (content x) l) made.left (left_alike e u made l h)
+      subst (λ (x : Tree). AlikeAt (Names (carried e)) (content t) (content x) l) made.left (left_alike e u made l (false_or (touches e l) (shifts t e l) h).0 (false_or (touches e l) (shifts t e l) h).1)
 
   left_there : (e : Edit) (u : Tree) → IsAccepted classes t e u → (n m : Node) (v : Tree) → carried e n ≡ Some m → tree_at t n ≡ Some v → IsThere (left_by t e) m v (IsElsewhere (changed_nodes e) n)
   left_there (Set node new) u made n m v goes found = set_there classes t ok n m v found node new (parent_of node) refl goes

@@ -7,12 +7,13 @@ use Rattle.at_model.specs.Classes as class
 use Rattle.at_model.specs.Trees.{Tree, Cell, Trees, Node as branch, One, Many, Empty, Filled, Holds, no_trees, tree, class_of, to_trees, from_trees, children, conforms, cells_conform, cell_conforms}
 use Rattle.at_model.specs.Trees as trees
 use Rattle.at_model.specs.Paths.{Node, cell_at, children_at, tree_at, node_eq, is_within, is_child, parent_of}
-use Rattle.at_model.specs.Run.{Location, Is, Tok, Slot, Up, Idx}
-use Rattle.at_model.specs.Meaning.{token_in, child_nodes, content}
+use Rattle.at_model.specs.Drawers.{Key}
+use Rattle.at_model.specs.Run.{Location, Is, Tok, Slot, Up, Idx, Drawer}
+use Rattle.at_model.specs.Meaning.{token_in, is_marked, child_nodes, chosen_nodes, content}
 use Rattle.at_model.specs.Alike.{OptionLike, ListLike, LocationLike, ContentLike, Names, AlikeAt}
 use Rattle.at_model.specs.Alike as alike
 use Rattle.at_model.specs.Edits.{Drop, Insert, Move, shape_at, plain_class, list_class, fits_class, fits_as, has_component, is_in_range, children_of, with_cell, with_node, without_child, with_one_more, taken_out, past_taking, put_in, left_by, moved_under, past_drop, past_insert, carried}
-use Rattle.at_model.specs.Touches.{touches, node_of, is_up, is_slot, is_index, is_slot_around, is_index_around}
+use Rattle.at_model.specs.Touches.{touches, shifts, node_of, is_up, is_slot, is_index, is_slot_around, is_index_around, is_drawer}
 use Rattle.at_model.proofs.Options.{both, and_true, led, mapped}
 use Rattle.at_model.proofs.Nodes.{step_eq-refl, node_eq-refl, node_eq-sound}
 use Rattle.at_model.proofs.Complete.{conforms_at, cells_there}
@@ -21,6 +22,8 @@ use Rattle.at_model.proofs.WayUp.{snoc, parent_of-snoc}
 use Rattle.at_model.proofs.of_edits.Moving.{Way}
 use Rattle.at_model.proofs.of_edits.Ways.{same_some, insert_keeps, drop_keeps}
 use Rattle.at_model.proofs.of_edits.Untouched.{in_cell, local, local_class, local_told, tree_moved, tree_at-append, changed_there, cell_there, cell-same, true_if, child-length, from_to_trees}
+use Rattle.at_model.proofs.of_edits.Drawn.{chosen_alike, each_there}
+use Rattle.at_model.proofs.of_edits.Drawing.{none_of}
 use Rattle.at_model.proofs.of_edits.Untouching.{drop_alike, drop_fits, insert_alike, insert_fits, list_cell, component_there, counted, false_or, not_both}
 use Rattle.at_model.proofs.of_edits.Surviving.{parent_is}
 use Rattle.at_model.proofs.of_edits.Carried.{IsThere, IsElsewhere}
@@ -311,6 +314,17 @@ module _ (classes : Classes) (t : Tree) (ok : conforms classes t 0 ≡ true) (no
       let (a, b, c, d, e) = all_off (is_up node (Idx n)) (is_slot_around node (Idx n)) (is_slot to part (Idx n)) (is_index_around node (Idx n)) (is_index to part (Idx n)) free in
       taken_child node to n q k part target taken e
 
+  -- what the move doesn't shift isn't shifted by taking the node out, nor by putting it in
+  not_drawn : (l : Location Node) → shifts t (Move node to part index) l ≡ false → shifts t (Drop node) l ≡ false
+  not_drawn l hs = (false_or _ _ hs).0
+
+  drawer_free : (n k : Node) (r : ℕ) (key : Key) (mark : ℕ) → past_taking node n ≡ Some k → shifts t (Move node to part index) (Drawer n r key mark) ≡ false
+      → shifts between (Insert q part index u) (Drawer k r key mark) ≡ false
+  drawer_free n k r key mark taken hs =
+      let off : is_drawer to part u (Drawer n r key mark) ≡ false = none_of (λ (x : Tree). is_drawer to part x (Drawer n r key mark)) (tree_at t node) u found (false_or _ _ hs).1 in
+      both_off (node_eq to n && nat_eq part r) (node_eq q k && nat_eq part r) (is_marked key mark u) off
+      (λ none. both_off (node_eq to n) (node_eq q k) (nat_eq part r) none (λ differs. taken_same node to n q k target taken differs))
+
   -- the children of a node that is moved along
   children_along : (rest : Node) (r : ℕ) (xs : List Tree) (i : ℕ) → ListLike (Names (carried (Move node to part index)))
       (child_nodes (node ++ rest) r i xs) (child_nodes (q ++ (part, index) ∷ rest) r i xs)
@@ -319,6 +333,25 @@ module _ (classes : Classes) (t : Tree) (ok : conforms classes t 0 ≡ true) (no
       let e : carried (Move node to part index) ((node ++ rest) ++ (r, i) ∷ []) ≡ Some ((q ++ (part, index) ∷ rest) ++ (r, i) ∷ []) =
       ap (carried (Move node to part index)) (append_assoc node rest ((r, i) ∷ [])) ∙ rides (rest ++ (r, i) ∷ []) ∙ ap Some (sym (append_assoc q ((part, index) ∷ rest) ((r, i) ∷ []))) in
       alike.more e (children_along rest r xs (suc i))
+
+  child_rides : (rest : Node) (r i : ℕ) → carried (Move node to part index) ((node ++ rest) ++ (r, i) ∷ []) ≡ Some ((q ++ (part, index) ∷ rest) ++ (r, i) ∷ [])
+  child_rides rest r i =
+      ap (carried (Move node to part index)) (append_assoc node rest ((r, i) ∷ [])) ∙ rides (rest ++ (r, i) ∷ []) ∙ ap Some (sym (append_assoc q ((part, index) ∷ rest) ((r, i) ∷ [])))
+
+  chosen_along : (rest : Node) (r : ℕ) (f : Tree → Bool) (xs : List Tree) → ListLike (Names (carried (Move node to part index)))
+      (chosen_nodes f (node ++ rest) r 0 xs) (chosen_nodes f (q ++ (part, index) ∷ rest) r 0 xs)
+  chosen_along rest r f xs =
+      let going : ℕ → ℕ → Type 0 = λ i j. carried (Move node to part index) ((node ++ rest) ++ (r, i) ∷ []) ≡ Some ((q ++ (part, index) ∷ rest) ++ (r, j) ∷ []) in
+      chosen_alike f going (Names (carried (Move node to part index))) (node ++ rest) (q ++ (part, index) ∷ rest) r (λ i j e. e) 0 xs 0 xs
+      (each_there f going 0 xs xs (λ k. refl) (λ k x e. inl (child_rides rest r (0 + k))))
+
+  abbrev drawn_in : Node → ℕ → Key → ℕ → Option Tree → List Node
+  drawn_in n r key mark o = elim o [ None ↦ [] | Some x ↦ chosen_nodes (is_marked key mark) n r 0 (children_at x r) ]
+
+  drawers_along : (rest : Node) (r : ℕ) (key : Key) (mark : ℕ) (o : Option Tree) → ListLike (Names (carried (Move node to part index)))
+      (drawn_in (node ++ rest) r key mark o) (drawn_in (q ++ (part, index) ∷ rest) r key mark o)
+  drawers_along rest r key mark None = alike.end
+  drawers_along rest r key mark (Some x) = chosen_along rest r (is_marked key mark) (children_at x r)
 
   abbrev seen_in : Node → ℕ → Option Tree → List Node
   seen_in n r o = elim o [ None ↦ [] | Some x ↦ child_nodes n r 0 (children_at x r) ]
@@ -375,29 +408,29 @@ module _ (classes : Classes) (t : Tree) (ok : conforms classes t 0 ≡ true) (no
   abbrev Second : Node → Node → Type 0
   Second = Names (moved_under q (past_insert (part, index)))
 
-  first_alike : (l l' : Location Node) → touches (Drop node) l ≡ false → (s : LocationLike First l l') → ContentLike First s (content t l) (content between l')
-  first_alike l l' free s = drop_alike classes t ok node p above plain l l' free s
+  first_alike : (l l' : Location Node) → touches (Drop node) l ≡ false → shifts t (Drop node) l ≡ false → (s : LocationLike First l l') → ContentLike First s (content t l) (content between l')
+  first_alike l l' free hs s = drop_alike classes t ok node p above plain l l' free hs s
 
-  second_alike : (l' m : Location Node) → touches (Insert q part index u) l' ≡ false → (s : LocationLike Second l' m) → ContentLike Second s (content between l') (content after m)
-  second_alike l' m free s = insert_alike classes between ok1 q part index u has1 range1 l' m free s
+  second_alike : (l' m : Location Node) → touches (Insert q part index u) l' ≡ false → shifts between (Insert q part index u) l' ≡ false → (s : LocationLike Second l' m) → ContentLike Second s (content between l') (content after m)
+  second_alike l' m free hs s = insert_alike classes between ok1 q part index u has1 range1 l' m free hs s
 
-  pub move_alike : (l m : Location Node) → touches (Move node to part index) l ≡ false → (s : LocationLike (Names (carried (Move node to part index))) l m) →
+  pub move_alike : (l m : Location Node) → touches (Move node to part index) l ≡ false → shifts t (Move node to part index) l ≡ false → (s : LocationLike (Names (carried (Move node to part index))) l m) →
       ContentLike (Names (carried (Move node to part index))) s (content t l) (content after m)
-  move_alike l m free (alike.is {n = n} {m = k} r) = by_way (way n k r)
+  move_alike l m free hs (alike.is {n = n} {m = k} r) = by_way (way n k r)
     where
       by_way : Goes node q part index n k → content t (Is n) ≡ content after (Is k)
       by_way (along rest is ends) = ap (λ x. content t (Is x)) is ∙ ap (λ (o : Option Tree). elim o as (λ _. ℕ)
           [ None ↦ 0 | Some x ↦ class_of x ]) (same_along rest) ∙ sym (ap (λ x. content after (Is x)) ends)
-      by_way (apart j taken put) = first_alike (Is n) (Is j) (first_step n j (Is n) taken refl free) (alike.is (sym (taking_is n) ∙ taken)) ∙ second_alike (Is j) (Is k) refl (alike.is put)
-  move_alike l m free (alike.tok {n = n} {m = k} r e) = by_way (way n k e)
+      by_way (apart j taken put) = first_alike (Is n) (Is j) (first_step n j (Is n) taken refl free) (not_drawn (Is n) hs) (alike.is (sym (taking_is n) ∙ taken)) ∙ second_alike (Is j) (Is k) refl refl (alike.is put)
+  move_alike l m free hs (alike.tok {n = n} {m = k} r e) = by_way (way n k e)
     where
       by_way : Goes node q part index n k → content t (Tok n r) ≡ content after (Tok k r)
       by_way (along rest is ends) = ap (λ x. content t (Tok x r)) is ∙ ap (λ (o : Option Tree).
           elim o as (λ _. trees.Token) [ None ↦ trees.Truth false | Some x ↦ token_in (cell_at x r) ]) (same_along rest)
           ∙ sym (ap (λ x. content after (Tok x r)) ends)
-      by_way (apart j taken put) = first_alike (Tok n r) (Tok j r) (first_step n j (Tok n r) taken refl free)
-          (alike.tok r (sym (taking_is n) ∙ taken)) ∙ second_alike (Tok j r) (Tok k r) refl (alike.tok r put)
-  move_alike l m free (alike.slot {n = n} {m = k} r e) = by_way (way n k e)
+      by_way (apart j taken put) = first_alike (Tok n r) (Tok j r) (first_step n j (Tok n r) taken refl free) (not_drawn (Tok n r) hs)
+          (alike.tok r (sym (taking_is n) ∙ taken)) ∙ second_alike (Tok j r) (Tok k r) refl refl (alike.tok r put)
+  move_alike l m free hs (alike.slot {n = n} {m = k} r e) = by_way (way n k e)
     where
       by_way : Goes node q part index n k → ListLike (Names (carried (Move node to part index))) (content t (Slot n r)) (content after (Slot k r))
       by_way (along rest is ends) =
@@ -407,9 +440,9 @@ module _ (classes : Classes) (t : Tree) (ok : conforms classes t 0 ≡ true) (no
           (tree_at t (node ++ rest))) (seen_in (q ++ (part, index) ∷ rest) r o)) (same_along rest)
           (slots_along rest r (tree_at t (node ++ rest)))))
       by_way (apart j taken put) =
-          lists_on joins (first_alike (Slot n r) (Slot j r) (first_step n j (Slot n r) taken refl free) (alike.slot r (sym (taking_is n) ∙ taken)))
-          (second_alike (Slot j r) (Slot k r) (slot_free n j r taken free) (alike.slot r put))
-  move_alike l m free (alike.up {n = n} {m = k} e) = by_way (way n k e)
+          lists_on joins (first_alike (Slot n r) (Slot j r) (first_step n j (Slot n r) taken refl free) (not_drawn (Slot n r) hs) (alike.slot r (sym (taking_is n) ∙ taken)))
+          (second_alike (Slot j r) (Slot k r) (slot_free n j r taken free) refl (alike.slot r put))
+  move_alike l m free hs (alike.up {n = n} {m = k} e) = by_way (way n k e)
     where
       by_way : Goes node q part index n k → SameUp (content t (Up n)) (content after (Up k))
       by_way (along rest is ends) =
@@ -417,13 +450,26 @@ module _ (classes : Classes) (t : Tree) (ok : conforms classes t 0 ≡ true) (no
           (subst (λ (x : Node). SameUp (up_of (parent_of (node ++ rest))) (up_of (parent_of x))) (sym ends)
           (ups_along rest (subst (λ (x : Node). touches (Move node to part index) (Up x) ≡ false) is free)))
       by_way (apart j taken put) =
-          options_on (λ a b c (r, e) (s, f). (joins a.0 b.0 c.0 r s, e ∙ f)) (first_alike (Up n) (Up j) (first_step n j (Up n) taken refl free) (alike.up (sym (taking_is n) ∙ taken)))
-          (second_alike (Up j) (Up k) refl (alike.up put))
-  move_alike l m free (alike.idx {n = n} {m = k} e) = by_way (way n k e)
+          options_on (λ a b c (r, e) (s, f). (joins a.0 b.0 c.0 r s, e ∙ f)) (first_alike (Up n) (Up j) (first_step n j (Up n) taken refl free) (not_drawn (Up n) hs) (alike.up (sym (taking_is n) ∙ taken)))
+          (second_alike (Up j) (Up k) refl refl (alike.up put))
+  move_alike l m free hs (alike.idx {n = n} {m = k} e) = by_way (way n k e)
     where
       by_way : Goes node q part index n k → content t (Idx n) ≡ content after (Idx k)
       by_way (along rest is ends) =
           ap (λ x. index_of (parent_of x)) is ∙ indexes_along rest (subst (λ (x : Node). touches (Move node to part index) (Idx x) ≡ false) is free) ∙ sym (ap (λ x. index_of (parent_of x)) ends)
       by_way (apart j taken put) =
-          first_alike (Idx n) (Idx j) (first_step n j (Idx n) taken refl free) (alike.idx (sym (taking_is n) ∙ taken)) ∙
-          second_alike (Idx j) (Idx k) (index_free n j taken free) (alike.idx put)
+          first_alike (Idx n) (Idx j) (first_step n j (Idx n) taken refl free) (not_drawn (Idx n) hs) (alike.idx (sym (taking_is n) ∙ taken)) ∙
+          second_alike (Idx j) (Idx k) (index_free n j taken free) refl (alike.idx put)
+  move_alike l m free hs (alike.drawer {n = n} {m = k} r key mark e) = by_way (way n k e)
+    where
+      by_way : Goes node q part index n k → ListLike (Names (carried (Move node to part index))) (content t (Drawer n r key mark)) (content after (Drawer k r key mark))
+      by_way (along rest is ends) =
+          subst (λ (x : Node). ListLike (Names (carried (Move node to part index))) (content t (Drawer x r key mark)) (content after (Drawer k r key mark))) (sym is)
+          (subst (λ (x : Node). ListLike (Names (carried (Move node to part index))) (content t (Drawer (node ++ rest) r key mark)) (content after (Drawer x r key mark))) (sym ends)
+          (subst (λ (o : Option Tree). ListLike (Names (carried (Move node to part index))) (drawn_in (node ++ rest) r key mark
+          (tree_at t (node ++ rest))) (drawn_in (q ++ (part, index) ∷ rest) r key mark o)) (same_along rest)
+          (drawers_along rest r key mark (tree_at t (node ++ rest)))))
+      by_way (apart j taken put) =
+          lists_on joins (first_alike (Drawer n r key mark) (Drawer j r key mark) (first_step n j (Drawer n r key mark) taken refl free) (not_drawn (Drawer n r key mark) hs)
+          (alike.drawer r key mark (sym (taking_is n) ∙ taken)))
+          (second_alike (Drawer j r key mark) (Drawer k r key mark) refl (drawer_free n j r key mark taken hs) (alike.drawer r key mark put))

@@ -1,19 +1,21 @@
 -- The trees before and after a change of one cell show the same, up to the nodes that move, wherever the change is not seen.
-use Rattle.std.proofs.Common.{◌≡◌, ℕ, zero, suc, Bool, true, false, ◌&&◌, nat_eq, if◌then◌else◌, List, [], ◌∷◌, ◌++◌, length, Option, Some, None, refl, sym, ap, ◌∙◌, subst, arith, option_and_then, option_map, ◌⊎◌, inl, inr}
+use Rattle.std.proofs.Common.{◌≡◌, ℕ, zero, suc, ◌+◌, Bool, true, false, ◌&&◌, nat_eq, if◌then◌else◌, List, [], ◌∷◌, ◌++◌, length, Option, Some, None, refl, sym, ap, ◌∙◌, subst, arith, option_and_then, option_map, ◌⊎◌, inl, inr}
 use Rattle.std.specs.Prelude.{⊤}
 use Rattle.std.specs.List.{slice_get}
 use Rattle.std.proofs.lemmas.Bool.Decides.{nat_tests}
 use Rattle.at_model.specs.Trees.{Tree, Cells, Cell, Trees, Node as branch, no_cells, cell, One, Many, Empty, Filled, Holds, no_trees, tree, class_of, to_cells, from_cells, to_trees, from_trees, children}
 use Rattle.at_model.specs.Trees as trees
 use Rattle.at_model.specs.Paths.{Node, cell_at, children_at, tree_at, step_eq, node_eq, is_within, parent_of}
-use Rattle.at_model.specs.Run.{Location, Is, Tok, Slot, Up, Idx}
-use Rattle.at_model.specs.Meaning.{token_in, child_nodes, content}
+use Rattle.at_model.specs.Drawers.{Key, stands_under}
+use Rattle.at_model.specs.Run.{Location, Is, Tok, Slot, Up, Idx, Drawer}
+use Rattle.at_model.specs.Meaning.{token_in, is_marked, child_nodes, chosen_nodes, content}
 use Rattle.at_model.specs.Alike.{OptionLike, ListLike, LocationLike, ContentLike, Names}
 use Rattle.at_model.specs.Alike as alike
 use Rattle.at_model.specs.Edits.{changed_at, with_child, with_cell, with_node, moved_under}
-use Rattle.at_model.proofs.Options.{mapped}
-use Rattle.at_model.proofs.Nodes.{step_eq-sound}
+use Rattle.at_model.proofs.Options.{both, mapped}
+use Rattle.at_model.proofs.Nodes.{step_eq-sound, step_eq-refl, node_eq-sound}
 use Rattle.at_model.proofs.WayUp.{snoc, parent_of-snoc}
+use Rattle.at_model.proofs.of_edits.Drawn.{Kept, chosen_alike, each_there}
 use Rattle.at_model.proofs.of_edits.Moving.{Way, KeepsParts, KeepsIndex, moved-snoc, moved_children, moved-nil}
 use Rattle.at_model.proofs.of_edits.Ways.{same_some}
 
@@ -148,6 +150,19 @@ tree_at-append t (s ∷ a) b = each_child (slice_get (children_at t s.0) s.1) (�
     each_child None h = refl
     each_child (Some u) h = h u
 
+-- the tree at a child
+as_it_is : {A : Type 0} (o : Option A) → option_and_then (λ (w : A). Some w) o ≡ o
+as_it_is None = refl
+as_it_is (Some a) = refl
+
+pub at_child : (t : Tree) (n : Node) (s : Way) (u : Tree) → tree_at t n ≡ Some u → tree_at t (n ++ s ∷ []) ≡ slice_get (children_at u s.0) s.1
+at_child t n s u e = tree_at-append t n (s ∷ []) ∙ ap (option_and_then (λ x. tree_at x (s ∷ []))) e ∙ as_it_is (slice_get (children_at u s.0) s.1)
+
+-- a test of what stands there, where a map leaves it as it is
+tested : (f : Tree → Bool) (h : Tree → Tree) (o : Option Tree) → ((v : Tree) → o ≡ Some v → f (h v) ≡ f v) → option_map f (option_map h o) ≡ option_map f o
+tested f h None same = refl
+tested f h (Some v) same = ap Some (same v refl)
+
 -- the changed tree stands where it stood
 pub changed_there : (f : Tree → Tree) (t : Tree) (p : Node) → tree_at (with_node f t p) p ≡ option_map f (tree_at t p)
 changed_there f t [] = refl
@@ -169,6 +184,10 @@ module _ (g : Cell → Cell) (part : ℕ) (past : Way → Option Way) where
   abbrev pub FitsAt : Tree → Node → Type 0
   FitsAt t p = (u : Tree) (c : Cell) → tree_at t p ≡ Some u → cell_at u part ≡ Some c → Fits c
 
+  -- where a place of the component goes
+  abbrev pub Goes : ℕ → ℕ → Type 0
+  Goes = λ i j. past (part, i) ≡ Some (part, j)
+
   -- the change is not seen at the location, or what is seen there stays
   abbrev pub Unseen : Tree → Node → Location Node → Type 0
   Unseen t p (Is n) = ⊤
@@ -176,6 +195,10 @@ module _ (g : Cell → Cell) (part : ℕ) (past : Way → Option Way) where
   Unseen t p (Slot n q) = (node_eq p n && nat_eq part q) ≡ true → (u : Tree) (c : Cell) → tree_at t n ≡ Some u → cell_at u part ≡ Some c → (children c ≡ []) × (children (g c) ≡ [])
   Unseen t p (Up n) = ⊤
   Unseen t p (Idx n) = (m : Node) (s : Way) → n ≡ m ++ s ∷ [] → (node_eq p m && nat_eq part s.0) ≡ true → KeepsIndex past
+  Unseen t p (Drawer n q key k) =
+      ((node_eq p n && nat_eq part q) ≡ true → (u : Tree) (c : Cell) → tree_at t n ≡ Some u → cell_at u part ≡ Some c → Kept (is_marked key k) Goes 0 (children c) 0 (children (g c)))
+      × ((j : ℕ) → (node_eq p (n ++ (q, j) ∷ []) && nat_eq part key.token) ≡ true → (u : Tree) (c : Cell) → tree_at t (n ++ (q, j) ∷ []) ≡ Some u → cell_at u part ≡ Some c
+      → stands_under key k (class_of u) (token_in (Some (g c))) ≡ stands_under key k (class_of u) (token_in (Some c)))
 
   module _ (keeps : KeepsParts past part) where
     in_cell-moved : (o : Option Cell) → ((c : Cell) → o ≡ Some c → Fits c) → (s u : Way) → s.0 ≡ part → past s ≡ Some u → slice_get (in_cell (option_map g o)) u.1 ≡ slice_get (in_cell o) s.1
@@ -367,6 +390,87 @@ module _ (g : Cell → Cell) (part : ℕ) (past : Way → Option Way) where
             let moves = moved-snoc past part keeps p k s m (subst (λ (x : Node). moved_under p past x ≡ Some m) is e) in
             ap index_at (ap parent_of is ∙ parent_of-snoc k s) ∙ sym (moves.index_same (h k s is)) ∙ sym (ap index_at (ap parent_of moves.is ∙ parent_of-snoc moves.parent moves.step))
 
+    -- the node itself stays, and its children in the cell go where their steps lead
+    moved_self : (p : Node) → moved_under p past p ≡ Some p
+    moved_self [] = refl
+    moved_self (a ∷ p) = ap (λ (b : Bool). if b then option_map (λ (us : Node). a ∷ us) (moved_under p past p) else Some (a ∷ p)) (step_eq-refl a) ∙ ap (option_map (λ (us : Node). a ∷ us)) (moved_self p)
+
+    moved_here : (p : Node) (s u : Way) → past s ≡ Some u → moved_under p past (p ++ s ∷ []) ≡ Some (p ++ u ∷ [])
+    moved_here [] s u e = ap (option_map (λ (w : Way). w ∷ [])) e
+    moved_here (a ∷ p) s u e =
+        ap (λ (b : Bool). if b then option_map (λ (us : Node). a ∷ us) (moved_under p past (p ++ s ∷ [])) else Some (a ∷ (p ++ s ∷ []))) (step_eq-refl a)
+        ∙ ap (option_map (λ (us : Node). a ∷ us)) (moved_here p s u e)
+
+    pub local_here : (p : Node) (v : Tree) → local p p v ≡ with_cell g part v
+    local_here [] v = refl
+    local_here (a ∷ p) v = ap (λ (b : Bool). if b then local p p v else v) (step_eq-refl a) ∙ local_here p v
+
+    -- what stands under a mark, where the change is not seen
+    module _ (t : Tree) (p n m : Node) (q : ℕ) (key : Key) (k : ℕ) (v : Tree) (fits : FitsAt t p) (goes : moved_under p past n ≡ Some m) (found : tree_at t n ≡ Some v)
+        (h : Unseen t p (Drawer n q key k)) where
+      abbrev marked : Tree → Bool
+      marked x = is_marked key k x
+
+      abbrev Alike : List Node → List Node → Type 0
+      Alike = ListLike (Names (moved_under p past))
+
+      -- an element that is not in the changed cell
+      same_mark : (j : ℕ) (x : Tree) → slice_get (children_at v q) j ≡ Some x → is_marked key k (local p (n ++ (q, j) ∷ []) x) ≡ is_marked key k x
+      same_mark j x child =
+          ap (λ (c : ℕ). stands_under key k c (token_in (cell_at (local p (n ++ (q, j) ∷ []) x) key.token))) (local_class p (n ++ (q, j) ∷ []) x)
+          ∙ local_told (λ o. stands_under key k (class_of x) (token_in o)) (λ f i c. ap (stands_under key k (class_of x)) (child-token f i c)) p (n ++ (q, j) ∷ []) x key.token
+          (λ same c here. h.1 j same x c (at_child t n (q, j) v found ∙ child) here)
+
+      same_marks : (node_eq p n && nat_eq part q) ≡ false → (j : ℕ) → option_map marked (slice_get (children_at (local p n v) q) j) ≡ option_map marked (slice_get (children_at v q) j)
+      same_marks apart j =
+          let s : Way = (q, j) in
+          let now : tree_at (with_node (with_cell g part) t p) m ≡ Some (local p n v) = tree_moved p n m t fits goes ∙ ap (option_map (local p n)) found in
+          let child : tree_at (with_node (with_cell g part) t p) (m ++ s ∷ []) ≡ option_map (local p (n ++ s ∷ [])) (tree_at t (n ++ s ∷ [])) =
+          tree_moved p (n ++ s ∷ []) (m ++ s ∷ []) t fits (moved_children past part keeps p n m s apart goes) in
+          let is : slice_get (children_at (local p n v) q) j ≡ option_map (local p (n ++ s ∷ [])) (slice_get (children_at v q) j) =
+          sym (at_child (with_node (with_cell g part) t p) m s (local p n v) now) ∙ child ∙ ap (option_map (local p (n ++ s ∷ []))) (at_child t n s v found) in
+          ap (option_map marked) is ∙ tested marked (local p (n ++ s ∷ [])) (slice_get (children_at v q) j) (same_mark j)
+
+      elsewhere : (node_eq p n && nat_eq part q) ≡ false → Alike (chosen_nodes marked n q 0 (children_at v q)) (chosen_nodes marked m q 0 (children_at (local p n v) q))
+      elsewhere apart =
+          let going : ℕ → ℕ → Type 0 = λ i j. moved_under p past (n ++ (q, i) ∷ []) ≡ Some (m ++ (q, j) ∷ []) in
+          chosen_alike marked going (Names (moved_under p past)) n m q (λ i j e. e) 0 (children_at v q) 0 (children_at (local p n v) q)
+          (each_there marked going 0 (children_at v q) (children_at (local p n v) q) (same_marks apart)
+          (λ j x e. inl (moved_children past part keeps p n m (q, 0 + j) apart goes)))
+
+      -- those in the changed cell
+      in_place : (node_eq p n && nat_eq part q) ≡ true → Alike (chosen_nodes marked n q 0 (children_at v q)) (chosen_nodes marked m q 0 (children_at (local p n v) q))
+      in_place target =
+          let (x, y) = both (node_eq p n) (nat_eq part q) target in
+          let at_n : p ≡ n = node_eq-sound p n x in
+          let at_q : part ≡ q = grind (arith, nat_tests) in
+          let at_m : p ≡ m = same_some p m (sym (moved_self p) ∙ ap (moved_under p past) at_n ∙ goes) in
+          let there : tree_at t p ≡ Some v = ap (tree_at t) at_n ∙ found in
+          let D : Node → Node → ℕ → Type 0 = λ a b r. Alike (chosen_nodes marked a r 0 (children_at v r)) (chosen_nodes marked b r 0 (children_at (local p a v) r)) in
+          subst (λ (a : Node). D a m q) at_n (subst (λ (b : Node). D p b q) at_m (subst (λ (r : ℕ). D p p r) at_q (base there)))
+        where
+          by_cell : (o : Option Cell) → cell_at v part ≡ o → Alike (chosen_nodes marked p part 0 (in_cell o)) (chosen_nodes marked p part 0 (in_cell (option_map g o)))
+          by_cell None here = alike.end
+          by_cell (Some c) here = chosen_alike marked Goes (Names (moved_under p past)) p p part (λ i j e. moved_here p (part, i) (part, j) e) 0 (children c) 0 (children (g c))
+              (h.0 target v c found here)
+
+          base : tree_at t p ≡ Some v → Alike (chosen_nodes marked p part 0 (children_at v part)) (chosen_nodes marked p part 0 (children_at (local p p v) part))
+          base there = subst (λ (ys : List Tree). Alike (chosen_nodes marked p part 0 (children_at v part)) (chosen_nodes marked p part 0 ys))
+              (sym (ap (λ x. children_at x part) (local_here p v) ∙ ap in_cell (cell-same g part v))) (by_cell (cell_at v part) refl)
+
+      drawn_alike : Alike (chosen_nodes marked n q 0 (children_at v q)) (chosen_nodes marked m q 0 (children_at (local p n v) q))
+      drawn_alike = by_target (node_eq p n && nat_eq part q) refl
+        where
+          by_target : (b : Bool) → (node_eq p n && nat_eq part q) ≡ b → Alike (chosen_nodes marked n q 0 (children_at v q)) (chosen_nodes marked m q 0 (children_at (local p n v) q))
+          by_target true target = in_place target
+          by_target false apart = elsewhere apart
+
+    drawers_alike : (t : Tree) (p n m : Node) (q : ℕ) (key : Key) (k : ℕ) → FitsAt t p → moved_under p past n ≡ Some m → Unseen t p (Drawer n q key k) → (o : Option Tree) → tree_at t n ≡ o
+        → ListLike (Names (moved_under p past)) (elim o [ None ↦ [] | Some u ↦ chosen_nodes (is_marked key k) n q 0 (children_at u q) ])
+        (elim (option_map (local p n) o) [ None ↦ [] | Some u ↦ chosen_nodes (is_marked key k) m q 0 (children_at u q) ])
+    drawers_alike t p n m q key k fits goes h None found = alike.end
+    drawers_alike t p n m q key k fits goes h (Some v) found = drawn_alike t p n m q key k v fits goes found h
+
     -- the trees are alike wherever the change is not seen
     pub cell_alike : (t : Tree) (p : Node) → FitsAt t p → (l m : Location Node) (s : LocationLike (Names (moved_under p past)) l m) → Unseen t p l →
         ContentLike (Names (moved_under p past)) s (content t l) (content (with_node (with_cell g part) t p) m)
@@ -379,6 +483,10 @@ module _ (g : Cell → Cell) (part : ℕ) (past : Way → Option Way) where
         subst P (sym (tree_moved p n k t fits r)) (slots_alike p n k q (tree_at t n) r h)
     cell_alike t p fits l m (alike.up {n = n} {m = k} r) h = parents_alike p n k r
     cell_alike t p fits l m (alike.idx {n = n} {m = k} r) h = indexes_alike p n k r h
+    cell_alike t p fits l m (alike.drawer {n = n} {m = k} q key mark r) h =
+        let P : Option Tree → Type 0 = λ o. ListLike (Names (moved_under p past)) (content t (Drawer n q key mark))
+        (elim o [ None ↦ [] | Some u ↦ chosen_nodes (is_marked key mark) k q 0 (children_at u q) ]) in
+        subst P (sym (tree_moved p n k t fits r)) (drawers_alike t p n k q key mark fits r h (tree_at t n) refl)
 
     -- what stands at a node that is not above the change stays
     local-same : (p n : Node) (v : Tree) → is_within n p ≡ false → local p n v ≡ v

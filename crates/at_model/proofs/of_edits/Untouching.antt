@@ -7,12 +7,13 @@ use Rattle.at_model.specs.Classes as class
 use Rattle.at_model.specs.Trees.{Tree, Cell, Trees, Node as branch, One, Many, Empty, Filled, Holds, no_trees, tree, class_of, cells_of, to_cells, from_cells, to_trees, from_trees, children, conforms, cells_conform, cell_conforms}
 use Rattle.at_model.specs.Trees as trees
 use Rattle.at_model.specs.Paths.{Node, cell_at, children_at, tree_at, step_eq, node_eq, is_within, is_child, parent_of}
-use Rattle.at_model.specs.Run.{Location, Is, Tok, Slot, Up, Idx}
-use Rattle.at_model.specs.Meaning.{token_in, content}
+use Rattle.at_model.specs.Drawers.{stands_under}
+use Rattle.at_model.specs.Run.{Location, Is, Tok, Slot, Up, Idx, Drawer}
+use Rattle.at_model.specs.Meaning.{token_in, is_marked, content}
 use Rattle.at_model.specs.Alike.{LocationLike, ContentLike, Names, AlikeAt}
 use Rattle.at_model.specs.Alike as alike
 use Rattle.at_model.specs.Edits.{Set, Put, Drop, Insert, Token, shape_at, plain_class, list_class, optional_class, token_kind, has_component, is_in_range, children_of, with_child, with_cell, with_node, without_child, with_one_more, left_by, moved_under, past_set, past_put, past_drop, past_insert}
-use Rattle.at_model.specs.Touches.{touches, is_slot, is_index, is_slot_around, is_index_around}
+use Rattle.at_model.specs.Touches.{touches, shifts, is_slot, is_index, is_slot_around, is_index_around, is_drawer_around, is_drawer_of}
 use Rattle.at_model.proofs.Options.{both}
 use Rattle.at_model.proofs.Nodes.{node_eq-sound}
 use Rattle.at_model.proofs.Complete.{conforms_at, cell_there}
@@ -21,7 +22,9 @@ use Rattle.at_model.proofs.WayUp.{parent_of-snoc}
 use Rattle.at_model.proofs.of_edits.Moving.{Way, KeepsParts}
 use Rattle.at_model.proofs.of_edits.Ways.{set_way, put_way, DropWay, drop_way, InsertWay, insert_way, set_keeps, put_keeps, drop_keeps, insert_keeps}
 use Rattle.at_model.proofs.of_edits.Ways as way
-use Rattle.at_model.proofs.of_edits.Untouched.{FitsAt, Unseen, cell_alike, child-other, child-token, from_to_trees}
+use Rattle.at_model.proofs.of_edits.Drawn.{Kept, none, comes}
+use Rattle.at_model.proofs.of_edits.Drawing.{replaced, dropped, put_among, behind_true, off_around, off_there, token_kept}
+use Rattle.at_model.proofs.of_edits.Untouched.{FitsAt, Goes, Unseen, cell_alike, in_cell, child-other, child-token, from_to_trees}
 
 pub false_or : (a b : Bool) → (a || b) ≡ false → (a ≡ false) × (b ≡ false)
 false_or true b e = absurd cc
@@ -143,6 +146,13 @@ dropped-token zero (Filled t) = refl
 dropped-token (suc i) (Filled t) = refl
 dropped-token i (Holds v) = refl
 
+inserted-token : (new : Tree) (i : ℕ) (c : Cell) → token_in (Some (with_one_more new i c)) ≡ token_in (Some c)
+inserted-token new i (One t) = refl
+inserted-token new i (Many ts) = refl
+inserted-token new i Empty = refl
+inserted-token new i (Filled t) = refl
+inserted-token new i (Holds v) = refl
+
 pub inserted-fits : (ts : Trees) (place s u : Way) (new : Tree) → place.1 ≤ length (from_trees ts) → s.0 ≡ place.0 → InsertWay place s u →
     slice_get (children (with_one_more new place.1 (Many ts))) u.1 ≡ slice_get (from_trees ts) s.1
 inserted-fits ts place s u new bound same (way.behind a less b next) =
@@ -178,17 +188,24 @@ nowhere l m (alike.tok q r) = cc
 nowhere l m (alike.slot q r) = cc
 nowhere l m (alike.up r) = cc
 nowhere l m (alike.idx r) = cc
+nowhere l m (alike.drawer q key k r) = cc
 
 module _ (classes : Classes) (t : Tree) (ok : conforms classes t 0 ≡ true) where
   set_unseen : (node : Node) (new : Tree) (p : Node × Way) → parent_of node ≡ Some p → (l : Location Node)
-      → touches (Set node new) l ≡ false → Unseen (with_child (λ u. new) p.1.1) p.1.0 (past_set p.1) t p.0 l
-  set_unseen node new p is (Is n) h = tt
-  set_unseen node new p is (Tok n q) h = λ same u c found here. child-token (λ u. new) p.1.1 c
-  set_unseen node new p is (Slot n q) h = λ same u c found here. absurd (not_both _ same
+      → touches (Set node new) l ≡ false → shifts t (Set node new) l ≡ false → Unseen (with_child (λ u. new) p.1.1) p.1.0 (past_set p.1) t p.0 l
+  set_unseen node new p is (Is n) h hs = tt
+  set_unseen node new p is (Tok n q) h hs = λ same u c found here. child-token (λ u. new) p.1.1 c
+  set_unseen node new p is (Slot n q) h hs = λ same u c found here. absurd (not_both _ same
       (sym (ap (λ (o : Option (Node × Way)). elim o [ None ↦ false | Some x ↦ is_slot x.0 x.1.0 (Slot n q) ]) is)
       ∙ (false_or _ _ h).1))
-  set_unseen node new p is (Up n) h = tt
-  set_unseen node new p is (Idx n) h = λ m s e same r u f. ap (λ (w : Way). w.1) (sym (set_way p.1 r u f).0)
+  set_unseen node new p is (Up n) h hs = tt
+  set_unseen node new p is (Idx n) h hs = λ m s e same r u f. ap (λ (w : Way). w.1) (sym (set_way p.1 r u f).0)
+  set_unseen node new p is (Drawer n q key k) h hs =
+      let offs = false_or (is_drawer_of t node (Drawer n q key k)) (is_drawer_around node new (Drawer n q key k)) hs in (
+        λ same u c found here. replaced (is_marked key k) new p.1.0 p.1.1 c (λ x child. off_there t node p n q key k u c x is same offs.0 found here child)
+            (off_around node p new n q key k is same offs.1),
+        λ j same u c found here. ap (stands_under key k (class_of u)) (child-token (λ u. new) p.1.1 c),
+      )
 
   pub set_fits : (new : Tree) (p : Node × Way) → FitsAt (with_child (λ u. new) p.1.1) p.1.0 (past_set p.1) t p.0
   set_fits new p u c found here r w same e =
@@ -199,11 +216,11 @@ module _ (classes : Classes) (t : Tree) (ok : conforms classes t 0 ≡ true) whe
       ap (λ (x : Way). slice_get (children (with_child (λ u. new) p.1.1 c)) x.1) (sym stays) ∙ child-other (λ u. new) p.1.1 r.1 c differs
 
   set_alike : (node : Node) (new : Tree) (p : Node × Way) → parent_of node ≡ Some p → (l m : Location Node)
-      → touches (Set node new) l ≡ false → (s : LocationLike (Names (moved_under p.0 (past_set p.1))) l m) →
+      → touches (Set node new) l ≡ false → shifts t (Set node new) l ≡ false → (s : LocationLike (Names (moved_under p.0 (past_set p.1))) l m) →
       ContentLike (Names (moved_under p.0 (past_set p.1))) s (content t l) (content (left_by t (Set node new)) m)
-  set_alike node new p is l m h s =
+  set_alike node new p is l m h hs s =
       subst (λ (x : Tree). ContentLike (Names (moved_under p.0 (past_set p.1))) s (content t l) (content x m)) (sym (set_in_parent classes new node p is t))
-      (cell_alike (with_child (λ u. new) p.1.1) p.1.0 (past_set p.1) (set_keeps p.1) t p.0 (set_fits new p) l m s (set_unseen node new p is l h))
+      (cell_alike (with_child (λ u. new) p.1.1) p.1.0 (past_set p.1) (set_keeps p.1) t p.0 (set_fits new p) l m s (set_unseen node new p is l h hs))
 
   -- what is seen of the component that an edit needs
   pub component_there : {A : Type 0} (select : Shape → Option A) (p : Node) (part : ℕ) (u : Tree) (c : Cell)
@@ -212,35 +229,61 @@ module _ (classes : Classes) (t : Tree) (ok : conforms classes t 0 ≡ true) whe
   component_there select p part u c has found here = let (shape, is, fits) = shape_there classes t p part u c ok found
       here in (shape, selected select (shape_at classes t p part) true shape is has, fits)
 
-  put_unseen : (node : Node) (part : ℕ) (new : Tree) → has_component classes t (Put node part new) ≡ true → (l :
-      Location Node) → touches (Put node part new) l ≡ false → Unseen (λ c. Filled new) part (past_put part) t node l
-  put_unseen node part new has (Is n) h = tt
-  put_unseen node part new has (Tok n q) h = λ same u c found here.
+  -- the children of a component of a node
+  component_children : (node : Node) (part : ℕ) (u : Tree) (c : Cell) → tree_at t node ≡ Some u → cell_at u part ≡ Some c → children_of t node part ≡ children c
+  component_children node part u c found here = ap (λ (o : Option Tree). elim o [ None ↦ [] | Some x ↦ children_at x part ]) found ∙ ap in_cell here
+
+  put_token : (node : Node) (part : ℕ) (new : Tree) → has_component classes t (Put node part new) ≡ true → (n : Node) (q : ℕ) → (node_eq node n && nat_eq part q) ≡ true
+      → (u : Tree) (c : Cell) → tree_at t n ≡ Some u → cell_at u part ≡ Some c → token_in (Some (Filled new)) ≡ token_in (Some c)
+  put_token node part new has n q same u c found here =
       let at' = node_eq-sound node n (both _ _ same).0 in
       let (shape, some, fits) = component_there optional_class node part u c has (subst (λ (x : Node). tree_at t x ≡ Some u) (sym at') found) here in sym (optional_cell classes c shape some fits)
-  put_unseen node part new has (Slot n q) h = λ same u c found here. absurd (not_both _ same h)
-  put_unseen node part new has (Up n) h = tt
-  put_unseen node part new has (Idx n) h = λ m s e same r u f. ap (λ (w : Way). w.1) (sym (put_way part r u f).0)
+
+  put_unseen : (node : Node) (part : ℕ) (new : Tree) → has_component classes t (Put node part new) ≡ true → children_of t node part ≡ [] → (l :
+      Location Node) → touches (Put node part new) l ≡ false → shifts t (Put node part new) l ≡ false → Unseen (λ c. Filled new) part (past_put part) t node l
+  put_unseen node part new has free (Is n) h hs = tt
+  put_unseen node part new has free (Tok n q) h hs = λ same u c found here. put_token node part new has n q same u c found here
+  put_unseen node part new has free (Slot n q) h hs = λ same u c found here. absurd (not_both _ same h)
+  put_unseen node part new has free (Up n) h hs = tt
+  put_unseen node part new has free (Drawer n q key k) h hs = (
+    λ same u c found here.
+        let at' = node_eq-sound node n (both _ _ same).0 in
+        let bare : children c ≡ [] = sym (component_children node part u c (subst (λ (x : Node). tree_at t x ≡ Some u) (sym at') found) here) ∙ free in
+        let off : is_marked key k new ≡ false = behind_true (node_eq node n && nat_eq part q) (is_marked key k new) same hs in
+        subst (λ (xs : List Tree). Kept (is_marked key k) (Goes (λ c. Filled new) part (past_put part)) 0 xs 0 (new ∷ [])) (sym bare) (comes 0 0 new [] [] off (none 0 1)),
+    λ j same u c found here. ap (stands_under key k (class_of u)) (put_token node part new has (n ++ (q, j) ∷ []) key.token same u c found here),
+  )
+  put_unseen node part new has free (Idx n) h hs = λ m s e same r u f. ap (λ (w : Way). w.1) (sym (put_way part r u f).0)
 
   pub put_fits : (node : Node) (part : ℕ) (new : Tree) → FitsAt (λ c. Filled new) part (past_put part) t node
   put_fits node part new u c found here r w same e = absurd (not_both (nat_eq part r.0) (grind (arith, nat_tests)) (put_way part r w e).1)
 
-  pub put_alike : (node : Node) (part : ℕ) (new : Tree) → has_component classes t (Put node part new) ≡ true
-      → (l m : Location Node) → touches (Put node part new) l ≡ false
+  pub put_alike : (node : Node) (part : ℕ) (new : Tree) → has_component classes t (Put node part new) ≡ true → children_of t node part ≡ []
+      → (l m : Location Node) → touches (Put node part new) l ≡ false → shifts t (Put node part new) l ≡ false
       → (s : LocationLike (Names (moved_under node (past_put part))) l m) →
       ContentLike (Names (moved_under node (past_put part))) s (content t l) (content (left_by t (Put node part new)) m)
-  put_alike node part new has l m h s =
-      cell_alike (λ c. Filled new) part (past_put part) (put_keeps part) t node (put_fits node part new) l m s (put_unseen node part new has l h)
+  put_alike node part new has free l m h hs s =
+      cell_alike (λ c. Filled new) part (past_put part) (put_keeps part) t node (put_fits node part new) l m s (put_unseen node part new has free l h hs)
 
-  drop_unseen : (node : Node) (p : Node × Way) → parent_of node ≡ Some p → (l : Location Node) → touches (Drop node) l ≡ false → Unseen (without_child p.1.1) p.1.0 (past_drop p.1) t p.0 l
-  drop_unseen node p is (Is n) h = tt
-  drop_unseen node p is (Tok n q) h = λ same u c found here. dropped-token p.1.1 c
-  drop_unseen node p is (Slot n q) h = λ same u c found here.
+  drop_unseen : (node : Node) (p : Node × Way) → parent_of node ≡ Some p → is_some (option_and_then plain_class (shape_at classes t p.0 p.1.0)) ≡ false
+      → (l : Location Node) → touches (Drop node) l ≡ false → shifts t (Drop node) l ≡ false → Unseen (without_child p.1.1) p.1.0 (past_drop p.1) t p.0 l
+  drop_unseen node p is plain (Is n) h hs = tt
+  drop_unseen node p is plain (Tok n q) h hs = λ same u c found here. dropped-token p.1.1 c
+  drop_unseen node p is plain (Slot n q) h hs = λ same u c found here.
       let around = false_or (is_within node n || is_slot_around node (Slot n q)) (is_index_around node (Slot n q)) h in
       let apart = false_or (is_within node n) (is_slot_around node (Slot n q)) around.0 in
       absurd (not_both _ same (sym (ap (λ (o : Option (Node × Way)). elim o [ None ↦ false | Some x ↦ is_slot x.0 x.1.0 (Slot n q) ]) is) ∙ apart.1))
-  drop_unseen node p is (Up n) h = tt
-  drop_unseen node p is (Idx n) h = λ m s e same.
+  drop_unseen node p is plain (Up n) h hs = tt
+  drop_unseen node p is plain (Drawer n q key k) h hs = (
+    λ same u c found here.
+        let found' : tree_at t p.0 ≡ Some u = ap (tree_at t) (node_eq-sound p.0 n (both _ _ same).0) ∙ found in
+        let (shape, sees, conf) = shape_there classes t p.0 p.1.0 u c ok found' here in
+        dropped (is_marked key k) p.1.0 p.1.1 c
+        (λ x e. plain_cell classes x shape (selected plain_class (shape_at classes t p.0 p.1.0) false shape sees plain) (subst (λ (z : Cell). cell_conforms classes z shape ≡ true) e conf))
+        (λ x child. off_there t node p n q key k u c x is same hs found here child),
+    λ j same u c found here. ap (stands_under key k (class_of u)) (dropped-token p.1.1 c),
+  )
+  drop_unseen node p is plain (Idx n) h hs = λ m s e same.
       let around = false_or (is_within node n || is_slot_around node (Idx n)) (is_index_around node (Idx n)) h in
       absurd (not_both _ same (sym (child_seen p.0 m p.1.0 s n e) ∙ sym (ap (λ (o : Option (Node × Way)). elim o [ None ↦ false | Some x ↦ is_index x.0 x.1.0 (Idx n) ]) is) ∙ around.1))
 
@@ -250,31 +293,44 @@ module _ (classes : Classes) (t : Tree) (ok : conforms classes t 0 ≡ true) whe
       dropped-fits classes p.1 r w c shape (selected plain_class (shape_at classes t p.0 p.1.0) false shape sees plain) conf same (drop_way p.1 r w e)
 
   pub drop_alike : (node : Node) (p : Node × Way) → parent_of node ≡ Some p → is_some (option_and_then plain_class
-      (shape_at classes t p.0 p.1.0)) ≡ false → (l m : Location Node) → touches (Drop node) l ≡ false →
+      (shape_at classes t p.0 p.1.0)) ≡ false → (l m : Location Node) → touches (Drop node) l ≡ false → shifts t (Drop node) l ≡ false →
       (s : LocationLike (Names (moved_under p.0 (past_drop p.1))) l m)
       → ContentLike (Names (moved_under p.0 (past_drop p.1))) s (content t l)
       (content (with_node (with_cell (without_child p.1.1) p.1.0) t p.0) m)
-  drop_alike node p is plain l m h s =
-      cell_alike (without_child p.1.1) p.1.0 (past_drop p.1) (drop_keeps p.1) t p.0 (drop_fits p plain) l m s (drop_unseen node p is l h)
-
-  insert_unseen : (node : Node) (part index : ℕ) (new : Tree) → (l : Location Node) → touches (Insert node part index
-      new) l ≡ false → Unseen (with_one_more new index) part (past_insert (part, index)) t node l
-  insert_unseen node part index new (Is n) h = tt
-  insert_unseen node part index new (Tok n q) h = λ same u c found here. inserted-token new index c
-    where
-      inserted-token : (new : Tree) (i : ℕ) (c : Cell) → token_in (Some (with_one_more new i c)) ≡ token_in (Some c)
-      inserted-token new i (One t) = refl
-      inserted-token new i (Many ts) = refl
-      inserted-token new i Empty = refl
-      inserted-token new i (Filled t) = refl
-      inserted-token new i (Holds v) = refl
-  insert_unseen node part index new (Slot n q) h = λ same u c found here. absurd (not_both _ same (false_or _ _ h).0)
-  insert_unseen node part index new (Up n) h = tt
-  insert_unseen node part index new (Idx n) h = λ m s e same. absurd (not_both _ same (sym (child_seen node m part s n e) ∙ h))
+  drop_alike node p is plain l m h hs s =
+      cell_alike (without_child p.1.1) p.1.0 (past_drop p.1) (drop_keeps p.1) t p.0 (drop_fits p plain) l m s (drop_unseen node p is plain l h hs)
 
   -- the children that the test of the index counts
   pub counted : (node : Node) (part : ℕ) (u : Tree) (ts : Trees) → tree_at t node ≡ Some u → cell_at u part ≡ Some (Many ts) → children_of t node part ≡ from_trees ts
   counted node part u ts found here = ap (λ (o : Option Tree). elim o [ None ↦ [] | Some x ↦ children_at x part ]) found ∙ ap (λ (o : Option Cell). elim o [ None ↦ [] | Some c ↦ children c ]) here
+
+  insert_bound : (node : Node) (part index : ℕ) (new : Tree) → is_in_range t (Insert node part index new) ≡ true → (u : Tree) (c : Cell) (ts : Trees)
+      → tree_at t node ≡ Some u → cell_at u part ≡ Some c → c ≡ Many ts → index ≤ length (from_trees ts)
+  insert_bound node part index new range u c ts found here is =
+      let count : length (children_of t node part) ≡ length (from_trees ts) = ap length (counted node part u ts found (here ∙ ap Some is)) in
+      let bound : index ≤ length (children_of t node part) = grind (arith, nat_tests) in
+      omega arith
+
+  insert_unseen : (node : Node) (part index : ℕ) (new : Tree)
+      → has_component classes t (Insert node part index new) ≡ true → is_in_range t (Insert node part index new) ≡ true
+      → (l : Location Node) → touches (Insert node part index new) l ≡ false → shifts t (Insert node part index new) l ≡ false
+      → Unseen (with_one_more new index) part (past_insert (part, index)) t node l
+  insert_unseen node part index new has range (Is n) h hs = tt
+  insert_unseen node part index new has range (Tok n q) h hs = λ same u c found here. inserted-token new index c
+  insert_unseen node part index new has range (Slot n q) h hs = λ same u c found here. absurd (not_both _ same (false_or _ _ h).0)
+  insert_unseen node part index new has range (Up n) h hs = tt
+  insert_unseen node part index new has range (Idx n) h hs = λ m s e same. absurd (not_both _ same (sym (child_seen node m part s n e) ∙ h))
+  insert_unseen node part index new has range (Drawer n q key k) h hs = (
+    λ same u c found here.
+        let at' = node_eq-sound node n (both _ _ same).0 in
+        let found' : tree_at t node ≡ Some u = ap (tree_at t) at' ∙ found in
+        let (shape, some, conf) = component_there list_class node part u c has found' here in
+        let (ts, is) = list_cell classes c shape some conf in
+        let off : is_marked key k new ≡ false = behind_true (node_eq node n && nat_eq part q) (is_marked key k new) same hs in
+        subst (λ (x : Cell). Kept (is_marked key k) (Goes (with_one_more new index) part (past_insert (part, index))) 0 (children x) 0 (children (with_one_more new index x))) (sym is)
+        (put_among (is_marked key k) new part index ts (insert_bound node part index new range u c ts found' here is) off),
+    λ j same u c found here. ap (stands_under key k (class_of u)) (inserted-token new index c),
+  )
 
   pub insert_fits : (node : Node) (part index : ℕ) (new : Tree)
       → has_component classes t (Insert node part index new) ≡ true → is_in_range t (Insert node part index new) ≡ true
@@ -289,45 +345,52 @@ module _ (classes : Classes) (t : Tree) (ok : conforms classes t 0 ≡ true) whe
 
   pub insert_alike : (node : Node) (part index : ℕ) (new : Tree)
       → has_component classes t (Insert node part index new) ≡ true → is_in_range t (Insert node part index new) ≡ true
-      → (l m : Location Node) → touches (Insert node part index new) l ≡ false →
+      → (l m : Location Node) → touches (Insert node part index new) l ≡ false → shifts t (Insert node part index new) l ≡ false →
       (s : LocationLike (Names (moved_under node (past_insert (part, index)))) l m)
       → ContentLike (Names (moved_under node (past_insert (part, index)))) s (content t l)
       (content (left_by t (Insert node part index new)) m)
-  insert_alike node part index new has range l m h s =
+  insert_alike node part index new has range l m h hs s =
       cell_alike (with_one_more new index) part (past_insert (part, index)) (insert_keeps (part, index)) t node
-      (insert_fits node part index new has range) l m s (insert_unseen node part index new l h)
+      (insert_fits node part index new has range) l m s (insert_unseen node part index new has range l h hs)
 
   token_unseen : (node : Node) (part : ℕ) (v : trees.Token) → has_component classes t (Token node part v) ≡ true → (l :
-      Location Node) → touches (Token node part v) l ≡ false → Unseen (λ c. Holds v) part (λ (s : Way). Some s) t node l
-  token_unseen node part v has (Is n) h = tt
-  token_unseen node part v has (Tok n q) h = λ same u c found here. absurd (not_both _ same h)
-  token_unseen node part v has (Slot n q) h = λ same u c found here.
+      Location Node) → touches (Token node part v) l ≡ false → shifts t (Token node part v) l ≡ false → Unseen (λ c. Holds v) part (λ (s : Way). Some s) t node l
+  token_unseen node part v has (Is n) h hs = tt
+  token_unseen node part v has (Tok n q) h hs = λ same u c found here. absurd (not_both _ same h)
+  token_unseen node part v has (Slot n q) h hs = λ same u c found here.
       let at' = node_eq-sound node n (both _ _ same).0 in
       let (shape, some, conf) = component_there token_kind node part u c has (subst (λ (x : Node). tree_at t x ≡ Some u) (sym at') found) here in
       (token_cell classes c shape some conf, refl)
-  token_unseen node part v has (Up n) h = tt
-  token_unseen node part v has (Idx n) h = λ m s e same r u f. ap (λ (w : Way). w.1) (sym (way.same_some r u f))
+  token_unseen node part v has (Up n) h hs = tt
+  token_unseen node part v has (Idx n) h hs = λ m s e same r u f. ap (λ (w : Way). w.1) (sym (way.same_some r u f))
+  token_unseen node part v has (Drawer n q key k) h hs = (
+    λ same u c found here.
+        let at' = node_eq-sound node n (both _ _ same).0 in
+        let (shape, some, conf) = component_there token_kind node part u c has (subst (λ (x : Node). tree_at t x ≡ Some u) (sym at') found) here in
+        subst (λ (xs : List Tree). Kept (is_marked key k) (Goes (λ c. Holds v) part (λ (s : Way). Some s)) 0 xs 0 []) (sym (token_cell classes c shape some conf)) (none 0 0),
+    λ j same u c found here. token_kept t node part v n q j key k u c hs same found here,
+  )
 
   pub token_fits : (node : Node) (part : ℕ) (v : trees.Token) → has_component classes t (Token node part v) ≡ true → FitsAt (λ c. Holds v) part (λ (s : Way). Some s) t node
   token_fits node part v has u c found here r w same e =
       let (shape, some, conf) = component_there token_kind node part u c has found here in
       sym (ap (λ (xs : List Tree). slice_get xs r.1) (token_cell classes c shape some conf))
 
-  pub token_alike : (node : Node) (part : ℕ) (v : trees.Token) → has_component classes t (Token node part v) ≡ true → (l m : Location Node) → touches (Token node part v) l ≡ false →
+  pub token_alike : (node : Node) (part : ℕ) (v : trees.Token) → has_component classes t (Token node part v) ≡ true → (l m : Location Node) → touches (Token node part v) l ≡ false → shifts t (Token node part v) l ≡ false →
       (s : LocationLike (Names (moved_under node (λ (s : Way). Some s))) l m) → ContentLike (Names (moved_under node (λ (s : Way). Some s))) s (content t l) (content (left_by t (Token node part v)) m)
-  token_alike node part v has l m h s =
-      cell_alike (λ c. Holds v) part (λ (s : Way). Some s) (nothing_keeps part) t node (token_fits node part v has) l m s (token_unseen node part v has l h)
+  token_alike node part v has l m h hs s =
+      cell_alike (λ c. Holds v) part (λ (s : Way). Some s) (nothing_keeps part) t node (token_fits node part v has) l m s (token_unseen node part v has l h hs)
 
   -- a node that has no parent is replaced with all that there is
-  pub at_set : (node : Node) (new : Tree) (o : Option (Node × Way)) → parent_of node ≡ o → (l : Location Node) → touches (Set node new) l ≡ false →
+  pub at_set : (node : Node) (new : Tree) (o : Option (Node × Way)) → parent_of node ≡ o → (l : Location Node) → touches (Set node new) l ≡ false → shifts t (Set node new) l ≡ false →
       AlikeAt (Names (λ n. elim o [ None ↦ None | Some p ↦ moved_under p.0 (past_set p.1) n ])) (content t) (content (left_by t (Set node new))) l
-  at_set node new None is l h = λ m s. absurd (nowhere l m s)
-  at_set node new (Some p) is l h = λ m s. set_alike node new p is l m h s
+  at_set node new None is l h hs = λ m s. absurd (nowhere l m s)
+  at_set node new (Some p) is l h hs = λ m s. set_alike node new p is l m h hs s
 
   pub at_drop : (node : Node) (o : Option (Node × Way)) → parent_of node ≡ o
       → elim o [ None ↦ true | Some p ↦ is_some (option_and_then plain_class (shape_at classes t p.0 p.1.0)) ] ≡ false
-      → (l : Location Node) → touches (Drop node) l ≡ false →
+      → (l : Location Node) → touches (Drop node) l ≡ false → shifts t (Drop node) l ≡ false →
       AlikeAt (Names (λ n. elim o [ None ↦ None | Some p ↦ moved_under p.0 (past_drop p.1) n ])) (content t)
       (content (elim o [ None ↦ t | Some p ↦ with_node (with_cell (without_child p.1.1) p.1.0) t p.0 ])) l
-  at_drop node None is plain l h = λ m s. absurd (nowhere l m s)
-  at_drop node (Some p) is plain l h = λ m s. drop_alike node p is plain l m h s
+  at_drop node None is plain l h hs = λ m s. absurd (nowhere l m s)
+  at_drop node (Some p) is plain l h hs = λ m s. drop_alike node p is plain l m h hs s

@@ -2,9 +2,9 @@
 use Rattle.std.proofs.Common.{◌≡◌, ℕ, Bool, true, false, ◌&&◌, cond, not, List, refl, ap}
 use Rattle.at_model.specs.Classes.{Classes}
 use Rattle.at_model.specs.Run.{Value, Run, Instance}
-use Rattle.at_model.specs.Bodies.{Expr, Not, And, Or, Choose, Call, Exists, Scope, bound, truth_of, bool_eq, elements_of}
+use Rattle.at_model.specs.Bodies.{Expr, Not, And, Or, Choose, Call, Exists, SeekAny, AnyOf, Over, Scope, bound, truth_of, bool_eq, elements_of}
 use Rattle.at_model.specs.Alike.{ListLike, end, more, ValueLike, truth, slot, InstanceLike, RunLike, gives, looks, demands, ScopeLike, SameLike}
-use Rattle.at_model.proofs.of_likeness.ExpressionsAlike.{then-like, truth_of-like, node_of-like, eval-like, eval_all-like, bound-like}
+use Rattle.at_model.proofs.of_likeness.ExpressionsAlike.{then-like, truth_of-like, node_of-like, eval-like, eval_all-like, bound-like, nodes_of-like, drawer_of-like}
 use Rattle.at_model.specs.of_fixpoints.Formulas.{Formula, is_surely, is_known_as, joined, turned, Starts, starts_from, demanded, fold_form, two_sides, form}
 use Rattle.at_model.specs.of_fixpoints.Likeness.{FormulaLike, known_like, asks_like, both_like, either_like}
 
@@ -105,5 +105,14 @@ form-like classes s starts b p (Exists e part d) f g t =
     then-like (eval-like classes s e f g t) (λ v w q. then-like (elements_of-like part q) (λ ms ns rs.
     fold_form-like p (λ m. form classes _ starts b p d (bound f m)) (λ n. form classes _ starts b p d (bound g n))
     (λ m n r. form-like classes s starts b p d (bound f m) (bound g n) (bound-like t m n r)) rs))
+form-like classes s starts b p (Over AnyOf e d) f g t =
+    then-like (eval-like classes s e f g t) (λ v w q.
+    fold_form-like p (λ m. form classes _ starts b p d (bound f m)) (λ n. form classes _ starts b p d (bound g n))
+    (λ m n r. form-like classes s starts b p d (bound f m) (bound g n) (bound-like t m n r)) (nodes_of-like q))
+form-like classes s starts b p (SeekAny e part key a d) f g t =
+    then-like (eval-like classes s e f g t) (λ v w q. then-like (eval-like classes s a f g t) (λ v' w' q'.
+    then-like (drawer_of-like part key q q') (λ ms ns rs.
+    fold_form-like p (λ m. form classes _ starts b p d (bound f m)) (λ n. form classes _ starts b p d (bound g n))
+    (λ m n r. form-like classes s starts b p d (bound f m) (bound g n) (bound-like t m n r)) rs)))
 form-like classes s starts b p e f g t =
     then-like (eval-like classes s e f g t) (λ v w q. gives (known_like (turned-like p q)))

@@ -60,11 +60,6 @@ end_turns : {N M : Type 0} {S T : Instance N → Instance M → Type 0} {V : Val
 end_turns (makes m) = makes (turns m)
 end_turns (spoils k t) = spoils k t
 
-pub outcome_turns : {N M : Type 0} {T : Instance N → Instance M → Type 0} {V : Value N → Value M → Type 0}
-    {o : Outcome N} {p : Outcome M} → OutcomeMatches T V o p → OutcomeMatches (flip T) (flip V) p o
-outcome_turns (finds v) = finds v
-outcome_turns (faults k t) = faults k t
-
 agrees_turned : {A B : Type 0} {R : A → B → Type 0} → Agrees R → Agrees (flip R)
 agrees_turned f a b c d r s = let p = f c d a b r s in (p.1, p.0)
 

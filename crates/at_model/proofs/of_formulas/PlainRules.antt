@@ -2,8 +2,8 @@
 use Rattle.std.proofs.Common.{◌≡◌, ℕ, zero, suc, Bool, true, false, List, [], ◌∷◌, Option, Some, None, refl, ap, subst, sym}
 use Rattle.at_model.specs.Terms.{max_depth}
 use Rattle.at_model.specs.Run.{Value, Instance, Run, Gives, Fails, Looks, Null, Is, Up, ◌>>=◌}
-use Rattle.at_model.specs.Bodies.{Expr, Scope, ref_of}
-use Rattle.at_model.specs.Rules.{Rules, past_arguments, inherited_equation, own_equation, is_inherited, attribute_name, start_of}
+use Rattle.at_model.specs.Bodies.{Expr, Scope, mentioned}
+use Rattle.at_model.specs.Rules.{Rules, past_nodes, past_arguments, inherited_equation, own_equation, is_inherited, attribute_name, start_of}
 use Rattle.at_model.specs.Rules as equation
 use Rattle.at_model.specs.of_fixpoints.Formulas.{Formula, Known}
 use Rattle.at_model.specs.of_fixpoints.Evaluations.{by_equation, by_inherited, by_own, evaluation_within, evaluation}
@@ -13,16 +13,15 @@ use Rattle.at_model.specs.of_fixpoints.Sets.{plain_forms}
 abbrev pub plain : {N : Type 0} → Run N (Value N) → Run N (Formula N)
 plain r = r >>= λ v. Gives (Known v)
 
-past_one : {N : Type 0} (o : Option N) (r : Run N (Formula N)) (s : Run N (Value N)) → r ≡ plain s →
-    ◌≡◌ {A = Run N (Formula N)} (elim o [ None ↦ r | Some n ↦ Looks (Is n) (λ c. r) ])
-    (plain (elim o [ None ↦ s | Some n ↦ Looks (Is n) (λ c. s) ]))
-past_one None r s e = e
-past_one (Some n) r s e = ap (λ z. Looks (Is n) (λ c. z)) e
+past_one : {N : Type 0} (ns : List N) (r : Run N (Formula N)) (s : Run N (Value N)) → r ≡ plain s →
+    past_nodes ns r ≡ plain (past_nodes ns s)
+past_one [] r s e = e
+past_one (n ∷ ns) r s e = ap (λ z. Looks (Is n) (λ c. z)) (past_one ns r s e)
 
 past_plain : {N : Type 0} (vs : List (Value N)) (r : Run N (Formula N)) (s : Run N (Value N)) → r ≡ plain s →
     past_arguments vs r ≡ plain (past_arguments vs s)
 past_plain [] r s e = e
-past_plain (v ∷ vs) r s e = past_one (ref_of v) (past_arguments vs r) (past_arguments vs s) (past_plain vs r s e)
+past_plain (v ∷ vs) r s e = past_one (mentioned v) (past_arguments vs r) (past_arguments vs s) (past_plain vs r s e)
 
 body_plain : {N : Type 0} (rules : Rules) (same : N → N → Bool) (scope : Scope N) (r : Run N (Formula N))
     (s : Run N (Value N)) (o : Option Expr) → r ≡ plain s →

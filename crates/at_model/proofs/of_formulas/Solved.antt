@@ -1,7 +1,7 @@
 -- A component whose list is known is solved by rounds: each of its instances leaves the start, or it is known that it
 -- doesn't.
 use Rattle.std.proofs.Common.{◌≡◌, ◌⊎◌, ℕ, zero, suc, ◌+◌, Bool, true, false, not, List, [], ◌∷◌, Option, Some, inl, inr, refl, sym, subst, ap, ◌∙◌, arith}
-use Rattle.at_model.specs.Run.{Value, Int, Truth, Text, Ref, Contents, Instance}
+use Rattle.at_model.specs.Run.{Value, Int, Truth, Text, Ref, Nodes, Contents, Instance}
 use Rattle.at_model.specs.Meaning.{Among}
 use Rattle.at_model.proofs.Reached.{front_among, back_among}
 use Rattle.at_model.specs.of_fixpoints.Formulas.{Formula, Known, Asks, Both, Either, atoms, Forms}
@@ -35,6 +35,7 @@ module _ {N : Type 0} (E : Ending N) where
   value_or b (Truth c) = truth_or b c
   value_or b (Text bytes) = inr (λ e. absurd cc)
   value_or b (Ref n) = inr (λ e. absurd cc)
+  value_or b (Nodes ns) = inr (λ e. absurd cc)
 
   -- whether a formula leaves the start, where it is known of its instances, or they are of U
   decide : (b : Bool) (U : Instance N → Type 0) (f : Formula N) →

@@ -2,9 +2,9 @@
 use Rattle.std.proofs.Common.{◌≡◌, ℕ, zero, suc, Bool, true, false, ◌&&◌, cond, not, List, [], ◌∷◌, ◌++◌, Option, Some, None, inl, inr, refl, sym, subst, ◌∙◌}
 use Rattle.at_model.specs.Classes.{Classes}
 use Rattle.at_model.specs.Run.{Value, Run, Gives, Fails, Looks, Demands, Null, Is, Contents, Instance, ◌>>=◌}
-use Rattle.at_model.specs.Bodies.{Expr, Not, And, Or, Choose, Call, Exists, Scope, bound, truth_of, ref_of, node_of, elements_of, eval, eval_all}
+use Rattle.at_model.specs.Bodies.{Expr, Not, And, Or, Choose, Call, Exists, SeekAny, AnyOf, Over, Scope, bound, truth_of, mentioned, nodes_of, node_of, elements_of, drawer_of, eval, eval_all}
 use Rattle.at_model.specs.Meaning.{Outcome, Among}
-use Rattle.at_model.specs.Rules.{Rules, past_arguments, own_equation, inherited_equation, is_inherited, attribute_name, start_of}
+use Rattle.at_model.specs.Rules.{Rules, past_nodes, past_arguments, own_equation, inherited_equation, is_inherited, attribute_name, start_of}
 use Rattle.at_model.specs.Terms.{max_depth}
 use Rattle.at_model.proofs.Reached.{either_among}
 use Rattle.at_model.specs.of_fixpoints.Formulas.{Formula, Known, Asks, Both, Either, atoms, is_surely, is_known_as, joined, turned, Starts, starts_from, fold_form, two_sides, form}
@@ -133,6 +133,14 @@ form_start classes same starts b p (Exists e part f) scope =
     then_only (StartFrom starts b) (eval classes same e scope) _
     (λ v. then_only (StartFrom starts b) (elements_of part v) _ (λ ns.
     fold_start starts b p _ (λ n. form_start classes same starts b p f (bound scope n)) ns))
+form_start classes same starts b p (Over AnyOf e f) scope =
+    then_only (StartFrom starts b) (eval classes same e scope) _
+    (λ v. fold_start starts b p _ (λ n. form_start classes same starts b p f (bound scope n)) (nodes_of v))
+form_start classes same starts b p (SeekAny e part key t f) scope =
+    then_only (StartFrom starts b) (eval classes same e scope) _
+    (λ v. then_only (StartFrom starts b) (eval classes same t scope) _
+    (λ w. then_only (StartFrom starts b) (drawer_of part key v w) _ (λ ns.
+    fold_start starts b p _ (λ n. form_start classes same starts b p f (bound scope n)) ns)))
 form_start classes same starts b p e scope =
     then_only (StartFrom starts b) (eval classes same e scope) (λ v. Gives (Known (turned p v))) (λ v k h. absurd h)
 
@@ -179,15 +187,14 @@ above_start rules same start name vs zero n = tt
 above_start rules same start name vs (suc height) n =
     λ c. above_at rules same start name vs height n (above_start rules same start name vs height) c
 
-past_one : {N A : Type 0} (P : A → Type 0) (o : Option N) (r : Run N A) → GivesOnly P r →
-    GivesOnly P (elim o as (λ _. Run N A) [ None ↦ r | Some n ↦ Looks (Is n) (λ c. r) ])
-past_one P None r g = g
-past_one P (Some n) r g = λ c. g
+past_one : {N A : Type 0} (P : A → Type 0) (ns : List N) (r : Run N A) → GivesOnly P r → GivesOnly P (past_nodes ns r)
+past_one P [] r g = g
+past_one P (n ∷ ns) r g = λ c. past_one P ns r g
 
 past_start : {N A : Type 0} (P : A → Type 0) (vs : List (Value N)) (r : Run N A) → GivesOnly P r →
     GivesOnly P (past_arguments vs r)
 past_start P [] r g = g
-past_start P (v ∷ vs) r g = past_one P (ref_of v) (past_arguments vs r) (past_start P vs r g)
+past_start P (v ∷ vs) r g = past_one P (mentioned v) (past_arguments vs r) (past_start P vs r g)
 
 which_start : {N : Type 0} (P : Formula N → Type 0) (b : Bool) (r s : Run N (Formula N)) → GivesOnly P r →
     GivesOnly P s → GivesOnly P (elim b as (λ _. Run N (Formula N)) [ true ↦ r | false ↦ s ])

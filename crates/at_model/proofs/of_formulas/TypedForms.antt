@@ -2,7 +2,7 @@
 use Rattle.std.proofs.Common.{◌≡◌, ℕ, Bool, true, false, cond, not, ◌&&◌, List, [], ◌∷◌, ◌++◌, Some, refl, sym, ◌∙◌, subst}
 use Rattle.std.specs.List.{slice_get, AllByRecursion}
 use Rattle.at_model.specs.Run.{Value, Instance, Contents, Run, Gives, Demands, ◌>>=◌}
-use Rattle.at_model.specs.Bodies.{Expr, IntLiteral, TruthLiteral, TextLiteral, NullLiteral, This, Name, IndexName, Negate, Arithmetic, Compare, Join, JoinInt, Same, Differ, Equals, InstanceOf, CastTo, Child, Element, Count, Has, TokenOf, First, Sum, Scope, bound, truth_of, elements_of, eval, eval_all}
+use Rattle.at_model.specs.Bodies.{Expr, IntLiteral, TruthLiteral, TextLiteral, NullLiteral, This, Name, IndexName, Negate, Arithmetic, Compare, Join, JoinInt, Same, Differ, Equals, InstanceOf, CastTo, Child, Element, Count, Has, TokenOf, First, Sum, SeekFirst, Listed, Only, Union, Contains, FirstOf, SumOf, Gather, Close, Over, Children, Parent, Scope, bound, truth_of, elements_of, drawer_of, nodes_of, eval, eval_all, Passed}
 use Rattle.at_model.specs.Rules.{Rules, Kind, Attribute, start_of}
 use Rattle.at_model.specs.Rules as kind
 use Rattle.at_model.specs.Kinds.{ScopeKinds, HasKind, bound_kinds}
@@ -12,7 +12,7 @@ use Rattle.at_model.specs.Instances.{literals, all_literals}
 use Rattle.at_model.proofs.Below.{AreChained, sub_sub}
 use Rattle.at_model.proofs.Everywhere.{both_all}
 use Rattle.at_model.proofs.of_typing.TypedSteps.{then_typed, either_typed}
-use Rattle.at_model.proofs.of_typing.TypedExpressions.{of_node, elements_typed, bound_scope, typed, all_typed}
+use Rattle.at_model.proofs.of_typing.TypedExpressions.{nodes_there, of_node, elements_typed, drawers_typed, bound_scope, typed, all_typed}
 use Rattle.at_model.specs.of_fixpoints.Formulas.{Formula, Known, Asks, Both, Either, is_surely, is_known_as, joined, turned, starts_from, demanded, fold_form, two_sides, form}
 use Rattle.at_model.specs.of_fixpoints.FormKinds.{IsFormulaOf}
 
@@ -86,6 +86,7 @@ module _ {N : Type 0} (rules : Rules) (lined : AreChained rules.classes) (at : C
       IsOfScopeKinds rules.classes at Allowed s scope →
       Typed F (form rules.classes same (start_of rules) b p e scope)
   form_typed s e _ kk (has.widened c d sub x) b p scope h i = absurd cc
+  form_typed s e _ kk (has.widened_all c d sub x) b p scope h i = absurd cc
   form_typed s _ k kk (has.int_literal n f) b p scope h i =
       plain s (IntLiteral n) k kk (has.int_literal n f) p scope h i
   form_typed s _ k kk (has.truth_literal t) b p scope h i =
@@ -180,3 +181,52 @@ module _ {N : Type 0} (rules : Rules) (lined : AreChained rules.classes) (at : C
       plain s (First a part f) k kk (has.first c part d e x y) p scope h i
   form_typed s _ k kk (has.sum {a = a} {e = f} c part d e x y) b p scope h i =
       plain s (Sum a part f) k kk (has.sum c part d e x y) p scope h i
+  form_typed s _ k kk (has.listed {a = a} c part d e x) b p scope h i =
+      plain s (Listed a part) k kk (has.listed c part d e x) p scope h i
+  form_typed s _ k kk (has.only {a = a} c x) b p scope h i =
+      plain s (Only a) k kk (has.only c x) p scope h i
+  form_typed s _ k kk (has.union {a = a} {b = d} c x y) b p scope h i =
+      plain s (Union a d) k kk (has.union c x y) p scope h i
+  form_typed s _ k kk (has.contains {a = a} {b = f} c d x y) b p scope h i =
+      plain s (Contains a f) k kk (has.contains c d x y) p scope h i
+  form_typed s _ k kk (has.any_of {a = a} {e = f} d x y) b p scope h i =
+      let (ha, hf) = both_all Allowed (literals a) (literals f) h in
+      then_typed rules at Allowed look (λ v. IsOfKind rules.classes at v (kind.Nodes d)) F
+      (eval rules.classes same a scope) _
+      (typed rules lined at Allowed look contents same s a (kind.Nodes d) x scope ha i) (λ v z.
+      fold_of p (λ n. form rules.classes same (start_of rules) b p f (bound scope n))
+      (λ m. IsNodeOf rules.classes at m d) (nodes_of v)
+      (λ n there. form_typed (bound_kinds s d) f kind.Truth refl y b p (bound scope n) hf
+      (bound_scope rules lined at Allowed look contents same s scope n d i there))
+      (nodes_there rules lined at Allowed look contents same d v z))
+  form_typed s _ k kk (has.first_of {a = a} {e = f} d x y) b p scope h i =
+      plain s (Over FirstOf a f) k kk (has.first_of d x y) p scope h i
+  form_typed s _ k kk (has.sum_of {a = a} {e = f} d x y) b p scope h i =
+      plain s (Over SumOf a f) k kk (has.sum_of d x y) p scope h i
+  form_typed s _ k kk (has.gather {a = a} {e = f} c d x y) b p scope h i =
+      plain s (Over Gather a f) k kk (has.gather c d x y) p scope h i
+  form_typed s _ k kk (has.close {a = a} {e = f} d x y) b p scope h i =
+      plain s (Over Close a f) k kk (has.close d x y) p scope h i
+  form_typed s _ k kk (has.children {a = a} c d top x) b p scope h i =
+      plain s (Children a) k kk (has.children c d top x) p scope h i
+  form_typed s _ k kk (has.parent {a = a} c d top x) b p scope h i =
+      plain s (Parent a) k kk (has.parent c d top x) p scope h i
+  form_typed s _ k kk (has.passed {a = a} l x) b p scope h i =
+      plain s (Passed a) k kk (has.passed l x) p scope h i
+  form_typed s _ k kk (has.seek_any {a = a} {t = t} {e = f} c part d key e x y z) b p scope h i =
+      let (hat, hf) = both_all Allowed (literals a ++ literals t) (literals f) h in
+      let (ha, ht) = both_all Allowed (literals a) (literals t) hat in
+      then_typed rules at Allowed look (λ v. IsOfKind rules.classes at v (kind.Class c)) F
+      (eval rules.classes same a scope) _
+      (typed rules lined at Allowed look contents same s a (kind.Class c) x scope ha i) (λ v r.
+      then_typed rules at Allowed look (λ v. IsOfKind rules.classes at v kind.Text) F
+      (eval rules.classes same t scope) _
+      (typed rules lined at Allowed look contents same s t kind.Text y scope ht i) (λ w q.
+      then_typed rules at Allowed look (AllByRecursion (λ m. IsNodeOf rules.classes at m d)) F (drawer_of part key v w) _
+      (drawers_typed rules lined at Allowed look contents same c part d key v w e r) (λ ns all.
+      fold_of p (λ n. form rules.classes same (start_of rules) b p f (bound scope n))
+      (λ m. IsNodeOf rules.classes at m d) ns
+      (λ n there. form_typed (bound_kinds s d) f kind.Truth refl z b p (bound scope n) hf
+      (bound_scope rules lined at Allowed look contents same s scope n d i there)) all)))
+  form_typed s _ k kk (has.seek_first {a = a} {t = t} {e = f} c part d key e x y z) b p scope h i =
+      plain s (SeekFirst a part key t f) k kk (has.seek_first c part d key e x y z) p scope h i

@@ -1,6 +1,6 @@
 -- With accepted rules each equation has a typed formula; what is led to is well typed, and values have their kinds.
-use Rattle.std.proofs.Common.{◌≡◌, ℕ, zero, suc, Bool, true, false, not, List, [], ◌∷◌, Option, Some, None, inl, inr, refl, sym, ap, ◌∙◌, subst}
-use Rattle.std.specs.Prelude.{IsSome, option_map}
+use Rattle.std.proofs.Common.{◌≡◌, ℕ, zero, suc, Bool, true, false, not, List, [], ◌∷◌, ◌++◌, Option, Some, None, inl, inr, refl, sym, ap, ◌∙◌, subst}
+use Rattle.std.specs.Prelude.{IsSome, option_map, map}
 use Rattle.std.specs.List.{slice_get, AllByRecursion}
 use Rattle.std.specs.Str.{bytes_eq}
 use Rattle.at_model.specs.Classes.{is_sub}
@@ -8,8 +8,8 @@ use Rattle.at_model.specs.Trees.{Tree, class_of}
 use Rattle.at_model.specs.Terms.{max_depth}
 use Rattle.at_model.specs.Paths.{Node, node_eq, tree_at}
 use Rattle.at_model.specs.Run.{Value, Truth, Instance, Contents, Run, Gives, Fails, Looks, Demands, Null, Is, Up}
-use Rattle.at_model.specs.Bodies.{Expr, Scope, eval, ref_of}
-use Rattle.at_model.specs.Rules.{Rules, Kind, Attribute, OwnEquation, InheritedEquation, past_arguments, own_equation, inherited_equation, attribute_name, is_inherited, start_of}
+use Rattle.at_model.specs.Bodies.{Expr, Scope, eval, mentioned}
+use Rattle.at_model.specs.Rules.{Rules, Kind, Attribute, OwnEquation, InheritedEquation, past_arguments, own_equation, inherited_equation, attribute_name, is_inherited, start_of, past_nodes}
 use Rattle.at_model.specs.Rules as kind
 use Rattle.at_model.specs.Meaning.{Outcome, Finds, Among, Reaches, content}
 use Rattle.at_model.specs.Support.{argument_classes}
@@ -54,18 +54,17 @@ module _ (rules : Rules) (t : Tree) (Allowed : Texts) (ok : AreMet rules t Allow
   one_past : {A : Type 0} (Q : A → Type 0) (vs : List (Value Node)) (r : Run Node A) →
       (AllByRecursion (IsLocationThere rules.classes (class_at t)) (argument_classes vs) → Typed Q r →
       Typed Q (past_arguments vs r)) → Typed Q r →
-      (o : Option Node) → AllByRecursion (IsLocationThere rules.classes (class_at t))
-      (elim o [ None ↦ argument_classes vs | Some n ↦ Is n ∷ argument_classes vs ]) →
-      Typed Q (elim o [ None ↦ past_arguments vs r | Some n ↦ Looks (Is n) (λ c. past_arguments vs r) ])
-  one_past Q vs r rest h None all = rest all h
-  one_past Q vs r rest h (Some n) (x, all) = (x, rest all h)
+      (ns : List Node) → AllByRecursion (IsLocationThere rules.classes (class_at t)) (map (λ n. Is n) ns ++ argument_classes vs) →
+      Typed Q (past_nodes ns (past_arguments vs r))
+  one_past Q vs r rest h [] all = rest all h
+  one_past Q vs r rest h (n ∷ ns) (x, all) = (x, one_past Q vs r rest h ns all)
 
   -- looks at the arguments, and then goes on
   past_typed : {A : Type 0} (Q : A → Type 0) (vs : List (Value Node)) (r : Run Node A) →
       AllByRecursion (IsLocationThere rules.classes (class_at t)) (argument_classes vs) → Typed Q r →
       Typed Q (past_arguments vs r)
   past_typed Q [] r all h = h
-  past_typed Q (v ∷ vs) r all h = one_past Q vs r (past_typed Q vs r) h (ref_of v) all
+  past_typed Q (v ∷ vs) r all h = one_past Q vs r (past_typed Q vs r) h (mentioned v) all
 
   module _ (i : Instance Node) (w : IsWellTyped rules (class_at t) Allowed i) where
     start_is : (b : Bool) → start_of rules i.attribute ≡ Some b → w.declaration.result ≡ kind.Truth

@@ -1,8 +1,8 @@
 -- Where two trees are alike at all that supports an instance, a circle from it is one in both.
 use Rattle.std.proofs.Common.{◌≡◌, ◌↔◌, ℕ, List, [], ◌∷◌, Option, Some, inl, inr, refl, ap, sym, ◌∙◌}
-use Rattle.at_model.specs.Run.{Value, Ref, Instance, Contents}
+use Rattle.at_model.specs.Run.{Value, Ref, Nodes, Instance, Contents}
 use Rattle.at_model.specs.Meaning.{Equations, Walks, Among, Distinct, Circular, Answer, Outcomes, Circle, Answers}
-use Rattle.at_model.specs.Alike.{OptionLike, neither, both, ListLike, end, more, ValueLike, int, truth, text, ref, InstanceLike, EquationsLike, Names, IsInjective, AnswerLike, outcome, circle, AlikeBelow}
+use Rattle.at_model.specs.Alike.{OptionLike, neither, both, ListLike, end, more, ValueLike, int, truth, text, ref, nodes, InstanceLike, EquationsLike, Names, IsInjective, AnswerLike, outcome, circle, AlikeBelow}
 use Rattle.at_model.proofs.of_likeness.Carrying.{carried}
 use Rattle.at_model.proofs.of_likeness.CarryingSupport.{alike_next, comes_there}
 
@@ -38,6 +38,8 @@ value-agrees f _ _ _ _ (truth b) (truth c) = (λ e. cc, λ e. cc)
 value-agrees f _ _ _ _ (text b) (text c) = (λ e. cc, λ e. cc)
 value-agrees f _ _ _ _ (ref {n = m} {m = m'} r) (ref {n = n} {m = n'} s) =
     let g = option-agrees f m n m' n' r s in (λ e. let h : m ≡ n = cc in ap Ref (g.0 h), λ e. let h : m' ≡ n' = cc in ap Ref (g.1 h))
+value-agrees f _ _ _ _ (nodes {ns = ms} {ms = ms'} r) (nodes {ns = ns} {ms = ns'} s) =
+    let g = list-agrees f ms ns ms' ns' r s in (λ e. let h : ms ≡ ns = cc in ap Nodes (g.0 h), λ e. let h : ms' ≡ ns' = cc in ap Nodes (g.1 h))
 value-agrees f _ _ _ _ r s = (λ e. absurd (cc), λ e. absurd (cc))
 
 abbrev instance : {N : Type 0} → N → ℕ → List (Value N) → Instance N

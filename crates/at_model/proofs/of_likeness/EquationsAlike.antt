@@ -2,24 +2,23 @@
 use Rattle.std.proofs.Common.{◌≡◌, ℕ, zero, suc, Bool, true, false, List, Option, Some, None, ap}
 use Rattle.at_model.specs.Run.{Value, Instance, Run, Fails, Looks, Null, Is}
 use Rattle.at_model.specs.Bodies.{Expr, Scope}
-use Rattle.at_model.specs.Rules.{Rules, inherited_equation, own_equation, is_inherited, attribute_name, past_arguments, by_equation, by_inherited, by_own, evaluation_within, evaluation}
+use Rattle.at_model.specs.Rules.{Rules, inherited_equation, own_equation, is_inherited, attribute_name, past_nodes, past_arguments, by_equation, by_inherited, by_own, evaluation_within, evaluation}
 use Rattle.at_model.specs.Terms.{max_depth}
 use Rattle.at_model.specs.Alike.{OptionLike, neither, both, ListLike, end, more, ValueLike, is, up, RunLike, fails, looks, ScopeLike, SameLike, InstanceLike, EquationsLike, IsInjective, Names}
 use Rattle.at_model.specs.Paths.{Node, node_eq}
 use Rattle.at_model.specs.Meaning.{equations}
 use Rattle.at_model.proofs.Nodes.{same_like, node_eq-is}
-use Rattle.at_model.proofs.of_likeness.ExpressionsAlike.{ref_of-like, eval-like}
+use Rattle.at_model.proofs.of_likeness.ExpressionsAlike.{mentioned-like, eval-like}
 
-past_one : {N M A B : Type 0} {R : N → M → Type 0} {Q : A → B → Type 0} {m : Option N} {n : Option M} {r : Run N A} {s : Run M B} → OptionLike R m n → RunLike R Q r s →
-    RunLike R Q (elim m as (λ _. Run N A) [ None ↦ r | Some a ↦ Looks (Is a) (λ c. r) ]) (elim n as (λ _. Run M B) [ None ↦ s | Some b ↦ Looks (Is b) (λ c. s) ])
-past_one neither e = e
-past_one (both r) e = looks (is r) (λ c d f. e)
+past_nodes-like : {N M A B : Type 0} {R : N → M → Type 0} {Q : A → B → Type 0} {ns : List N} {ms : List M} {r : Run N A} {s : Run M B} → ListLike R ns ms → RunLike R Q r s → RunLike R Q (past_nodes ns r) (past_nodes ms s)
+past_nodes-like end e = e
+past_nodes-like (more r rs) e = looks (is r) (λ c d f. past_nodes-like rs e)
 
 pub past_arguments-like : {N M A B : Type 0} {R : N → M → Type 0} {Q : A → B → Type 0} {vs : List (Value N)}
     {ws : List (Value M)} {r : Run N A} {s : Run M B} → ListLike (ValueLike R) vs ws → RunLike R Q r s
     → RunLike R Q (past_arguments vs r) (past_arguments ws s)
 past_arguments-like end e = e
-past_arguments-like (more v vs) e = past_one (ref_of-like v) (past_arguments-like vs e)
+past_arguments-like (more v vs) e = past_nodes-like (mentioned-like v) (past_arguments-like vs e)
 
 by_equation-like : {N M : Type 0} {R : N → M → Type 0} (rules : Rules) {same : N → N → Bool} {other : M → M → Bool}
     → SameLike R same other → (o : Option Expr) (f : Scope N) (g : Scope M) → ScopeLike R f g →

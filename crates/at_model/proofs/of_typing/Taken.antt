@@ -7,6 +7,7 @@ use Rattle.at_model.specs.Taking.{Takes}
 
 pub taken : (rules : Rules) (s : ScopeKinds) (e : Expr) (k : Kind) → HasKind rules s e k → Takes rules s e
 taken rules s e _ (form.widened c d sub x) = taken rules s e _ x
+taken rules s e _ (form.widened_all c d sub x) = taken rules s e _ x
 taken rules s _ _ (form.int_literal n x) = tt
 taken rules s _ _ (form.truth_literal b) = tt
 taken rules s _ _ (form.text_literal bytes) = tt
@@ -37,3 +38,17 @@ taken rules s _ _ (form.call c attribute d is sub x xs) = (c, d, x, is, sub, xs)
 taken rules s _ _ (form.exists c part b is x y) = (c, b, x, is, y)
 taken rules s _ _ (form.first c part b is x y) = (c, b, x, is, y)
 taken rules s _ _ (form.sum c part b is x y) = (c, b, x, is, y)
+taken rules s _ _ (form.listed c part b is x) = (c, b, x, is)
+taken rules s _ _ (form.only c x) = (c, x)
+taken rules s _ _ (form.union c x y) = (c, x, y)
+taken rules s _ _ (form.contains c d x y) = (c, x, (d, y))
+taken rules s _ _ (form.any_of b x y) = (b, x, y)
+taken rules s _ _ (form.first_of b x y) = (b, x, y)
+taken rules s _ _ (form.sum_of b x y) = (b, x, y)
+taken rules s _ _ (form.gather b d x y) = (d, (b, x, y))
+taken rules s _ _ (form.close b x y) = (b, x, y)
+taken rules s _ _ (form.children c d top x) = (c, x)
+taken rules s _ _ (form.parent c d top x) = (c, x)
+taken rules s _ _ (form.passed k x) = (k, x)
+taken rules s _ _ (form.seek_any c part b key is x y z) = ((c, b, x, is, z), y)
+taken rules s _ _ (form.seek_first c part b key is x y z) = ((c, b, x, is, z), y)

@@ -1,6 +1,6 @@
 -- What stands at the locations of a tree that conforms.
-use Rattle.std.proofs.Common.{◌≡◌, ℕ, zero, suc, ◌+◌, ◌<◌, ◌≤◌, true, false, List, [], ◌∷◌, ◌++◌, length, Option, Some, None, inl, inr, refl, sym, ap, ◌∙◌, subst, arith}
-use Rattle.std.specs.Prelude.{IsSome, option_map, option_and_then}
+use Rattle.std.proofs.Common.{◌≡◌, ℕ, zero, suc, ◌+◌, ◌<◌, ◌≤◌, Bool, true, false, cond, not, List, [], ◌∷◌, ◌++◌, length, Option, Some, None, inl, inr, refl, sym, ap, ◌∙◌, subst, arith}
+use Rattle.std.specs.Prelude.{IsSome, IfSome, option_map, option_and_then}
 use Rattle.std.specs.List.{slice_get, AllByRecursion}
 use Rattle.std.proofs.lemmas.Option.{slice_get_within}
 use Rattle.at_model.specs.Classes.{Classes, TokenKind, Component, Token, class_in, parts, is_sub, is_concrete, fits}
@@ -8,9 +8,9 @@ use Rattle.at_model.specs.Classes as class
 use Rattle.at_model.specs.Trees.{Tree, Node as Branch, Cells, no_cells, cell, Cell, One, Many, Empty, Filled, Holds, Trees, no_trees, tree, children, from_cells, from_trees, class_of, conforms, cells_conform, cell_conforms, is_of_kind, nodes}
 use Rattle.at_model.specs.Trees as held
 use Rattle.at_model.specs.Paths.{Node, tree_at, cell_at, children_at, parent_of}
-use Rattle.at_model.specs.Run.{Tok, Slot, Idx}
+use Rattle.at_model.specs.Run.{Tok, Slot, Up, Idx}
 use Rattle.at_model.specs.Bodies.{value_of}
-use Rattle.at_model.specs.Meaning.{content, child_nodes, token_in}
+use Rattle.at_model.specs.Meaning.{content, is_marked, child_nodes, chosen_nodes, token_in}
 use Rattle.at_model.proofs.Complete.{child_conforms, conforms_at, fits_there}
 use Rattle.at_model.proofs.WithinTree.{tree_at-snoc}
 use Rattle.at_model.proofs.WayUp.{snoc, parent_of-snoc, parent_there}
@@ -205,6 +205,15 @@ each_child P n part k (x ∷ xs) there =
       each_child P n part (suc k) xs (λ j y f. let g : k + suc j ≡ suc k + j = omega arith in subst (λ z. P (n ++ (part, z) ∷ [])) g (there (suc j) y f)),
     )
 
+-- what holds of all children holds of those that are chosen
+all_chosen : (P : Node → Type 0) (b : Bool) (n : Node) (ns : List Node) → P n → AllByRecursion P ns → AllByRecursion P (cond b (n ∷ ns) ns)
+all_chosen P true n ns h hs = (h, hs)
+all_chosen P false n ns h hs = hs
+
+each_chosen : (P : Node → Type 0) (f : Tree → Bool) (n : Node) (part k : ℕ) (ts : List Tree) → AllByRecursion P (child_nodes n part k ts) → AllByRecursion P (chosen_nodes f n part k ts)
+each_chosen P f n part k [] h = tt
+each_chosen P f n part k (x ∷ xs) (h, hs) = all_chosen P (f x) (n ++ (part, k) ∷ []) (chosen_nodes f n part (suc k) xs) h (each_chosen P f n part (suc k) xs hs)
+
 -- where all tokens can be written, each token in the list can be
 mutual
   pub tokens_written : (t : Tree) → AreTokens t → AllByRecursion IsToken (tokens t)
@@ -270,6 +279,33 @@ module _ (classes : Classes) (t : Tree) (Allowed : Texts) (ok : IsStanding class
       by_tree None h = absurd (cc)
       by_tree (Some u) h = (u, refl)
 
+  concrete_there : (c : ℕ) → is_concrete classes c ≡ true → c < length classes
+  concrete_there c h = by_class (slice_get classes c) refl h
+    where
+      by_class : (o : Option class.Class) → slice_get classes c ≡ o → elim o as (λ _. Bool) [ None ↦ false | Some k ↦ not k.is_abstract ] ≡ true → c < length classes
+      by_class None e f = absurd (cc)
+      by_class (Some k) e f = slice_get_within classes c k e
+
+  abbrev IsParentThere : Option (Node × ℕ) → Type 0
+  IsParentThere o = IfSome o (λ p. (c : ℕ) × (class_at t p.0 ≡ Some c) × (c < length classes))
+
+  parent_stands : (n : Node) → IsSome (class_at t n) → IfSome (content t (Up n)) (λ p. (c : ℕ) × (class_at t p.0 ≡ Some c) × (c < length classes))
+  parent_stands n h = elim (snoc n) [
+    | inl e ↦ subst (λ z. IfSome (content t (Up z)) (λ p. (c : ℕ) × (class_at t p.0 ≡ Some c) × (c < length classes))) (sym e) tt
+    | inr (m, s, e) ↦
+        let (u, f) = by_tree (tree_at t n) h in
+        let (w, g) = parent_there t m s u (subst (λ z. tree_at t z ≡ Some u) e f) in
+        let (b, conform) = conforms_at classes t 0 m w ok.conform g in
+        let k : parent_of n ≡ Some (m, s) = ap parent_of e ∙ parent_of-snoc m s in
+        let there = concrete_there (class_of w) ((both (is_concrete classes (class_of w)) (is_sub classes (class_of w) b) (fits_there classes w b conform)).0) in
+        let stands : IsParentThere (Some (m, s.0)) = (class_of w, ap (option_map class_of) g, there) in
+        subst (λ (z : Option (Node × (ℕ × ℕ))). IsParentThere (option_map (λ p. (p.0, p.1.0)) z)) (sym k) stands
+  ]
+    where
+      by_tree : (o : Option Tree) → IsSome (option_map class_of o) → (u : Tree) × (o ≡ Some u)
+      by_tree None h = absurd (cc)
+      by_tree (Some u) h = (u, refl)
+
   pub contents_stand : AreContentsTyped classes (class_at t) Allowed (content t)
   contents_stand = record {
     class = λ n c e. let (u, f, g) = mapped class_of (tree_at t n) c e in ap (λ (o : Option Tree). elim o as (λ _. ℕ) [ None ↦ 0 | Some u ↦ class_of u ]) f ∙ g;
@@ -284,6 +320,11 @@ module _ (classes : Classes) (t : Tree) (Allowed : Texts) (ok : IsStanding class
         subst (AllByRecursion (λ m. IsNodeOf classes (class_at t) m b)) (sym (ap (λ (o : Option Tree).
         elim o as (λ _. List Node) [ None ↦ [] | Some u ↦ child_nodes n part 0 (children_at u part) ]) q))
         (children_stand n c part b u q g f);
+    parent = parent_stands;
+    chosen = λ n c part b key m e f. let (u, q, g) = mapped class_of (tree_at t n) c e in
+        subst (AllByRecursion (λ k. IsNodeOf classes (class_at t) k b)) (sym (ap (λ (o : Option Tree).
+        elim o as (λ _. List Node) [ None ↦ [] | Some u ↦ chosen_nodes (is_marked key m) n part 0 (children_at u part) ]) q))
+        (each_chosen (λ k. IsNodeOf classes (class_at t) k b) (is_marked key m) n part 0 (children_at u part) (children_stand n c part b u q g f));
     few = λ n part. slot_few t n part 2147483648 ok.few;
     early = index_stands;
   }

@@ -1,6 +1,6 @@
 -- With accepted rules each equation is typed.
 use Rattle.std.proofs.Common.{◌≡◌, ℕ, ◌≤◌, Bool, true, false, cond, ◌&&◌, ◌||◌, nat_eq, List, [], ◌∷◌, ◌++◌, map, length, Option, Some, None, refl, sym, ap, ◌∙◌, subst}
-use Rattle.std.specs.Prelude.{IsSome, option_map, find}
+use Rattle.std.specs.Prelude.{IsSome, option_map, find, map}
 use Rattle.std.specs.Option.{option_or}
 use Rattle.std.specs.List.{slice_get, AllByRecursion, list_any, flat_map}
 use Rattle.std.specs.Str.{bytes_eq}
@@ -8,7 +8,7 @@ use Rattle.at_model.specs.Classes.{Classes, chain, is_sub}
 use Rattle.at_model.specs.Trees.{Tree, class_of, conforms}
 use Rattle.at_model.specs.Terms.{max_depth}
 use Rattle.at_model.specs.Paths.{Node, node_eq, tree_at, children_at}
-use Rattle.at_model.specs.Run.{Value, Int, Truth, Text, Ref, Instance, Is}
+use Rattle.at_model.specs.Run.{Value, Int, Truth, Text, Ref, Nodes, Instance, Is}
 use Rattle.at_model.specs.Bodies.{Expr, Scope, eval}
 use Rattle.at_model.specs.Rules.{Rules, Kind, Attribute, OwnEquation, InheritedEquation, first_answer, own_in, own_equation, part_eq, inherited_in, inherited_equation, prefixes, source_at, source_of, attribute_name, is_inherited, AreComplete}
 use Rattle.at_model.specs.Rules as kind
@@ -17,7 +17,7 @@ use Rattle.at_model.specs.Support.{argument_classes, up_to_first, step_up, way_u
 use Rattle.at_model.proofs.Complete.{has_own, has_source}
 use Rattle.at_model.proofs.WayUp.{own_found, inherited_found}
 use Rattle.at_model.specs.Kinds.{HasKind, AreTyped, IsOwnTyped, IsInheritedTyped, is_for_list}
-use Rattle.at_model.specs.TypedRuns.{ClassAt, Texts, IsTypedRun, class_at, IsOfKind, AreArguments, IsWellTyped, IsLocationThere, IsOfItsKind, AreContentsTyped, AreEquationsTyped}
+use Rattle.at_model.specs.TypedRuns.{ClassAt, Texts, IsNodeOf, IsTypedRun, class_at, IsOfKind, AreArguments, IsWellTyped, IsLocationThere, IsOfItsKind, AreContentsTyped, AreEquationsTyped}
 use Rattle.at_model.specs.Instances.{literals, AreLiteralsAllowed}
 use Rattle.at_model.proofs.of_typing.TypedExpressions.{typed}
 use Rattle.at_model.proofs.of_typing.TypedLeads.{looks_typed}
@@ -140,11 +140,21 @@ arguments_sought classes at Allowed [] ks h = tt
 arguments_sought classes at Allowed (v ∷ vs) [] h = absurd h
 arguments_sought classes at Allowed (v ∷ vs) (k ∷ ks) (h, s, hs) = one v k h (arguments_sought classes at Allowed vs ks hs)
   where
+    many : (b : ℕ) (ns : List Node) → AllByRecursion (λ m. IsNodeOf classes at m b) ns → AllByRecursion (IsLocationThere classes at) (argument_classes vs) → AllByRecursion (IsLocationThere classes at) (map (λ n. Is n) ns ++ argument_classes vs)
+    many b [] h g = g
+    many b (n ∷ ns) ((c, e, f), hs) g = (rw e refl, many b ns hs g)
+
     one : (v : Value Node) (k : Kind) → IsOfKind classes at v k → AllByRecursion (IsLocationThere classes at)
         (argument_classes vs) → AllByRecursion (IsLocationThere classes at) (argument_classes (v ∷ vs))
     one (Int n) k h g = g
     one (Truth b) k h g = g
     one (Text bytes) k h g = g
+    one (Nodes ns) (kind.Nodes b) h g = many b ns h.0 g
+    one (Nodes ns) kind.Int h g = absurd h
+    one (Nodes ns) kind.Truth h g = absurd h
+    one (Nodes ns) kind.Text h g = absurd h
+    one (Nodes ns) (kind.Class b) h g = absurd h
+    one (Ref (Some n)) (kind.Nodes b) h g = absurd h
     one (Ref None) k h g = g
     one (Ref (Some n)) (kind.Class b) (c, e, f) g = (rw e refl, g)
     one (Ref (Some n)) kind.Int h g = absurd h

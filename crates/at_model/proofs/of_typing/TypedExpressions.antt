@@ -1,25 +1,28 @@
 -- Typed expressions are evaluated to values of their kinds.
-use Rattle.std.proofs.Common.{◌≡◌, ℕ, zero, suc, ◌<◌, ℤ, pos, negsuc, Bool, true, false, cond, List, [], ◌∷◌, ◌++◌, length, Option, Some, None, refl, sym, ap, ◌∙◌, subst, arith}
-use Rattle.std.specs.Prelude.{IsSome, IfSome, option_and_then, FitsSigned, int_rem}
+use Rattle.std.proofs.Common.{◌≡◌, ℕ, zero, suc, ◌+◌, ◌<◌, ◌≤◌, ℤ, pos, negsuc, Bool, true, false, cond, List, [], ◌∷◌, ◌++◌, length, Option, Some, None, refl, sym, ap, ◌∙◌, subst, arith}
+use Rattle.std.specs.Prelude.{IsSome, IfSome, option_map, option_and_then, nat_le, FitsSigned, int_rem}
 use Rattle.std.specs.List.{slice_get, AllByRecursion}
 use Rattle.std.specs.Int.{w32, cast_signed, int_wrapping_add}
-use Rattle.at_model.specs.Classes.{TokenKind, Shape, Many, Token, class_in, is_sub}
+use Rattle.std.proofs.lemmas.Bool.{leb-true}
+use Rattle.at_model.specs.Classes.{TokenKind, Shape, Component, Many, Token, class_in, parts, is_sub}
 use Rattle.at_model.specs.Classes as class
 use Rattle.at_model.specs.Terms.{IsInt32}
-use Rattle.at_model.specs.Run.{Value, Int, Truth, Text, Ref, Is, Slot, Idx, Contents, Run, Gives, Fails, Looks, Demands, ◌>>=◌, Absent, Index, Cast, Long}
-use Rattle.at_model.specs.Bodies.{Expr, Exprs, TextLiteral, Name, Operator, Multiply, Divide, Remainder, Add, Subtract, TokenOf, Scope, bound, int_of, truth_of, ref_of, named, node_of, node_or, child_of, element_at, element_of, count_of, has_of, token_of, demand_of, quotient, remainder, computed, joined, is_instance, cast_to, index_of, exists_in, first_in, sum_in, elements_of, eval, eval_all}
+use Rattle.at_model.specs.Drawers.{Key, mark_of}
+use Rattle.at_model.specs.Run.{Value, Int, Truth, Text, Ref, Nodes, Is, Slot, Up, Idx, Contents, Run, Gives, Fails, Looks, Demands, ◌>>=◌, Absent, Index, Cast, Long}
+use Rattle.at_model.specs.Bodies.{Expr, Exprs, TextLiteral, Name, Operator, Multiply, Divide, Remainder, Add, Subtract, TokenOf, Scope, bound, int_of, truth_of, ref_of, named, node_of, node_or, child_of, element_at, element_of, count_of, has_of, token_of, demand_of, quotient, remainder, computed, joined, is_instance, cast_to, index_of, exists_in, first_in, sum_in, elements_of, drawer_of, text_of, nodes_of, is_among, with_one, with_more, made, max_list, only, gather_in, close_in, max_turns, tree_parts, children_in, children_of, up_of, eval, eval_all, Passed, max_passed, is_text_within, max_step, may_pass, passed}
 use Rattle.at_model.specs.Rules.{Rules, Kind, Attribute}
 use Rattle.at_model.specs.Rules as kind
-use Rattle.at_model.specs.Kinds.{ScopeKinds, HasKind, HaveKinds, IsArgumentForm, bound_kinds, shape_of_part, class_of_part, single_class, kind_of_token}
+use Rattle.at_model.specs.Kinds.{ScopeKinds, HasKind, HaveKinds, IsArgumentForm, IsTop, bound_kinds, shape_of_part, class_of_part, single_class, kind_of_token}
 use Rattle.at_model.specs.Kinds as has
 use Rattle.at_model.specs.TypedRuns.{ClassAt, Texts, IsTypedRun, IsNodeOf, IsOfKind, IsAllowed, AreArguments, IsLocationThere, AreContentsTyped, IsOfScopeKinds}
-use Rattle.at_model.specs.Instances.{literals, all_literals}
+use Rattle.at_model.specs.Instances.{literals, all_literals, texts_within}
 use Rattle.at_model.proofs.Below.{AreChained, sub_sub, shape_below, asked_below, single_is_asked}
 use Rattle.at_model.proofs.of_typing.TypedSteps.{then_typed, less_typed, either_typed}
 use borrow.Author.Differences.{fits_in, read_fits}
 use lib.Signed.{mag_rem}
-use Rattle.at_model.proofs.Everywhere.{both_all, found}
+use Rattle.at_model.proofs.Everywhere.{both_all, all_both, found}
 use Rattle.at_model.proofs.WithinTree.{some_there}
+use Rattle.at_model.proofs.Listed.{of_one, short_listed}
 
 -- the two ways to say that an int has 32 bits
 fits_32 : (n : ℤ) → IsInt32 n → FitsSigned w32 n
@@ -52,6 +55,7 @@ module _ {N : Type 0} (rules : Rules) (lined : AreChained rules.classes) (at : C
   int_fits (Truth b) h = absurd h
   int_fits (Text bytes) h = absurd h
   int_fits (Ref n) h = absurd h
+  int_fits (Nodes ns) h = absurd h
 
   node_typed : (c : ℕ) (v : Value N) → Is' (kind.Class c) v → Typed (λ n. IsNodeOf rules.classes at n c) (node_of v)
   node_typed c (Int n) h = absurd h
@@ -59,12 +63,50 @@ module _ {N : Type 0} (rules : Rules) (lined : AreChained rules.classes) (at : C
   node_typed c (Text bytes) h = absurd h
   node_typed c (Ref None) h = tt
   node_typed c (Ref (Some n)) h = h
+  node_typed c (Nodes ns) h = absurd h
 
   ref_there : (c : ℕ) (v : Value N) → Is' (kind.Class c) v → IfSome (ref_of v) (λ n. IsNodeOf rules.classes at n c)
   ref_there c (Int n) h = absurd h
   ref_there c (Truth b) h = absurd h
   ref_there c (Text bytes) h = absurd h
   ref_there c (Ref n) h = h
+  ref_there c (Nodes ns) h = absurd h
+
+  -- they are all of the class or below
+  abbrev AllOf : ℕ → List N → Type 0
+  AllOf c ns = AllByRecursion (λ m. IsNodeOf rules.classes at m c) ns
+
+  pub nodes_there : (c : ℕ) (v : Value N) → Is' (kind.Nodes c) v → AllOf c (nodes_of v)
+  nodes_there c (Int n) h = absurd h
+  nodes_there c (Truth b) h = absurd h
+  nodes_there c (Text bytes) h = absurd h
+  nodes_there c (Ref n) h = absurd h
+  nodes_there c (Nodes ns) h = h.0
+
+  one_more : (c : ℕ) (b : Bool) (ns : List N) (n : N) → AllOf c ns → IsNodeOf rules.classes at n c → AllOf c (cond b ns (ns ++ n ∷ []))
+  one_more c true ns n h g = h
+  one_more c false ns n h g = all_both (λ m. IsNodeOf rules.classes at m c) ns (n ∷ []) h (g, tt)
+
+  more_typed : (c : ℕ) (ns ms : List N) → AllOf c ns → AllOf c ms → AllOf c (with_more same ns ms)
+  more_typed c ns [] h g = h
+  more_typed c ns (m ∷ ms) h (g, gs) = more_typed c (with_one same ns m) ms (one_more c (is_among same m ns) ns m h g) gs
+
+  only_typed : (c : ℕ) (o : Option N) → IfSome o (λ n. IsNodeOf rules.classes at n c) → Is' (kind.Nodes c) (Nodes (only o))
+  only_typed c None h = (tt, omega arith)
+  only_typed c (Some n) h = ((h, tt), omega arith)
+
+  -- a list that is made is short
+  made_typed : (c : ℕ) (ns : List N) → AllOf c ns → Typed (Is' (kind.Nodes c)) (made ns)
+  made_typed c ns h = by_test (nat_le (length ns) max_list) refl
+    where
+      by_test : (b : Bool) → nat_le (length ns) max_list ≡ b → Typed (Is' (kind.Nodes c)) (cond b (Gives (Nodes ns)) (Fails Long))
+      by_test true e = (h, leb-true (length ns) max_list e)
+      by_test false e = tt
+
+  none_short : {A : Type 0} (as' : List A) (i : ℕ) → slice_get as' i ≡ None → length as' ≤ i
+  none_short [] i e = omega arith
+  none_short (a ∷ as') zero e = absurd (cc)
+  none_short (a ∷ as') (suc i) e = let h = none_short as' i e in omega arith
 
   -- a node of a class, then what is asked of it
   pub of_node : {A : Type 0} (Q : A → Type 0) (c : ℕ) (v : Value N) (k : N → Run N A) → Is' (kind.Class c) v
@@ -131,6 +173,15 @@ module _ {N : Type 0} (rules : Rules) (lined : AreChained rules.classes) (at : C
   elements_typed c part b v e h =
       let asked = many_asked c part b (Many b) e refl in
       of_node (AllByRecursion (λ m. IsNodeOf rules.classes at m b)) c v _ h (λ n d there sub. (slot_sought n d c part b there sub asked, slot_fits n d c part b there sub asked))
+
+  pub drawers_typed : (c part b : ℕ) (key : Key) (v w : Value N) → shape_of_part rules.classes c part ≡ Some (Many b)
+      → Is' (kind.Class c) v → Typed (AllByRecursion (λ m. IsNodeOf rules.classes at m b)) (drawer_of part key v w)
+  drawers_typed c part b key v w e h =
+      let asked = many_asked c part b (Many b) e refl in
+      of_node (AllByRecursion (λ m. IsNodeOf rules.classes at m b)) c v _ h (λ n d there sub. (
+        slot_sought n d c part b there sub asked,
+        contents.chosen n d part b key (mark_of (text_of w)) there (asked_below rules.classes lined d c part b class_in sub asked),
+      ))
 
   one_declaration : (a : ℕ) (d e : Attribute) → slice_get rules.attributes a ≡ Some d → slice_get rules.attributes a ≡ Some e → d ≡ e
   one_declaration a d e f g = let h : Some d ≡ Some e = sym f ∙ g in cc
@@ -217,6 +268,58 @@ module _ {N : Type 0} (rules : Rules) (lined : AreChained rules.classes) (at : C
   sum_typed P term total (n ∷ ns) f g (h, hs) = then_typed rules at Allowed look (Is' kind.Int) (Is' kind.Int) (term n)
       _ (g n h) (λ v _. sum_typed P term (int_wrapping_add w32 total (int_of v)) ns (read_back _) g hs)
 
+  -- folds over nodes that are there
+  gather_typed : (P : N → Type 0) (d : ℕ) (what : N → Run N (Value N)) (fs ns : List N) → AllOf d fs → ((n : N) → P n → Typed (Is' (kind.Nodes d)) (what n)) → AllByRecursion P ns → Typed (Is' (kind.Nodes d)) (gather_in same what fs ns)
+  gather_typed P d what fs [] f g h = made_typed d fs f
+  gather_typed P d what fs (n ∷ ns) f g (h, hs) = then_typed rules at Allowed look (Is' (kind.Nodes d)) (Is' (kind.Nodes d)) (what n) _ (g n h) (λ v z. gather_typed P d what (with_more same fs (nodes_of v)) ns (more_typed d fs (nodes_of v) f (nodes_there d v z)) g hs)
+
+  close_typed : (b : ℕ) (what : N → Run N (Value N)) (turns i : ℕ) (ns : List N) → i + turns ≤ 16777217 → AllOf b ns → ((n : N) → IsNodeOf rules.classes at n b → Typed (Is' (kind.Nodes b)) (what n)) → Typed (Is' (kind.Nodes b)) (close_in same what turns i ns)
+  close_typed b what zero i ns few f g = tt
+  close_typed b what (suc turns) i ns few f g = by_turn (λ ms h. close_typed b what turns (suc i) ms (omega arith) h g) (slice_get ns i) refl
+    where
+      by_turn : ((ms : List N) → AllOf b ms → Typed (Is' (kind.Nodes b)) (close_in same what turns (suc i) ms)) → (o : Option N) → slice_get ns i ≡ o → Typed (Is' (kind.Nodes b)) (elim o as (λ _. Run N (Value N)) [ None ↦ Gives (Nodes ns) | Some n ↦ what n >>= λ v. close_in same what turns (suc i) (with_more same ns (nodes_of v)) ])
+      by_turn rest None e = (f, let short = none_short ns i e in omega arith)
+      by_turn rest (Some n) e = then_typed rules at Allowed look (Is' (kind.Nodes b)) (Is' (kind.Nodes b)) (what n) _ (g n (found (λ m. IsNodeOf rules.classes at m b) ns i n f e)) (λ v z. rest (with_more same ns (nodes_of v)) (more_typed b ns (nodes_of v) f (nodes_there b v z)))
+
+  -- children and parents
+  abbrev AreAsked : ℕ → List ℕ → Type 0
+  AreAsked x ps = AllByRecursion (λ p. (b : ℕ) × (class_of_part rules.classes x p ≡ Some b)) ps
+
+  asked_parts : (x k : ℕ) (cs : List Component) → ((j : ℕ) (p : Component) → slice_get cs j ≡ Some p → slice_get (parts rules.classes x) (k + j) ≡ Some p) → AreAsked x (tree_parts k cs)
+  asked_parts x k [] h = tt
+  asked_parts x k (p ∷ cs) h = by_class (class_in p.shape) refl (asked_parts x (suc k) cs (λ j q e. let g : k + suc j ≡ suc k + j = omega arith in subst (λ z. slice_get (parts rules.classes x) z ≡ Some q) g (h (suc j) q e)))
+    where
+      here : slice_get (parts rules.classes x) k ≡ Some p
+      here = let g : k + 0 ≡ k = omega arith in subst (λ z. slice_get (parts rules.classes x) z ≡ Some p) g (h 0 p refl)
+
+      by_class : (o : Option ℕ) → class_in p.shape ≡ o → AreAsked x (tree_parts (suc k) cs) → AreAsked x (elim o as (λ _. List ℕ) [ None ↦ tree_parts (suc k) cs | Some b ↦ k ∷ tree_parts (suc k) cs ])
+      by_class None e rest = rest
+      by_class (Some b) e rest = ((b, ap (λ (o : Option Component). option_and_then class_in (option_map (λ p. p.shape) o)) here ∙ e), rest)
+
+  below_top : (b d : ℕ) → is_sub rules.classes b d ≡ true → (ns : List N) → AllOf b ns → AllOf d ns
+  below_top b d sub [] h = tt
+  below_top b d sub (n ∷ ns) ((x, e, f), hs) = ((x, e, sub_sub rules.classes lined x b d f sub), below_top b d sub ns hs)
+
+  in_parts : (n : N) (x d : ℕ) → at n ≡ Some x → IsTop rules.classes d → (fs : List N) → AllOf d fs → (ps : List ℕ) → AreAsked x ps → Typed (Is' (kind.Nodes d)) (children_in same n fs ps)
+  in_parts n x d there top fs f [] h = made_typed d fs f
+  in_parts n x d there top fs f (p ∷ ps) ((b, e), hs) = (
+    (b, ap (option_and_then (λ c. class_of_part rules.classes c p)) there ∙ e),
+    in_parts n x d there top (with_more same fs (look (Slot n p))) (more_typed d fs (look (Slot n p)) f (below_top b d (top.1 x p b e) (look (Slot n p)) (contents.children n x p b there e))) ps hs,
+  )
+
+  children_typed : (c d : ℕ) (v : Value N) → IsTop rules.classes d → Is' (kind.Class c) v → Typed (Is' (kind.Nodes d)) (children_of rules.classes same v)
+  children_typed c d v top h = of_node (Is' (kind.Nodes d)) c v _ h (λ n x there sub. (
+    some_there (at n) x there,
+    in_parts n x d there top [] tt (tree_parts 0 (parts rules.classes (look (Is n)))) (subst (λ z. AreAsked x (tree_parts 0 (parts rules.classes z))) (sym (contents.class n x there)) (asked_parts x 0 (parts rules.classes x) (λ j p e. let g : j ≡ 0 + j = omega arith in subst (λ z. slice_get (parts rules.classes x) z ≡ Some p) g e))),
+  ))
+
+  parent_typed : (c d : ℕ) (v : Value N) → IsTop rules.classes d → Is' (kind.Class c) v → Typed (Is' (kind.Class d)) (up_of v)
+  parent_typed c d v top h = of_node (Is' (kind.Class d)) c v _ h (λ n x there sub. (some_there (at n) x there, by_up (look (Up n)) (contents.parent n (some_there (at n) x there))))
+    where
+      by_up : (o : Option (N × ℕ)) → IfSome o (λ p. (c : ℕ) × (at p.0 ≡ Some c) × (c < length rules.classes)) → Is' (kind.Class d) (Ref (option_map (λ q. q.0) o))
+      by_up None h = tt
+      by_up (Some p) (x, e, f) = (x, e, top.0 x f)
+
   joined_typed : (bytes : List ℕ) → Typed (Is' kind.Text) (joined bytes)
   joined_typed bytes = either_typed rules at Allowed look (Is' kind.Text) _ (Gives (Text bytes)) (Fails Long) tt tt
 
@@ -224,6 +327,12 @@ module _ {N : Type 0} (rules : Rules) (lined : AreChained rules.classes) (at : C
       → shape_of_part rules.classes c part ≡ Some (Many b) → Is' (kind.Class c) v → ((ns : List N) → AllByRecursion
       (λ m. IsNodeOf rules.classes at m b) ns → Typed (Is' k) (fold ns)) → Typed (Is' k) (elements_of part v >>= fold)
   of_list c part b k v fold e h g = then_typed rules at Allowed look (AllByRecursion (λ m. IsNodeOf rules.classes at m b)) (Is' k) (elements_of part v) fold (elements_typed c part b v e h) g
+
+  of_drawer : (c part b : ℕ) (key : Key) (k : Kind) (v w : Value N) (fold : List N → Run N (Value N))
+      → shape_of_part rules.classes c part ≡ Some (Many b) → Is' (kind.Class c) v → ((ns : List N) → AllByRecursion
+      (λ m. IsNodeOf rules.classes at m b) ns → Typed (Is' k) (fold ns)) → Typed (Is' k) (drawer_of part key v w >>= fold)
+  of_drawer c part b key k v w fold e h g =
+      then_typed rules at Allowed look (AllByRecursion (λ m. IsNodeOf rules.classes at m b)) (Is' k) (drawer_of part key v w) fold (drawers_typed c part b key v w e h) g
 
   abbrev Scopes : ScopeKinds → Scope N → Type 0
   Scopes s scope = IsOfScopeKinds rules.classes at Allowed s scope
@@ -260,6 +369,8 @@ module _ {N : Type 0} (rules : Rules) (lined : AreChained rules.classes) (at : C
   not_said k (Int n) no_text h = tt
   not_said k (Truth b) no_text h = tt
   not_said kind.Text (Text bytes) no_text h = absurd (no_text refl)
+  not_said (kind.Nodes c) (Text bytes) no_text h = absurd h
+  not_said k (Nodes ns) no_text h = tt
   not_said kind.Int (Text bytes) no_text h = absurd h
   not_said kind.Truth (Text bytes) no_text h = absurd h
   not_said (kind.Class c) (Text bytes) no_text h = absurd h
@@ -269,8 +380,16 @@ module _ {N : Type 0} (rules : Rules) (lined : AreChained rules.classes) (at : C
   widen c d (Int n) e h = absurd h
   widen c d (Truth b) e h = absurd h
   widen c d (Text bytes) e h = absurd h
+  widen c d (Nodes ns) e h = absurd h
   widen c d (Ref None) e h = tt
   widen c d (Ref (Some n)) e (x, f, g) = (x, f, sub_sub rules.classes lined x c d g e)
+
+  widen_all : (c d : ℕ) (v : Value N) → is_sub rules.classes c d ≡ true → Is' (kind.Nodes c) v → Is' (kind.Nodes d) v
+  widen_all c d (Int n) e h = absurd h
+  widen_all c d (Truth b) e h = absurd h
+  widen_all c d (Text bytes) e h = absurd h
+  widen_all c d (Ref n) e h = absurd h
+  widen_all c d (Nodes ns) e h = (below_top c d e ns h.0, h.1)
 
   -- what is said of the last value alone
   refined : {A : Type 0} (Q P : Value N → Type 0) (r : Run N A) (k : A → Run N (Value N)) → ((a : A) → Typed Q (k a) → Typed P (k a)) → Typed Q (r >>= k) → Typed P (r >>= k)
@@ -282,6 +401,31 @@ module _ {N : Type 0} (rules : Rules) (lined : AreChained rules.classes) (at : C
   token_said : (Q : Value N → Type 0) (part : ℕ) (v : Value N) → Typed Q (token_of part v) → Typed (λ w. Q w × IsAllowed Allowed w) (token_of part v)
   token_said Q part v h = refined Q (λ w. Q w × IsAllowed Allowed w) (node_of v) _ (λ n (x, q). (x, (q, contents.said n part))) h
 
+  -- what is passed is short, and so one of those that there are
+  passed_said : AllByRecursion Allowed (texts_within max_passed) → (v : Value N) → Typed (Is' kind.Text) (passed v) →
+      Typed (λ w. Is' kind.Text w × IsAllowed Allowed w) (passed v)
+  passed_said all (Text bytes) = by_test (is_text_within max_passed bytes) refl
+    where
+      by_test : (b : Bool) → is_text_within max_passed bytes ≡ b → Typed (Is' kind.Text) (cond b (Gives (Text bytes)) (Fails Long)) →
+          Typed (λ w. Is' kind.Text w × IsAllowed Allowed w) (cond b (Gives (Text bytes)) (Fails Long))
+      by_test true e h = (h, of_one Allowed (texts_within max_passed) bytes all (short_listed max_passed bytes e))
+      by_test false e h = tt
+  passed_said all (Int (pos n)) = by_test (nat_le n max_step)
+    where
+      by_test : (b : Bool) → Typed (Is' kind.Text) (cond b (Gives (Int (pos n))) (Fails Long)) →
+          Typed (λ w. Is' kind.Text w × IsAllowed Allowed w) (cond b (Gives (Int (pos n))) (Fails Long))
+      by_test true h = absurd h
+      by_test false h = tt
+  passed_said all (Int (negsuc n)) = by_test (nat_le n max_step)
+    where
+      by_test : (b : Bool) → Typed (Is' kind.Text) (cond b (Gives (Int (negsuc n))) (Fails Long)) →
+          Typed (λ w. Is' kind.Text w × IsAllowed Allowed w) (cond b (Gives (Int (negsuc n))) (Fails Long))
+      by_test true h = absurd h
+      by_test false h = tt
+  passed_said all (Truth b) = λ h. absurd h
+  passed_said all (Ref n) = λ h. absurd h
+  passed_said all (Nodes ns) = λ h. absurd h
+
   -- the argument has its kind, and its text is one that there is
   argued : (s : ScopeKinds) (e : Expr) (k : Kind) → IsArgumentForm k e → (scope : Scope N) → Says e → Scopes s scope
       → Typed (Is' k) (eval rules.classes same e scope)
@@ -290,10 +434,13 @@ module _ {N : Type 0} (rules : Rules) (lined : AreChained rules.classes) (at : C
   argued s e kind.Truth form scope h i x = less_typed rules at Allowed look (Is' kind.Truth) (λ v. Is' kind.Truth v × IsAllowed Allowed v) _ (λ v z. (z, not_said kind.Truth v (λ e. absurd (cc)) z)) x
   argued s e (kind.Class c) form scope h i x = less_typed rules at Allowed look (Is' (kind.Class c))
       (λ v. Is' (kind.Class c) v × IsAllowed Allowed v) _ (λ v z. (z, not_said (kind.Class c) v (λ e. absurd (cc)) z)) x
+  argued s e (kind.Nodes c) form scope h i x = less_typed rules at Allowed look (Is' (kind.Nodes c)) (λ v. Is' (kind.Nodes c) v × IsAllowed Allowed v) _ (λ v z. (z, not_said (kind.Nodes c) v (λ e. absurd (cc)) z)) x
   argued s (TextLiteral bytes) kind.Text form scope h i x = (x, h.0)
   argued s (Name n) kind.Text form scope h i x = (x, named_said scope.names s.names n i.names)
   argued s (TokenOf a part) kind.Text form scope h i x = refined (Is' kind.Text) (λ v. Is' kind.Text v
       × IsAllowed Allowed v) (eval rules.classes same a scope) _ (λ v z. token_said (Is' kind.Text) part v z) x
+  argued s (Passed a) kind.Text form scope h i x = refined (Is' kind.Text) (λ v. Is' kind.Text v × IsAllowed Allowed v)
+      (eval rules.classes same a scope) passed (λ v z. passed_said (both_all Allowed (texts_within max_passed) (literals a) h).0 v z) x
   argued s e kind.Text form scope h i x = absurd form
 
   mutual
@@ -301,6 +448,7 @@ module _ {N : Type 0} (rules : Rules) (lined : AreChained rules.classes) (at : C
     typed s e _ (has.widened c d sub x) scope h i =
         less_typed rules at Allowed look (Is' (kind.Class c)) (Is' (kind.Class d)) (eval rules.classes same e scope)
         (λ v z. widen c d v sub z) (typed s e (kind.Class c) x scope h i)
+    typed s e _ (has.widened_all c d sub x) scope h i = less_typed rules at Allowed look (Is' (kind.Nodes c)) (Is' (kind.Nodes d)) (eval rules.classes same e scope) (λ v z. widen_all c d v sub z) (typed s e (kind.Nodes c) x scope h i)
     typed s _ _ (has.int_literal n f) scope h i = f
     typed s _ _ (has.truth_literal b) scope h i = tt
     typed s _ _ (has.text_literal bytes) scope h i = tt
@@ -364,6 +512,36 @@ module _ {N : Type 0} (rules : Rules) (lined : AreChained rules.classes) (at : C
         of_list c part b kind.Int v _ e z (λ ns.
         sum_typed (λ m. IsNodeOf rules.classes at m b) _ (pos 0) ns (natural_fits 0 (omega arith)) (λ n there.
         typed (bound_kinds s b) f kind.Int y (bound scope n) (says_right a f h) (bound_scope s scope n b i there))))
+    typed s _ _ (has.passed {a = a} k x) scope h i =
+        then_do a scope k k passed (typed s a k x scope (both_all Allowed (texts_within max_passed) (literals a) h).1 i)
+        (λ v z. either_typed rules at Allowed look (Is' k) (may_pass v) (Gives v) (Fails Long) z tt)
+    typed s _ _ (has.listed {a = a} c part b e x) scope h i = then_do a scope (kind.Class c) (kind.Nodes b) _ (typed s a (kind.Class c) x scope h i) (λ v z. of_list c part b (kind.Nodes b) v _ e z (λ ns g. made_typed b (with_more same [] ns) (more_typed b [] ns tt g)))
+    typed s _ _ (has.only {a = a} c x) scope h i = then_do a scope (kind.Class c) (kind.Nodes c) _ (typed s a (kind.Class c) x scope h i) (λ v z. only_typed c (ref_of v) (ref_there c v z))
+    typed s _ _ (has.union {a = a} {b = b} c x y) scope h i = two a b scope (kind.Nodes c) (kind.Nodes c) (kind.Nodes c) _ (typed s a (kind.Nodes c) x scope (says_left a b h) i) (typed s b (kind.Nodes c) y scope (says_right a b h) i) (λ v w z u. made_typed c (with_more same (nodes_of v) (nodes_of w)) (more_typed c (nodes_of v) (nodes_of w) (nodes_there c v z) (nodes_there c w u)))
+    typed s _ _ (has.contains {a = a} {b = b} c d x y) scope h i = two a b scope (kind.Nodes c) (kind.Class d) kind.Truth _ (typed s a (kind.Nodes c) x scope (says_left a b h) i) (typed s b (kind.Class d) y scope (says_right a b h) i) (λ v w z u. tt)
+    typed s _ _ (has.any_of {a = a} {e = f} b x y) scope h i = then_do a scope (kind.Nodes b) kind.Truth _ (typed s a (kind.Nodes b) x scope (says_left a f h) i) (λ v z.
+        exists_typed (λ m. IsNodeOf rules.classes at m b) _ (nodes_of v) (λ n there. typed (bound_kinds s b) f kind.Truth y (bound scope n) (says_right a f h) (bound_scope s scope n b i there)) (nodes_there b v z))
+    typed s _ _ (has.first_of {a = a} {e = f} b x y) scope h i = then_do a scope (kind.Nodes b) (kind.Class b) _ (typed s a (kind.Nodes b) x scope (says_left a f h) i) (λ v z.
+        first_typed b _ (nodes_of v) (λ n there. typed (bound_kinds s b) f kind.Truth y (bound scope n) (says_right a f h) (bound_scope s scope n b i there)) (nodes_there b v z))
+    typed s _ _ (has.sum_of {a = a} {e = f} b x y) scope h i = then_do a scope (kind.Nodes b) kind.Int _ (typed s a (kind.Nodes b) x scope (says_left a f h) i) (λ v z.
+        sum_typed (λ m. IsNodeOf rules.classes at m b) _ (pos 0) (nodes_of v) (natural_fits 0 (omega arith)) (λ n there. typed (bound_kinds s b) f kind.Int y (bound scope n) (says_right a f h) (bound_scope s scope n b i there)) (nodes_there b v z))
+    typed s _ _ (has.gather {a = a} {e = f} b d x y) scope h i = then_do a scope (kind.Nodes b) (kind.Nodes d) _ (typed s a (kind.Nodes b) x scope (says_left a f h) i) (λ v z.
+        gather_typed (λ m. IsNodeOf rules.classes at m b) d _ [] (nodes_of v) tt (λ n there. typed (bound_kinds s b) f (kind.Nodes d) y (bound scope n) (says_right a f h) (bound_scope s scope n b i there)) (nodes_there b v z))
+    typed s _ _ (has.close {a = a} {e = f} b x y) scope h i = then_do a scope (kind.Nodes b) (kind.Nodes b) _ (typed s a (kind.Nodes b) x scope (says_left a f h) i) (λ v z.
+        close_typed b _ max_turns 0 (nodes_of v) (omega arith) (nodes_there b v z) (λ n there. typed (bound_kinds s b) f (kind.Nodes b) y (bound scope n) (says_right a f h) (bound_scope s scope n b i there)))
+    typed s _ _ (has.children {a = a} c d top x) scope h i = then_do a scope (kind.Class c) (kind.Nodes d) _ (typed s a (kind.Class c) x scope h i) (λ v z. children_typed c d v top z)
+    typed s _ _ (has.parent {a = a} c d top x) scope h i = then_do a scope (kind.Class c) (kind.Class d) _ (typed s a (kind.Class c) x scope h i) (λ v z. parent_typed c d v top z)
+    typed s _ _ (has.seek_any {a = a} {t = t} {e = f} c part b key e x y z) scope h i =
+        let (hat, hf) = both_all Allowed (literals a ++ literals t) (literals f) h in
+        two a t scope (kind.Class c) kind.Text kind.Truth _ (typed s a (kind.Class c) x scope (says_left a t hat) i) (typed s t kind.Text y scope (says_right a t hat) i) (λ v w p q.
+        of_drawer c part b key kind.Truth v w _ e p
+        (λ ns. exists_typed (λ m. IsNodeOf rules.classes at m b) _ ns (λ n there. typed (bound_kinds s b) f
+        kind.Truth z (bound scope n) hf (bound_scope s scope n b i there))))
+    typed s _ _ (has.seek_first {a = a} {t = t} {e = f} c part b key e x y z) scope h i =
+        let (hat, hf) = both_all Allowed (literals a ++ literals t) (literals f) h in
+        two a t scope (kind.Class c) kind.Text (kind.Class b) _ (typed s a (kind.Class c) x scope (says_left a t hat) i) (typed s t kind.Text y scope (says_right a t hat) i) (λ v w p q.
+        of_drawer c part b key (kind.Class b) v w _ e p
+        (λ ns. first_typed b _ ns (λ n there. typed (bound_kinds s b) f kind.Truth z (bound scope n) hf (bound_scope s scope n b i there))))
 
     pub all_typed : (s : ScopeKinds) (es : Exprs) (ks : List Kind) → HaveKinds rules s es ks → (scope : Scope N)
         → AllByRecursion Allowed (all_literals es) → Scopes s scope

@@ -1,12 +1,13 @@
 -- Instances that are well formed are well typed, with the texts that are given, and those that are well typed are well formed.
-use Rattle.std.proofs.Common.{◌≡◌, ℕ, true, false, List, [], ◌∷◌, ◌++◌, Option, Some, None, inl, inr, refl, sym, ap, subst}
+use Rattle.std.proofs.Common.{◌≡◌, ℕ, ◌<◌, pos, negsuc, nat_le, arith, true, false, List, [], ◌∷◌, ◌++◌, Option, Some, None, inl, inr, refl, sym, ap, subst}
 use Rattle.std.specs.Prelude.{option_map}
 use Rattle.std.specs.List.{AllByRecursion, flat_map}
+use Rattle.std.proofs.lemmas.Bool.Decides.{nat_tests}
 use Rattle.at_model.specs.Classes.{Classes, is_sub}
 use Rattle.at_model.specs.Trees.{Tree, Token, class_of}
 use Rattle.at_model.specs.Trees as held
 use Rattle.at_model.specs.Paths.{Node, tree_at}
-use Rattle.at_model.specs.Run.{Value, Int, Truth, Text, Ref, Instance}
+use Rattle.at_model.specs.Run.{Value, Int, Truth, Text, Ref, Nodes, Instance}
 use Rattle.at_model.specs.Bodies.{value_of}
 use Rattle.at_model.specs.Rules.{Rules, Kind, OwnEquation, InheritedEquation}
 use Rattle.at_model.specs.Rules as kind
@@ -40,6 +41,7 @@ module _ (rules : Rules) (t : Tree) (vs : List (Value Node)) where
   value_given (Int n) h = tt
   value_given (Truth b) h = tt
   value_given (Ref n) h = tt
+  value_given (Nodes ns) h = tt
 
   pub tokens_given : AllByRecursion (λ v. IsAllowed {N = Node} (IsGiven rules t vs) (value_of v)) (tokens t)
   tokens_given = all_more (λ v. AllByRecursion (IsGiven rules t vs) (text_in v)) (λ v. IsAllowed {N = Node}
@@ -63,6 +65,12 @@ module _ (rules : Rules) (t : Tree) (vs : List (Value Node)) where
       (among_right b (literals_of rules) (flat_map text_of_value vs) h)))
 
 module _ (classes : Classes) (t : Tree) (Allowed : Texts) where
+  int_fits : (n : ℕ) → nat_le n 2147483647 ≡ true → n < 2147483648
+  int_fits n e = grind (arith, nat_tests)
+
+  int_test : (n : ℕ) → n < 2147483648 → nat_le n 2147483647 ≡ true
+  int_test n h = grind (arith, nat_tests)
+
   pub fits_kind : (v : Value Node) (k : Kind) → fits_parameter classes t k v ≡ true → IsOfKind classes (class_at t) v k
   fits_kind (Text bytes) kind.Text e = tt
   fits_kind (Ref None) (kind.Class b) e = tt
@@ -71,12 +79,23 @@ module _ (classes : Classes) (t : Tree) (Allowed : Texts) where
       by_tree : (o : Option Tree) → tree_at t n ≡ o → elim o [ None ↦ false | Some u ↦ is_sub classes (class_of u) b ] ≡ true → IsNodeOf classes (class_at t) n b
       by_tree None f g = absurd (cc)
       by_tree (Some u) f g = (class_of u, ap (option_map class_of) f, g)
-  fits_kind (Int n) kind.Int e = absurd (cc)
+  fits_kind (Nodes ns) kind.Int e = absurd (cc)
+  fits_kind (Nodes ns) kind.Truth e = absurd (cc)
+  fits_kind (Nodes ns) kind.Text e = absurd (cc)
+  fits_kind (Nodes ns) (kind.Class b) e = absurd (cc)
+  fits_kind (Nodes ns) (kind.Nodes b) e = absurd (cc)
+  fits_kind (Int n) (kind.Nodes b) e = absurd (cc)
+  fits_kind (Truth c) (kind.Nodes b) e = absurd (cc)
+  fits_kind (Text bytes) (kind.Nodes b) e = absurd (cc)
+  fits_kind (Ref None) (kind.Nodes b) e = absurd (cc)
+  fits_kind (Ref (Some n)) (kind.Nodes b) e = absurd (cc)
+  fits_kind (Int (pos n)) kind.Int e = int_fits n e
+  fits_kind (Int (negsuc n)) kind.Int e = int_fits n e
   fits_kind (Int n) kind.Truth e = absurd (cc)
   fits_kind (Int n) kind.Text e = absurd (cc)
   fits_kind (Int n) (kind.Class b) e = absurd (cc)
   fits_kind (Truth c) kind.Int e = absurd (cc)
-  fits_kind (Truth c) kind.Truth e = absurd (cc)
+  fits_kind (Truth c) kind.Truth e = tt
   fits_kind (Truth c) kind.Text e = absurd (cc)
   fits_kind (Truth c) (kind.Class b) e = absurd (cc)
   fits_kind (Text bytes) kind.Int e = absurd (cc)
@@ -106,19 +125,25 @@ module _ (classes : Classes) (t : Tree) (Allowed : Texts) where
       by_tree : (o : Option Tree) → tree_at t n ≡ o → option_map class_of o ≡ Some c → elim (tree_at t n) [ None ↦ false | Some u ↦ is_sub classes (class_of u) b ] ≡ true
       by_tree None g e = absurd cc
       by_tree (Some u) g e = let same : class_of u ≡ c = cc in rw (g, same) f
-  kind_fits (Int n) kind.Int p h = absurd p
-  kind_fits (Int n) kind.Truth p h = absurd p
+  kind_fits (Nodes ns) kind.Int p h = absurd h
+  kind_fits (Nodes ns) kind.Truth p h = absurd h
+  kind_fits (Nodes ns) kind.Text p h = absurd h
+  kind_fits (Nodes ns) (kind.Class b) p h = absurd h
+  kind_fits v (kind.Nodes b) p h = absurd p
+  kind_fits (Int (pos n)) kind.Int p h = int_test n h
+  kind_fits (Int (negsuc n)) kind.Int p h = int_test n h
+  kind_fits (Int n) kind.Truth p h = absurd h
   kind_fits (Int n) kind.Text p h = absurd h
   kind_fits (Int n) (kind.Class b) p h = absurd h
-  kind_fits (Truth c) kind.Int p h = absurd p
-  kind_fits (Truth c) kind.Truth p h = absurd p
+  kind_fits (Truth c) kind.Int p h = absurd h
+  kind_fits (Truth c) kind.Truth p h = refl
   kind_fits (Truth c) kind.Text p h = absurd h
   kind_fits (Truth c) (kind.Class b) p h = absurd h
-  kind_fits (Text bytes) kind.Int p h = absurd p
-  kind_fits (Text bytes) kind.Truth p h = absurd p
+  kind_fits (Text bytes) kind.Int p h = absurd h
+  kind_fits (Text bytes) kind.Truth p h = absurd h
   kind_fits (Text bytes) (kind.Class b) p h = absurd h
-  kind_fits (Ref n) kind.Int p h = absurd p
-  kind_fits (Ref n) kind.Truth p h = absurd p
+  kind_fits (Ref n) kind.Int p h = absurd h
+  kind_fits (Ref n) kind.Truth p h = absurd h
   kind_fits (Ref n) kind.Text p h = absurd h
 
   kinds_fit : (ws : List (Value Node)) (ks : List Kind) → AllByRecursion (IsParameter classes) ks → AreArguments classes (class_at t) Allowed ws ks → fit_parameters classes t ks ws ≡ true

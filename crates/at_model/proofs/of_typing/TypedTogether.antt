@@ -60,6 +60,7 @@ any_text (run.Int n) = tt
 any_text (run.Truth b) = tt
 any_text (run.Text bytes) = tt
 any_text (run.Ref n) = tt
+any_text (run.Nodes ns) = tt
 
 -- what is served ------------------------------------------------------------------------------------------------------
 

@@ -3,7 +3,7 @@
 use Rattle.std.specs.Prelude.{ℕ, Bool, true, false, ◌&&◌, ◌||◌, cond, not, List, [], ◌∷◌, ◌++◌, Option, Some, None}
 use Rattle.at_model.specs.Classes.{Classes}
 use Rattle.at_model.specs.Run.{Value, Truth, Instance, Run, Gives, Demands, ◌>>=◌}
-use Rattle.at_model.specs.Bodies.{Expr, Not, And, Or, Choose, Call, Exists, Scope, bound, truth_of, node_of, bool_eq, elements_of, eval, eval_all}
+use Rattle.at_model.specs.Bodies.{Expr, Not, And, Or, Choose, Call, Exists, SeekAny, AnyOf, Over, Scope, bound, truth_of, node_of, bool_eq, elements_of, drawer_of, nodes_of, eval, eval_all}
 
 -- a value, or a formula of instances
 pub data Formula (N : Type 0) : Type 0 where
@@ -84,6 +84,10 @@ form classes same starts b p (Call e attribute es) scope = eval classes same e s
     >>= λ n. demanded starts b p (record { node = n; attribute = attribute; arguments = vs })
 form classes same starts b p (Exists e part f) scope = eval classes same e scope
     >>= λ v. elements_of part v >>= fold_form p (λ n. form classes same starts b p f (bound scope n))
+form classes same starts b p (Over AnyOf e f) scope = eval classes same e scope
+    >>= λ v. fold_form p (λ n. form classes same starts b p f (bound scope n)) (nodes_of v)
+form classes same starts b p (SeekAny e part key t f) scope = eval classes same e scope
+    >>= λ v. eval classes same t scope >>= λ w. drawer_of part key v w >>= fold_form p (λ n. form classes same starts b p f (bound scope n))
 form classes same starts b p e scope = eval classes same e scope >>= λ v. Gives (Known (turned p v))
 
 -- the formula of each instance, a value for one that isn't circular; and which attributes are circular

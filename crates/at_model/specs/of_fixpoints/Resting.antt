@@ -7,7 +7,7 @@ use Rattle.at_model.specs.Run.{Instance, Location, Contents}
 use Rattle.at_model.specs.Meaning.{Among, Reaches, content}
 use Rattle.at_model.specs.Support.{Sees}
 use Rattle.at_model.specs.Edits.{Edit}
-use Rattle.at_model.specs.Touches.{touches}
+use Rattle.at_model.specs.Touches.{touches_in}
 use Rattle.at_model.specs.of_fixpoints.Formulas.{Formula, atoms, Forms}
 use Rattle.at_model.specs.of_fixpoints.Evaluations.{forms as formulas}
 use Rattle.at_model.specs.of_fixpoints.Fixpoints.{HasValue, HasForm}
@@ -29,4 +29,4 @@ Supports {N} look forms l i =
 
 -- the edit touches nothing that supports the instance
 abbrev pub IsUntouched : Rules → Tree → Edit → Instance Node → Type 0
-IsUntouched rules t e i = (l : Location Node) → Supports (content t) (formulas rules) l i → touches e l ≡ false
+IsUntouched rules t e i = (l : Location Node) → Supports (content t) (formulas rules) l i → touches_in t e l ≡ false

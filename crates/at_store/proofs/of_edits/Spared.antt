@@ -6,7 +6,7 @@ use Rattle.std.proofs.lemmas.Bool.{eq-eqb}
 use Rattle.std.proofs.lemmas.List.Folds.{list_any_at}
 use Rattle.std.proofs.lemmas.Option.{slice_get-map}
 use Rattle.at_model.specs.Paths.{Node, cell_at, children_at, parent_of, tree_at}
-use Rattle.at_model.specs.Run.{Idx, Is, Location, Slot, Tok, Up}
+use Rattle.at_model.specs.Run.{Idx, Is, Location, Slot, Tok, Up, Drawer}
 use Rattle.at_model.specs.Touches.{node_of}
 use Rattle.at_model.specs.Trees.{Tree, cells_of, class_of, from_cells}
 use Rattle.at_model.proofs.of_edits.Surviving.{parent_is}
@@ -36,6 +36,7 @@ slot_spared a part (Tok n p) h = refl
 slot_spared a part (Slot n p) h = ap (λ b. b && nat_eq part p) h
 slot_spared a part (Up n) h = refl
 slot_spared a part (Idx n) h = refl
+slot_spared a part (Drawer n p key mark) h = refl
 
 pub token_spared : (a part : ℕ) (l : Location ℕ) → nat_eq a (node_of l) ≡ false → is_token_of nat_eq a part l ≡ false
 token_spared a part (Is n) h = refl
@@ -43,6 +44,7 @@ token_spared a part (Tok n p) h = ap (λ b. b && nat_eq part p) h
 token_spared a part (Slot n p) h = refl
 token_spared a part (Up n) h = refl
 token_spared a part (Idx n) h = refl
+token_spared a part (Drawer n p key mark) h = refl
 
 pub up_spared : (a : ℕ) (l : Location ℕ) → is_node (Some a) (node_of l) ≡ false → is_up_of nat_eq a l ≡ false
 up_spared a (Is n) h = refl
@@ -50,6 +52,7 @@ up_spared a (Tok n p) h = refl
 up_spared a (Slot n p) h = refl
 up_spared a (Up n) h = h
 up_spared a (Idx n) h = refl
+up_spared a (Drawer n p key mark) h = refl
 
 -- a node that isn't among the children of a component doesn't stand there
 apart_from : (memory : ℕ → Option Info) (a part n : ℕ) → IsChild memory n
@@ -72,6 +75,7 @@ index_spared memory a part (Is n) child h = refl
 index_spared memory a part (Tok n p) child h = refl
 index_spared memory a part (Slot n p) child h = refl
 index_spared memory a part (Up n) child h = refl
+index_spared memory a part (Drawer n p key mark) child h = refl
 index_spared memory a part (Idx n) child h = apart_from memory a part n child h (up_in (memory n)) refl
 
 -- a component, with the children there

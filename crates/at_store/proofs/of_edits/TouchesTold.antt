@@ -3,7 +3,7 @@ use Rattle.std.proofs.Common.{◌≡◌, ℕ, Bool, ◌||◌, ◌&&◌, nat_eq, 
 use Rattle.at_model.specs.Classes.{Classes}
 use Rattle.at_model.specs.Trees.{Tree, class_of}
 use Rattle.at_model.specs.Paths.{Node, tree_at}
-use Rattle.at_model.specs.Run.{Contents, Idx, Is, Location, Slot, Tok, Up}
+use Rattle.at_model.specs.Run.{Contents, Drawer, Idx, Is, Location, Slot, Tok, Up}
 use Rattle.at_model.specs.Alike.{LocationLike, Names}
 use Rattle.at_model.specs.Alike as alike
 use Rattle.at_model.specs.Edits.{Edit}
@@ -45,6 +45,7 @@ node_there R _ _ (alike.tok part r) = r
 node_there R _ _ (alike.slot part r) = r
 node_there R _ _ (alike.up r) = r
 node_there R _ _ (alike.idx r) = r
+node_there R _ _ (alike.drawer part key mark r) = r
 
 -- only the parents of the two nodes are looked at
 module _ (look other : Contents ℕ) (leaves : ℕ → Bool) where
@@ -53,6 +54,7 @@ module _ (look other : Contents ℕ) (leaves : ℕ → Bool) where
   index_alike (Tok n p) e a part = refl
   index_alike (Slot n p) e a part = refl
   index_alike (Up n) e a part = refl
+  index_alike (Drawer n p key mark) e a part = refl
   index_alike (Idx n) e a part = ap (at_parent (λ p. nat_eq a p.0 && nat_eq part p.1)) e
 
   told_alike : (c : Change ℕ) (l : Location ℕ) → look (Up (changed c)) ≡ other (Up (changed c)) → look (Up (node_of l))

@@ -82,8 +82,3 @@ empty_memory s e k = ap (λ xs. reindexed (place_in (stored_of s)) k (info_of (g
 
 pub empty_unmarked : (s : Slab Entry) → s.slots ≡ [] → IsUnmarked s
 empty_unmarked s e k = ap (λ xs. marked (get_or xs k None)) e ∙ ap marked (none_there k None)
-
--- a tree that is brought into an idle store waits beside its tree, with numbers that are new
-pub brought_waits : (before later : Shown) (t : Tree) (new : ℕ) → IsIdle before → IsBrought before later t new →
-    (w : Tree) × (class_of w ≡ new) × (relabel (class_in (memory_of later.slab)) w ≡ t) × Keeps (memory_of later.slab) (numbers before) (Some w)
-brought_waits before later t new h b = let (w, number, p) = b.0 in (w, number, p.classes, planted_waits (memory_of before.slab) (memory_of later.slab) (numbers before) t w h.keeps p)

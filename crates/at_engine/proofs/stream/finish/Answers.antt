@@ -6,7 +6,8 @@ use Rattle.at_engine.specs.Loop.{kept}
 use Rattle.at_engine.specs.Engines.{rules_of, slice_of, state_of}
 use Rattle.at_engine.proofs.of_keeping.Kept.{filled_as_kept, empty_as_kept}
 use Rattle.at_engine.proofs.of_keeping.KeepingBytes.{kept_at_end, kept_at_once}
-use Rattle.at_engine.specs.Going.{unsaid}
+use Rattle.at_engine.specs.Going.{sends_nothing, sends_reply, unsaid}
+use Rattle.at_engine.proofs.of_turns.Waiting.{each_drained}
 use Rattle.at_engine.proofs.GoingLemmas.{goes_alike, goes_more, goes_on, goes_said}
 use Rattle.at_engine.proofs.Runnings.{end_of_empty, end_of_line, stopped_in_last}
 use Rattle.at_engine.proofs.stream.finish.Goals as goal
@@ -24,6 +25,7 @@ returns-in_err-serve g c = record {
       let p = err_from_is_err_and c.from_residual.result c.from_residual.ensures.1 in
       goes_said g.K.Keeper.exact g.K.Keeper.contents g.K.Keeper.memories g.W.Output.failed g.W.Output.waits _ _ _ _ _ _ 1 c.from_residual.result (rw p.1 tt)
       (goes_alike g.K.Keeper.exact g.K.Keeper.contents g.K.Keeper.memories g.W.Output.failed unsaid _ _ _ _ _ _ 1 _ c.from_residual.result (ap is_err (sym p.1)) c.in_err-serve.ensures.serves.goes);
+  each = let p = err_from_is_err_and c.from_residual.result c.from_residual.ensures.1 in rw p.1 tt;
 }
 
 pub returns : goal.returns
@@ -43,6 +45,12 @@ returns g c = record {
       (filled_as_kept front long) e (c.in_ok-serve.ensures.serves.keeps exact spare) c.in_ok-serve.ensures.serves.served c.drain-2.ensures.done c.drain-2.ensures.none;
   goes = goes_on g.K.Keeper.exact g.K.Keeper.contents g.K.Keeper.memories g.W.Output.failed g.W.Output.waits _ _ _ _ _ _ _ _ _ _ 1 0 1 (tt {0}) c.drain-2.result
       (goes_said g.K.Keeper.exact g.K.Keeper.contents g.K.Keeper.memories g.W.Output.failed g.W.Output.waits _ _ _ _ _ _ 1 (Ok (tt {0})) (λ none. c.in_ok-serve.ensures.sent refl) c.in_ok-serve.ensures.serves.goes) refl refl (omega arith) c.drain-2.ensures.goes;
+  each = each_drained g.K.Keeper.exact g.K.Keeper.contents g.K.Keeper.memories g.W.Output.contents g.W.Output.failed
+      g.W.Output.waits c.args.engine.now c.serve.new.engine c.drain-2.new.engine c.args.writer.now c.serve.new.writer
+      c.drain-2.new.writer c.serve.new.desk c.drain-2.new.desk c.drain-2.result
+      (sends_reply c.args.engine.now c.serve.new.engine c.args.writer.now c.serve.new.writer c.args.desk.now
+      c.serve.new.desk _ sends_nothing c.in_ok-serve.ensures.serves (c.in_ok-serve.ensures.sent refl))
+      c.drain-2.ensures;
 }
 
 pub returns-then-is_empty : goal.returns-then-is_empty
@@ -56,4 +64,7 @@ returns-then-is_empty g c = record {
       let short : length (kept front) ≤ 0 = omega (arith, none, c.args.desk.now.line.ok.0, ap length e) in
       rw (empty_as_kept front short) (kept_at_once g.K.Keeper.contents c.drain.result c.args.engine.now c.drain.new.engine c.args.desk.now c.drain.new.desk c.drain.ensures.none);
   goes = goes_more g.K.Keeper.exact g.K.Keeper.contents g.K.Keeper.memories g.W.Output.failed g.W.Output.waits _ _ _ _ _ _ 0 1 c.drain.result (omega arith) c.drain.ensures.goes;
+  each = each_drained g.K.Keeper.exact g.K.Keeper.contents g.K.Keeper.memories g.W.Output.contents g.W.Output.failed
+      g.W.Output.waits c.args.engine.now c.args.engine.now c.drain.new.engine c.args.writer.now c.args.writer.now
+      c.drain.new.writer c.args.desk.now c.drain.new.desk c.drain.result sends_nothing c.drain.ensures;
 }

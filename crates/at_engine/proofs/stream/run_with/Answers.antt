@@ -10,7 +10,9 @@ use Rattle.at_engine.specs.declared.stream.desk.Report.{Report}
 use Rattle.at_engine.specs.declared.stream.desk.RunFault.{RunFault}
 use Rattle.at_engine.specs.KeepingRuns.{KeepsBytes}
 use Rattle.at_engine.specs.Engines.{state_of, rules_of, slice_of}
+use Rattle.at_engine.specs.Going.{sends_nothing}
 use Rattle.at_engine.specs.Stepping.{nowhere}
+use Rattle.at_engine.proofs.of_turns.Waiting.{each_then}
 use Rattle.at_engine.proofs.GoingLemmas.{by_both, first_whole, later_whole, whole_before, whole_behind}
 use Rattle.at_engine.proofs.of_keeping.Kept.{kept-nil}
 use Rattle.at_engine.proofs.of_turns.Giving.{few_open}
@@ -28,6 +30,7 @@ loop-turn-init g c = record {
   ended = no_call _;
   reads = none_counted _;
   written = no_call _;
+  each = λ off. sends_nothing;
   sent = λ none. none;
   by = nowhere;
   spare = λ whole exact spare. spare;
@@ -73,6 +76,11 @@ returns-in_err-finish g c = record {
       let t = c.loop-turn.invariant.so_far.3 in
       let f = c.in_err-finish.ensures.finished t.rest t.line in
       rw (p.1, p.2, f.0) (λ well none. absurd (true≢false well));
+  each =
+      let p = err_from_is_err_and c.from_residual.result c.from_residual.ensures.1 in
+      let t = c.loop-turn.invariant.so_far.3 in
+      let f = c.in_err-finish.ensures.finished t.rest t.line in
+      rw (p.1, p.2, f.0) (λ off well. absurd (true≢false well));
   keeps = λ exact spare. let p = err_from_is_err_and c.from_residual.result c.from_residual.ensures.1 in rw p.1 tt;
   work = let p = err_from_is_err_and c.from_residual.result c.from_residual.ensures.1 in rw p.1 tt;
   by = by_both g.K.Keeper.exact g.K.Keeper.contents g.K.Keeper.memories c.args.engine.now c.loop-turn.engine c.finish.new.engine c.loop-turn.invariant.by
@@ -108,6 +116,11 @@ returns-then-count-eq0 g c = record {
   ended =
       then_calls _ _ _ true c.loop-turn.invariant.ended (subst (Remembers _ _) (ap (λ (n : ℕ). nat_eq n 0) c.if-count-eq0.true) c.in-Ok-read.ensures.ended);
   sent = λ well none. c.in_ok-finish.ensures.goes.sent (c.loop-turn.invariant.sent none);
+  each = λ off well.
+      each_then g.K.Keeper.exact g.K.Keeper.contents g.K.Keeper.memories g.W.Output.contents g.W.Output.failed
+      g.W.Output.waits c.args.engine.now c.loop-turn.engine c.args.writer.now c.loop-turn.writer
+      c.finish.new.engine c.finish.new.writer
+      (c.loop-turn.invariant.each off) c.in_ok-finish.ensures.each;
   keeps = λ exact spare none.
       let inv = c.loop-turn.invariant.so_far in
       let t = inv.3 in
@@ -168,6 +181,12 @@ returns-in_err-take_piece g c = record {
       let t = c.loop-turn.invariant.so_far.3 in
       let u = c.in_err-take_piece.ensures.takes.taken t.rest t.progress.open' t.line in
       rw (p.1, p.2, u.0) (λ well none. absurd (true≢false well));
+  each =
+      let r = c.from_residual-in_err-take_piece in
+      let p = err_from_is_err_and r.result r.ensures.1 in
+      let t = c.loop-turn.invariant.so_far.3 in
+      let u = c.in_err-take_piece.ensures.takes.taken t.rest t.progress.open' t.line in
+      rw (p.1, p.2, u.0) (λ off well. absurd (true≢false well));
   keeps = λ exact spare. let p = err_from_is_err_and c.from_residual-in_err-take_piece.result c.from_residual-in_err-take_piece.ensures.1 in rw p.1 tt;
   work = let p = err_from_is_err_and c.from_residual-in_err-take_piece.result c.from_residual-in_err-take_piece.ensures.1 in rw p.1 tt;
   by = by_both g.K.Keeper.exact g.K.Keeper.contents g.K.Keeper.memories c.args.engine.now c.loop-turn.engine c.take_piece.new.engine c.loop-turn.invariant.by
@@ -194,6 +213,7 @@ returns-in-Err g c = record {
   reads = (c.loop-turn.turn + 1, omega arith, counted_on _ _ _ c.loop-turn.turn 1 c.loop-turn.invariant.reads c.in-Err.ensures.counted);
   ended = then_calls _ _ _ false c.loop-turn.invariant.ended c.in-Err.ensures.ended;
   sent = λ well none. c.loop-turn.invariant.sent none;
+  each = λ off well. c.loop-turn.invariant.each off;
   keeps = λ exact spare. tt;
   work = tt;
   by = c.loop-turn.invariant.by;
@@ -233,6 +253,11 @@ loop-turn-preserved g c =
       reads = counted_on _ _ _ c.loop-turn.turn 1 c.loop-turn.invariant.reads c.in-Ok-read.ensures.counted;
       written = then_calls _ _ _ false c.loop-turn.invariant.written c.in_ok-take_piece.ensures.takes.goes.failed;
       sent = λ none. c.in_ok-take_piece.ensures.sent (c.loop-turn.invariant.sent none);
+      each = λ off.
+          each_then g.K.Keeper.exact g.K.Keeper.contents g.K.Keeper.memories g.W.Output.contents g.W.Output.failed
+          g.W.Output.waits c.args.engine.now c.loop-turn.engine c.args.writer.now
+          c.loop-turn.writer c.take_piece.new.engine c.take_piece.new.writer
+          (c.loop-turn.invariant.each off) (c.in_ok-take_piece.ensures.each off);
       by = by_both g.K.Keeper.exact g.K.Keeper.contents g.K.Keeper.memories c.args.engine.now c.loop-turn.engine c.take_piece.new.engine c.loop-turn.invariant.by
           c.in_ok-take_piece.ensures.takes.goes.by;
       spare = λ whole exact spare.
@@ -259,6 +284,7 @@ returns g c = record {
   reads = (c.loop-turn.turn, omega arith, c.loop-turn.invariant.reads);
   ended = c.loop-turn.invariant.ended;
   sent = λ well none. c.loop-turn.invariant.sent none;
+  each = λ off well. c.loop-turn.invariant.each off;
   keeps = λ exact spare. tt;
   work = tt;
   by = c.loop-turn.invariant.by;
@@ -277,6 +303,7 @@ returns-in_default g c = record {
   reads = (0, refl, none_counted _);
   ended = no_call _;
   sent = λ well none. none;
+  each = λ off well. sends_nothing;
   by = nowhere;
   went = went_over g.K.Keeper.exact g.K.Keeper.contents g.K.Keeper.memories c.args.engine.now c.args.engine.now
       nowhere;

@@ -2,7 +2,7 @@ use Rattle.std.specs.Prelude.{IsTrue, false}
 use Rattle.std.proofs.Common.{◌≡◌, ◌≤◌, ◌<◌, ◌^◌, ◌*◌, ◌+◌, List, ℕ, [], length}
 use Rattle.std.specs.Io.KnownBytes.{Consumes}
 use Rattle.at_engine.specs.Ends.{Counted, Remembers}
-use Rattle.at_engine.specs.Going.{KeepWhole}
+use Rattle.at_engine.specs.Going.{KeepWhole, SendsEach}
 use Rattle.at_engine.specs.Taking.{Takes, countable}
 use Rattle.at_engine.specs.Keeping.{IsSpare}
 use Rattle.at_engine.specs.Stepping.{GoesBy}
@@ -24,6 +24,9 @@ invariant-loop-turn g l =
       ended : Remembers (g.R.Input.ended l.fn.reader) (g.R.Input.ended l.reader) false;
       reads : Counted (g.R.Input.reads l.fn.reader) (g.R.Input.reads l.reader) l.turn;
       written : Remembers (g.W.Output.failed l.fn.writer) (g.W.Output.failed l.writer) false;
+      each : l.fn.gathers ≡ false
+          → SendsEach g.K.Keeper.exact g.K.Keeper.contents g.K.Keeper.memories contents g.W.Output.failed
+          g.W.Output.waits l.fn.engine l.fn.writer l.engine l.writer;
       sent : g.W.Output.waits l.fn.writer ≡ false → g.W.Output.waits l.writer ≡ false;
       by : GoesBy g.K.Keeper.exact g.K.Keeper.contents g.K.Keeper.memories l.fn.engine l.engine;
       spare : KeepWhole (rules_of l.fn.engine) l.initial.desk l.desk → IsTrue g.K.Keeper.exact → IsSpare g.K.Keeper.contents l.fn.engine → IsSpare g.K.Keeper.contents l.engine;

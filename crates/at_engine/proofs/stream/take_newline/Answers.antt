@@ -3,7 +3,7 @@ use Rattle.std.specs.Prelude.{is_err}
 use Rattle.std.proofs.lemmas.Result.{err_from_is_err_and}
 use Rattle.std.proofs.lemmas.Bool.Decides.{nat_tests}
 use Rattle.at_engine.specs.Engines.{rules_of, slice_of}
-use Rattle.at_engine.specs.Going.{unsaid}
+use Rattle.at_engine.specs.Going.{sends_nothing, sends_reply, unsaid}
 use Rattle.at_engine.specs.Loop.{kept}
 use Rattle.at_engine.proofs.of_keeping.Kept.{filled_as_kept, empty_as_kept, kept-nil}
 use Rattle.at_engine.proofs.of_keeping.KeepingBytes.{keeps_empty, keeps_line, none_after_line}
@@ -69,3 +69,15 @@ returns-else-not-is_empty-clause-sent g c = λ no_next h. elim h [
 pub returns-in_err-serve-clause-sent : goal.returns-in_err-serve-clause-sent
 returns-in_err-serve-clause-sent g c =
     let p = err_from_is_err_and c.from_residual.result c.from_residual.ensures.1 in rw p.1 tt
+
+pub returns-in_err-serve-clause-each : goal.returns-in_err-serve-clause-each
+returns-in_err-serve-clause-each g c =
+    let p = err_from_is_err_and c.from_residual.result c.from_residual.ensures.1 in rw p.1 tt
+
+pub returns-in_ok-serve-clause-each : goal.returns-in_ok-serve-clause-each
+returns-in_ok-serve-clause-each g c = λ no_next.
+    sends_reply c.args.engine.now c.serve.new.engine c.args.writer.now c.serve.new.writer c.args.desk.now
+    c.serve.new.desk _ sends_nothing c.in_ok-serve.ensures.serves (c.in_ok-serve.ensures.sent no_next)
+
+pub returns-else-not-is_empty-clause-each : goal.returns-else-not-is_empty-clause-each
+returns-else-not-is_empty-clause-each g c = λ no_next. sends_nothing

@@ -1,14 +1,15 @@
 use Rattle.std.proofs.Common.{inl, inr, ◌≡◌, ◌∙◌, ◌+◌, ◌≤◌, sym, ap, subst, List, ℕ, [], ◌∷◌, ◌++◌, length, append_assoc, length-append, arith, refl, Ok}
 use Rattle.std.specs.Prelude.{is_err}
 use Rattle.std.proofs.lemmas.Result.{err_from_is_err_and}
-use Rattle.at_engine.specs.Going.{unsaid}
+use Rattle.at_engine.specs.Going.{sends_nothing, unsaid}
+use Rattle.at_engine.specs.Loop.{lets_wait}
 use Rattle.at_engine.specs.Taking.{Takes, Stops}
 use Rattle.at_engine.specs.KeepingRuns.{KeepsBytes}
 use Rattle.at_engine.specs.Engines.{state_of, rules_of, slice_of}
 use Rattle.at_engine.proofs.of_keeping.KeepingBytes.{keeps_more, keeps_none, keeps_on}
 use Rattle.at_engine.proofs.GoingLemmas.{goes_alike, goes_nowhere, goes_on}
 use Rattle.at_engine.proofs.Takings.{took_nothing, took_more, took_on, takes_under, stopped_later, stopped_before, stops_under}
-use Rattle.at_engine.proofs.of_turns.Waiting.{may_wait, waits_or_filled, waits_no_more}
+use Rattle.at_engine.proofs.of_turns.Waiting.{each_then, may_wait, waits_or_filled, waits_no_more}
 use Rattle.at_engine.proofs.stream.take_piece.Goals as goal
 
 -- the bytes behind those that were taken, cut at the newline
@@ -17,8 +18,19 @@ cut piece done line behind rest is at =
     append_assoc (done ++ line) (10 ∷ []) behind ∙ append_assoc done line (10 ∷ behind) ∙ ap (λ l. done ++ l) (sym at) ∙ sym is
 
 pub loop-line-init : goal.loop-line-init
-loop-line-init g c =
-    ([], record { split = refl; taken = λ front o e. took_nothing _ _ _ front c.args.desk.now _ o e; keeps = λ exact spare whole front o e. keeps_none g.K.Keeper.contents c.args.engine.now front c.args.desk.now o e; goes = goes_nowhere g.K.Keeper.exact g.K.Keeper.contents g.K.Keeper.memories g.W.Output.failed unsaid c.args.engine.now c.args.desk.now _ _ 0 tt c.requires.sound refl refl; sent = λ none. inl none })
+loop-line-init g c = (
+  [],
+  record {
+    split = refl;
+    taken = λ front o e. took_nothing _ _ _ front c.args.desk.now _ o e;
+    keeps = λ exact spare whole front o e.
+        keeps_none g.K.Keeper.contents c.args.engine.now front c.args.desk.now o e;
+    goes = goes_nowhere g.K.Keeper.exact g.K.Keeper.contents g.K.Keeper.memories g.W.Output.failed unsaid
+        c.args.engine.now c.args.desk.now _ _ 0 tt c.requires.sound refl refl;
+    each = λ off. sends_nothing;
+    sent = λ none. inl none;
+  },
+)
 
 pub take_newline-requires : goal.take_newline-requires
 take_newline-requires g c =
@@ -89,6 +101,12 @@ loop-line-preserved g c =
             keeps_more g.K.Keeper.contents c.args.engine.now c.loop-line.engine c.take_newline.new.engine front (done ++ line) (10 ∷ []) c.keep.new.self c.take_newline.new.desk inv.goes.rules p q;
         goes = goes_on g.K.Keeper.exact g.K.Keeper.contents g.K.Keeper.memories g.W.Output.failed unsaid _ _ _ _ _ _ _ _ _ _ (length done) 1 (length ((done ++ line) ++ 10 ∷ [])) tt (Ok tt) inv.goes c.keep.ensures.lines c.keep.ensures.memory
             (omega (arith, length-append (done ++ line) (10 ∷ []), length-append done line)) c.in_ok-take_newline.ensures.takes.goes;
+        each = λ off.
+            each_then g.K.Keeper.exact g.K.Keeper.contents g.K.Keeper.memories contents g.W.Output.failed
+            g.W.Output.waits
+            c.args.engine.now c.loop-line.engine c.args.writer.now c.loop-line.writer c.take_newline.new.engine
+            c.take_newline.new.writer (inv.each off)
+            (c.in_ok-take_newline.ensures.each (ap lets_wait (c.next_line.ensures.never off)));
         sent = λ none. may_wait (g.W.Output.waits c.take_newline.new.writer) (c.next_line.result) behind c.next_line.ensures.next
             (λ no_next. c.in_ok-take_newline.ensures.sent no_next (waits_or_filled c.loop-line.rest.now line behind c.keep.new.self c.loop-line.desk (g.W.Output.waits c.loop-line.writer) open' at c.keep.ensures.line (inv.sent none)));
       },
@@ -122,4 +140,11 @@ returns-clause-sent g c = λ none.
 
 pub returns-in_err-take_newline-clause-sent : goal.returns-in_err-take_newline-clause-sent
 returns-in_err-take_newline-clause-sent g c =
+    let p = err_from_is_err_and c.from_residual.result c.from_residual.ensures.1 in rw p.1 tt
+
+pub returns-clause-each : goal.returns-clause-each
+returns-clause-each g c = λ off. let (done, inv) = c.loop-line.invariant in inv.each off
+
+pub returns-in_err-take_newline-clause-each : goal.returns-in_err-take_newline-clause-each
+returns-in_err-take_newline-clause-each g c = λ off.
     let p = err_from_is_err_and c.from_residual.result c.from_residual.ensures.1 in rw p.1 tt

@@ -18,7 +18,7 @@ returns-clause-runs g c =
     let W = g.W.Output in
     let K = g.K.Keeper in
     runs_by K.exact K.contents K.memories R.remaining R.failed R.ended R.reads W.contents W.failed W.waits c.args.files.now c.args.slice
-    c.in_ok-engine.engine c.set_slice.new.self c.args.reader.now c.run_gathering-run.new.reader
+    c.args.gathers c.in_ok-engine.engine c.set_slice.new.self c.args.reader.now c.run_gathering-run.new.reader
     c.args.writer.now c.run_gathering-run.new.writer (record { run = c.run_gathering-run.result; engine = c.run_gathering-run.new.engine })
     c.set_slice.ensures.rest c.in_ok-engine.ensures.started c.in_ok-engine.ensures.spare c.in_ok-engine.ensures.work
     c.run_gathering-run.ensures

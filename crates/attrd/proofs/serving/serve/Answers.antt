@@ -1,10 +1,9 @@
 use Rattle.std.proofs.Common.{◌≡◌, ◌∙◌, ◌+◌, refl, ap, subst, sym, arith}
-use Rattle.at_model.specs.Rules.{Rules}
-use Rattle.at_engine.specs.Engines.{rules_of, slice_of, state_of}
+use Rattle.at_engine.specs.Engines.{rules_of}
 use Rattle.attrd.specs.Connections.{faults}
-use Rattle.attrd.specs.Doors.{ServesAll, none}
+use Rattle.attrd.specs.Doors.{ServesAll, none, one_more}
 use Rattle.attrd.specs.declared.serving.Served.{Served}
-use Rattle.attrd.proofs.DoorsLemmas.{counted_ends, counted_faults, served_on, whole_before, whole_next}
+use Rattle.attrd.proofs.DoorsLemmas.{counted_ends, counted_faults, whole_before, whole_next}
 use Rattle.attrd.proofs.serving.serve.Goals as goal
 
 pub loop-turn-init : goal.loop-turn-init
@@ -13,7 +12,10 @@ loop-turn-init g c =
     let seen = g.D.Door.seen c.args.door.now in
     let zero : faults c.none-served.result + c.none-served.result.lacking ≡ 0 =
     ap (λ (s : Served). faults s + s.lacking) c.none-served.ensures in record {
-      serves = subst (ServesAll (rules_of engine) (slice_of engine) (state_of engine) seen 0 (state_of engine) seen)
+      serves = subst (ServesAll g.K.Keeper.exact g.K.Keeper.contents g.K.Keeper.memories g.D.Reader.Input.remaining
+          g.D.Reader.Input.failed g.D.Reader.Input.ended g.D.Reader.Input.reads g.D.Writer.Output.contents
+          g.D.Writer.Output.failed g.D.Writer.Output.waits
+          g.D.Door.gathering engine seen 0 engine seen)
           (sym c.none-served.ensures) none;
       spare = λ whole exact spare. spare;
       ended = ap (λ (s : Served). s.ended) c.none-served.ensures;
@@ -31,10 +33,11 @@ loop-turn-preserved g c =
     let first = c.args.engine.now in
     let mid = c.loop-turn.engine in
     record {
-      serves = served_on (rules_of first) (rules_of mid) (slice_of first) (slice_of mid) c.loop-turn.turn
-          (state_of first) (state_of mid) (state_of c.serve_next-ended.new.engine) (seen c.args.door.now) (seen c.loop-turn.door)
-          (seen c.serve_next-ended.new.door) c.loop-turn.served c.count.new.self c.serve_next-ended.result inv.rules
-          inv.slice c.count.ensures inv.serves next.serves;
+      serves = subst (ServesAll g.K.Keeper.exact g.K.Keeper.contents g.K.Keeper.memories g.D.Reader.Input.remaining
+          g.D.Reader.Input.failed g.D.Reader.Input.ended g.D.Reader.Input.reads g.D.Writer.Output.contents
+          g.D.Writer.Output.failed g.D.Writer.Output.waits
+          g.D.Door.gathering first (seen c.args.door.now) (c.loop-turn.turn + 1) c.serve_next-ended.new.engine
+          (seen c.serve_next-ended.new.door)) (sym c.count.ensures) (one_more inv.serves next.serves);
       spare = λ whole exact spare.
           next.spare (whole_next c.serve_next-ended.result c.loop-turn.served c.count.new.self (rules_of first) (rules_of mid)
           c.count.ensures inv.rules whole) exact

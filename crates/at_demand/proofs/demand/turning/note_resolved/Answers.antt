@@ -1,4 +1,4 @@
-use Rattle.std.proofs.Common.{inl, inr, refl, ap}
+use Rattle.std.proofs.Common.{inl, inr, ap}
 use Rattle.at_demand.proofs.demand.turning.note_resolved.Goals as goal
 
 pub returns-in-Spoilt : goal.returns-in-Spoilt

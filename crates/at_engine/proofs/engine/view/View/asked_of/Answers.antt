@@ -1,7 +1,7 @@
 use Rattle.std.proofs.Common.{◌∙◌, ap, map}
 use Rattle.at_body.specs.Values.{value_view}
 use Rattle.at_protocol.specs.LineView.{arguments_view}
-use Rattle.at_engine.proofs.Asked.{asked_fit, asked_no_attribute, asked_no_values, asked_unfit}
+use Rattle.at_engine.proofs.of_asking.Asked.{asked_fit, asked_no_attribute, asked_no_values, asked_unfit}
 use Rattle.at_engine.proofs.Valued.{values_none, values_some}
 use Rattle.at_engine.proofs.engine.view.View.asked_of.Goals as goal
 

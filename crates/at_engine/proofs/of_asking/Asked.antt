@@ -21,7 +21,8 @@ use Rattle.at_engine.specs.Fitting.{fit_numbers}
 use Rattle.at_engine.specs.Naming.{IsNumberOf}
 use Rattle.at_engine.specs.Seen.{state_seen}
 use Rattle.at_engine.specs.Asking.{IsInstanceOf}
-use Rattle.at_engine.proofs.FittingAlike.{class_at, fit_like}
+use Rattle.at_engine.proofs.of_asking.FittingAlike.{class_at, fit_like}
+use Rattle.at_engine.proofs.of_asking.NamedValues.{all_named}
 use Rattle.at_engine.proofs.Typing.{formed, numbered_typed}
 use Rattle.at_engine.proofs.NamingLemmas.{tree_there}
 use Rattle.at_engine.proofs.Numbered.{shown_alike}
@@ -39,7 +40,9 @@ module _ (rules : Rules) (s : State) (session : ℕ) (place : Place) (name : Lis
       by_class o e u there = ap (λ c. attribute_named rules c name) (sym (class_at rules.classes path look s.tree alike found k n u p there)) ∙ e
 
       by_numbers : (a : ℕ) (b : Bool) → fit_numbers rules.classes look (parameters_of rules a) vs ≡ b → fit_parameters rules.classes s.tree (parameters_of rules a) ws ≡ b
-      by_numbers a b e = sym (fit_like rules.classes path look s.tree alike found (parameters_of rules a) like) ∙ e
+      by_numbers a b e =
+          sym (fit_like rules.classes path look s.tree alike found (parameters_of rules a) like
+          (all_named rules.classes s session arguments ws values)) ∙ e
 
       pub strangely_is : attribute_named rules (look (Is k)) name ≡ None → obeyed rules s session (Ask place name arguments) ≡ Refuses code.Attribute
       strangely_is e = let (u, there) = found k n p in asked_strangely rules s session place name arguments n named u there ws values (by_class None e u there)

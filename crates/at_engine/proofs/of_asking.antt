@@ -1,0 +1,3 @@
+pub mod NamedValues
+pub mod FittingAlike
+pub mod Asked

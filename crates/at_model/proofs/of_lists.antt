@@ -1,0 +1,2 @@
+pub mod EachOnce
+pub mod Closing
