@@ -1,7 +1,8 @@
 #!/usr/bin/env bash
 # Installs the Debian packages of attrd in a fresh Debian 12, which is booted in a container, twice. There the unit attrd@ serves the
-# calculator; attrd-hub@ does so too, is connected to at once, gets 10,000 connections, is killed with its program, and has its
-# edits after the second boot; a language that isn't there fails; and the packages are purged again.
+# calculator; attrd-hub@ does so too, is connected to at once, gets 10,000 connections, is killed with its program, is checked and
+# watched, and has its edits after the second boot; a language that isn't there fails; one whose files have become wrong doesn't keep
+# the package from being installed again; and the packages are purged.
 #
 #     tools/boot.sh PACKAGE HUB_PACKAGE [FOLDER]
 #
@@ -17,10 +18,12 @@ system=${3:-$(mktemp -d)}
 if [ ! -x "$system/bin/systemctl" ]; then
   debootstrap --variant=minbase --include=systemd,systemd-sysv,dbus,libnss-systemd,man-db,python3 bookworm "$system" > /dev/null
 fi
-install -d "$system/etc/attrd/calc" "$system/etc/attrd/wrong"
-cp samples/calculator/{calc.ast,tree.txt,calc.jrag} "$system/etc/attrd/calc/"
+install -d "$system"/etc/attrd/{calc,later,wrong}
+for language in calc later; do
+  cp samples/calculator/{calc.ast,tree.txt,calc.jrag} "$system/etc/attrd/$language/"
+  echo "FILES=calc.ast tree.txt calc.jrag" > "$system/etc/attrd/$language/files"
+done
 cp samples/calculator/{calc.ast,tree.txt,bad.jrag} "$system/etc/attrd/wrong/"
-echo "FILES=calc.ast tree.txt calc.jrag" > "$system/etc/attrd/calc/files"
 echo "FILES=calc.ast tree.txt bad.jrag" > "$system/etc/attrd/wrong/files"
 cp "$package" "$system/root/attrd.deb"
 cp "$hub" "$system/root/attrd-hub.deb"
@@ -84,13 +87,28 @@ if [ ! -e /root/second ]; then
   python3 /root/connections.py $S
   ask $S "0 token /Block/Stmt:1/Expr/Right Value 5" "0 mark u /Block/Stmt:1" "0 token \$u/Expr/Right Value 6"
   told "0 ok 1" "0 ok 1" "0 ok 2"
+  grep " by [0-9]*:0:0 token " /var/lib/attrd-hub/calc/journal-*
+  attrd-hub --version
   attrd-hub --status $S
+  attrd-hub --status=prometheus --socket $S | grep -x "attrd_hub_tree_version{socket=\"$S\"} 2"
+  attrd-hub --check --language calc
   test "$(systemctl show -p NRestarts --value attrd-hub@calc)" = 0
 
   systemctl kill --signal=KILL attrd-hub@calc
   until python3 /root/ask.py $S "0 version" > /root/replies 2> /dev/null && [ -s /root/replies ]; do sleep 0.2; done
   ask $S "0 version" "0 show /Block/Stmt:1/Expr/Right" "0 where u" "0 drop /Block/Stmt:0"
   told "0 ok 2" "0 = Num(6)" "0 refused 3 mark" "0 ok 3"
+
+  systemctl start attrd-hub@later
+  cp /etc/attrd/wrong/bad.jrag /etc/attrd/later/calc.jrag
+  attrd-hub --check --language later > /root/found || test $? = 1
+  grep '^fault: .*calc.jrag:.*J' /root/found
+  dpkg -i /root/attrd-hub.deb
+  test "$(dpkg-query -W -f '${Status}' attrd-hub)" = "install ok installed"
+  if systemctl is-active attrd-hub@later; then false; fi
+  test "$(systemctl show -p NRestarts --value attrd-hub@later)" = 0
+  ask $S "0 version"
+  told "0 ok 3"
   systemctl enable attrd-hub@calc
   touch /root/second
   exit 0

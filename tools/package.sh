@@ -63,11 +63,12 @@ END
 lay_out_program() {
   local base=$root/attrd doc=$root/attrd/usr/share/doc/attrd file
   install -D -m 755 "$program" "$base/usr/bin/attrd"
-  install -d "$base/usr/share/man/man1" "$doc/docs"
+  install -d "$base/usr/share/man/man1" "$doc/docs" "$doc/tests/pages"
   gzip -9 -n -c docs/attrd.1 > "$base/usr/share/man/man1/attrd.1.gz"
   install -D -m 644 "tools/package/attrd@.service" "$base/usr/lib/systemd/system/attrd@.service"
   install -m 644 README.md CHANGELOG.md "$doc/"
   install -m 644 docs/*.md docs/*.png docs/*.svg "$doc/docs/"
+  install -D -m 644 -t "$doc/tests/pages" tests/pages/*.md
   for file in $(find clients -name README.md) $(find "${EXAMPLES[@]}" -type f -not -name '*.pyc'); do
     install -D -m 644 "$file" "$doc/$file"
   done

@@ -2,6 +2,7 @@
 from __future__ import annotations
 
 import hmac
+import re
 import socket
 import time
 from functools import partial
@@ -12,6 +13,8 @@ from .lines import (EDITS, LINE_BYTES, QUESTIONS, REFUSED_LIMIT, REFUSED_SYNTAX,
                     split_line, without_condition)
 from .loop import GONE, READ, WRITE
 from .member import Member
+from .peers import peer_of
+from .turns import LONG, TURN_BYTES
 
 if TYPE_CHECKING:
     from .service import Service
@@ -23,40 +26,63 @@ FIRST_CHUNK = 1 << 12
 MANY, FEW = 1_024, 4
 # So many bytes a client may leave unread before its next lines wait.
 UNREAD = 1 << 20
+# A reply is a long one from so many bytes on: the next one of this client is expected to be so, too.
+LONG_REPLY = 1 << 17
 # So many bytes of lines wait here before no more are read.
 WAITING = 1 << 15
-# Who has no more bytes of lines than that comes before those who have.
-SHORT = 256
+# Of what a client that is gone has left so many pieces are read at once.
+READ_ON = 8
 # So many sessions a client may have to itself: for marks and for questions in turns.
 OWN_SESSIONS = 100
+_F = ord("f")
+_SHOW_ALL, _SHOWS_ALL = b"show /\n", re.compile(rb"[0-9]+ show /\n")
 # Of so many sessions it is known at once where their questions go.
 ROUTES = 16
 
 
 class Client:
-    """A connection. `service` is told when it has something to send, and when it has lines that wait."""
+    """A connection. `service` is told when it has something to send, and when it has lines that wait.
 
-    def __init__(self, service: "Service", stream: socket.socket, token: Optional[bytes] = None) -> None:
-        """`token` is what the first line has to be, where one is asked for."""
+    `turn` is the one at which its last line was over, `slowness` how many turns its last lines took each (see `turns`).
+    """
+
+    def __init__(self, service: "Service", stream: socket.socket, token: Optional[bytes] = None, may_edit: bool = True) -> None:
+        """`token` is what the first line has to be, where one is asked for. Who may not edit may not mark, either. Raises OSError where
+        the system can't wait for one more."""
         stream.setblocking(False)
+        # Before all else: where that fails, nothing of the client is left.
+        service.loop.watch(stream.fileno(), READ, self._on_event)
+        self._may_edit = may_edit
         self.service, self.stream, self._token = service, stream, token
+        self._peer = peer_of(stream)
         self.member = Member(service.hub, self.end, self._tell_done)
+        self.member.client, self.member.on_swept = self, self._go_on
         self.unread: bytearray = bytearray()
-        self.is_dirty = self.is_ready = self.is_ended = False
+        self.is_dirty: bool = False
+        self.is_ready: bool = False
+        self.is_ended: bool = False
         self._lines = self._rest = b""
         # Of own sessions that have asked plain questions.
         self._routes: Dict[bytes, Route] = {}
         self._is_last = self._is_gone = False
+        self.turn: float = service.ready.now
+        self.slowness: float = 0.0
+        self.last_slowness: float = 0.0
+        # How long a reply of its next line may be, and how many bytes of its replies the service counts as unread.
+        self._expected = self._kept = 0
+        # When bytes came last, and when the other side took some last.
         self._heard = time.monotonic()
+        self.drained: float = self._heard
         self._events = READ
-        service.loop.watch(stream.fileno(), READ, self._on_event)
 
     def _on_event(self, events: int) -> None:
         if events == READ:
             self._read()
             return
-        if events & WRITE:
-            self.flush()
+        if events & WRITE and not self.is_dirty:
+            # Not at once: edits whose replies came meanwhile aren't in the journal yet.
+            self.is_dirty = True
+            self.service.dirty.append(self)
         if events & GONE:
             self._lose()
         elif events & READ:
@@ -68,18 +94,22 @@ class Client:
         try:
             data = self.stream.recv(FIRST_CHUNK)
         except BlockingIOError:
-            return
+            # Of who is gone no more comes.
+            if not self._is_gone:
+                return
+            data = b""
         except OSError:
-            self.end()
-            return
+            self._lose_reader()
+            data = b""
         if self._goes_at_once(data):
             return
         if data:
             self._heard = self.service.loop.now
             self._take(data + self._read_on() if len(data) == FIRST_CHUNK else data)
         else:
-            self._is_last = True
-            self._take(b"\n" if self._rest else b"")
+            # A line without its newline isn't obeyed: it may be the beginning of another one.
+            self._is_last, self._rest = True, b""
+            self._go_on()
             self._end_if_done()
         if self._is_last or len(self._lines) >= WAITING:
             self._watch()
@@ -97,10 +127,17 @@ class Client:
         route = self._routes.get(own)
         if route is None or data.find(b"\n") != len(data) - 1 or not command.startswith(QUESTIONS):
             return False
-        if self._lines or self._rest or self.unread or self.member.unanswered >= FEW or not self.service.has_room():
+        service = self.service
+        hub = service.hub
+        # As `has_room`, of which a call for each line would take long.
+        if hub.in_flight >= service.pace.most or service.program.unsent or service.ready.waiting:
             return False
-        self.service.counts.lines += 1
-        self.service.hub.send_question(route, data)
+        if self._lines or self._rest or self.unread or self.member.unanswered >= FEW or self.slowness >= LONG:
+            return False
+        if service.room.has_long_tree and command == _SHOW_ALL:
+            return False
+        service.counts.lines += 1
+        hub.send_question(route, data)
         return True
 
     def _lose(self) -> None:
@@ -124,8 +161,7 @@ class Client:
             whole = self._admit(whole)
         if whole:
             self._lines += whole + b"\n"
-        if self._lines:
-            self._make_ready()
+        self._go_on()
 
     def _admit(self, lines: bytes) -> bytes:
         """Looks at the token in the first line; the lines behind it. Who has another one is let go of."""
@@ -134,25 +170,39 @@ class Client:
             self.service.let_go(self, "no token")
             return b""
         self._token = None
-        return others
+        return others if self.service.admit(self) else b""
+
+    @property
+    def has_token(self) -> bool:
+        """Whether it needn't send a token any more."""
+        return self._token is None
+
+    def _go_on(self) -> None:
+        if self._lines or self._is_gone:
+            self._make_ready()
 
     def _make_ready(self) -> None:
-        if not self.is_ready:
+        if not self.is_ready and not self.is_ended:
             self.is_ready = True
-            if len(self._lines) <= SHORT and not self._is_gone:
-                self.service.ready.appendleft(self)
-            else:
-                self.service.ready.append(self)
+            self.service.ready.add(self)
+
+    @property
+    def price(self) -> float:
+        """How many turns its next line is expected to take, at least 1."""
+        if self.service.room.has_long_tree and _SHOWS_ALL.match(self._lines):
+            return max(1.0, self.slowness, self.service.room.tree_bytes / TURN_BYTES)
+        return max(1.0, self.slowness)
 
     def supply(self, share: int) -> bool:
         """Hands on at most so many lines. Whether more of them could go at once."""
-        if self.is_ended:
+        member = self.member
+        if self.is_ended or (member.is_sweeping and member.is_behind):
             return False
-        if self._is_gone and not self._lines:
-            self._read()
+        if self._is_gone:
+            self._read_rest()
         if not self._lines:
             self._end_if_done()
-            return False
+            return self._is_gone and not self._is_last
         lines = self._next_lines(share)
         if lines:
             self._lines = self._lines[len(lines):]
@@ -161,14 +211,33 @@ class Client:
                 self._watch()
         return bool(lines and (self._lines or self._is_gone))
 
+    def _read_rest(self) -> None:
+        """Reads what a client that is gone has left, up to whole lines or its end, but not too much of it at once."""
+        for _ in range(READ_ON):
+            if self._lines or self._is_last:
+                return
+            self._read()
+
     def _next_lines(self, share: int) -> bytes:
         """The lines that may go now, at most as many as the share says: more of a client that is gone, since few of these are handed on."""
+        unanswered = self.member.unanswered
         if self._is_gone:
-            return first_lines(self._lines, MANY - self.member.unanswered)
+            return first_lines(self._lines, MANY - unanswered)
         if len(self.unread) >= UNREAD:
             return b""
-        lines = first_lines(self._lines, min(share, MANY - self.member.unanswered))
-        return first_lines(lines, FEW - self.member.unanswered) if b" show " in lines else lines
+        lines = first_lines(self._lines, min(share, MANY - unanswered))
+        if lines.find(b" show ") >= 0:
+            lines = first_lines(lines, FEW - unanswered)
+        if self._expected or (self.service.room.has_long_tree and b" show /\n" in lines):
+            return first_lines(lines, 1) if self._has_room_for_one(lines) else b""
+        return lines
+
+    def _has_room_for_one(self, lines: bytes) -> bool:
+        """Whether the reply of the first line, as long as it is expected to be, has room beside those that aren't read; with none of
+        these it has."""
+        expected = max(self._expected, self.service.room.tree_bytes if _SHOWS_ALL.match(lines) else 0)
+        others = len(self.unread) + expected * self.member.unanswered
+        return not others or others + expected <= UNREAD
 
     def _hand_on(self, lines: bytes) -> None:
         count = lines.count(b"\n")
@@ -207,6 +276,9 @@ class Client:
         word = bare.partition(b" ")[0]
         if self._is_gone and word not in TOLD:
             return
+        if word in TOLD and not self._may_edit:
+            self._refuse(own, REFUSED_LIMIT)
+            return
         try:
             session = self._session(int(own), word)
         except NoSession:
@@ -234,7 +306,7 @@ class Client:
 
     def _tell_edit(self, own: bytes, places: Places, form: bytes) -> None:
         if form.startswith(b"ok "):
-            self.service.accepted(places)
+            self.service.accepted(places, self._peer)
         self._tell(own, form)
 
     def _refuse(self, own: bytes, form: bytes) -> None:
@@ -252,11 +324,24 @@ class Client:
     def _write(self, data: bytes) -> None:
         if self.is_ended:
             return
+        # The byte is looked for first: that takes a tenth of the time.
+        if _F in data and data.find(b" refused ") >= 0:
+            self.service.counts.count_refused(data)
         if not self._is_gone:
             self.unread += data
+            if self._expected or len(data) > LONG_REPLY:
+                self._note(len(data))
         if not self.is_dirty:
             self.is_dirty = True
             self.service.dirty.append(self)
+
+    def _note(self, length: int) -> None:
+        """There was a long reply, or one behind a long one: so long the next one is expected to be."""
+        if length > LONG_REPLY:
+            self._expected = length
+            self.service.room.note(length)
+        else:
+            self._expected = self._expected // 2 if self._expected > LONG_REPLY else 0
 
     def flush(self) -> None:
         """Sends what the other side takes; lines that waited for that go on."""
@@ -264,6 +349,7 @@ class Client:
         if self.is_ended:
             return
         unread = self.unread
+        before = len(unread)
         try:
             while unread:
                 del unread[:self.stream.send(unread)]
@@ -274,11 +360,19 @@ class Client:
         if self._lines or self._is_last or self._is_gone:
             self._make_ready()
         if unread or self._events & WRITE:
+            if len(unread) < before:
+                self.drained = self.service.loop.now
             self._watch()
+            self._count_unread()
+
+    def _count_unread(self) -> None:
+        self.service.room.unread += len(self.unread) - self._kept
+        self._kept = len(self.unread)
 
     def _lose_reader(self) -> None:
         """Nobody reads the replies any more."""
         self.unread.clear()
+        self._count_unread()
         self._routes.clear()
         self._is_gone = True
 
@@ -311,6 +405,7 @@ class Client:
         self.service.loop.forget(self.stream.fileno())
         self.stream.close()
         self.unread.clear()
+        self._count_unread()
         self.service.left(self)
         self.member.leave()
 

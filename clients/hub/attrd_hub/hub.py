@@ -11,7 +11,8 @@ from typing import Any, Callable, Deque, Dict, List, Optional, Set, Tuple, Union
 
 from attrd import AttrdError, ProtocolFault, ServerLost
 
-from .lines import TOLD, condition_moved, without_condition
+from .chores import Chores
+from .lines import TOLD, condition_moved, end_of_lines, without_condition
 from .member import Member
 
 SESSIONS = 1_000
@@ -93,7 +94,9 @@ class Hub:
         self._lingering: Set[int] = set()
         self._waited: Optional[_Sent] = None
         self.out: List[bytes] = []
-        self._rest = b""
+        self.chores = Chores(self)
+        # The parts of a reply whose end hasn't come: they are put together once.
+        self._parts: List[bytes] = []
 
     def add(self, member: Member) -> None:
         """One client more."""
@@ -148,6 +151,15 @@ class Hub:
             self.on_lines()
         self.out.append(lines)
 
+    def first(self, most: int) -> List[Optional[Member]]:
+        """Whose lines are answered next, at most so many; None for lines of the hub's own."""
+        found: List[Optional[Member]] = []
+        for sent in self._sent:
+            if len(found) >= most:
+                break
+            found += [sent.member] * min(most, sent.left if isinstance(sent, _Block) else 1)
+        return found[:most]
+
     def lines(self) -> bytes:
         """The lines for the server since the last time."""
         lines, self.out = b"".join(self.out), []
@@ -155,43 +167,47 @@ class Hub:
 
     def feed(self, data: bytes) -> None:
         """Bytes of the server. Raises ProtocolFault where there is a reply and no line for it."""
-        if self._rest:
-            data = self._rest + data
-            self._rest = b""
+        if self._parts:
+            self._parts.append(data)
+            if data.find(b"\n") < 0:
+                return
+            data = b"".join(self._parts)
+            self._parts.clear()
         first = self._sent[0] if self._sent and not self._questions else None
         if isinstance(first, Route) and data.find(b"\n") == len(data) - 1:
             self._settle_question(first, data)
             return
         end = data.rfind(b"\n") + 1
-        self._rest = data[end:]
-        if isinstance(first, _Block) and 0 < data.count(b"\n") <= first.left:
-            # All of it answers the one block: it goes on as it is.
-            self._settle_block(first, data[:end], data.count(b"\n"))
-        else:
-            self._feed_lines(data[:end].split(b"\n"))
+        if end < len(data):
+            self._parts.append(data[end:])
+        self._feed_lines(data[:end])
 
-    def _feed_lines(self, lines: List[bytes]) -> None:
-        """Whole replies; behind the last newline there is nothing."""
-        at, end = 0, len(lines) - 1
-        while at < end:
-            first = self._sent[0] if self._sent and not self._questions else None
+    def _feed_lines(self, replies: bytes) -> None:
+        """Whole replies."""
+        sent, find = self._sent, replies.find
+        start, end = 0, len(replies)
+        while start < end:
+            first = sent[0] if sent and not self._questions else None
             if isinstance(first, Route):
-                self._settle_question(first, lines[at] + b"\n")
-                at += 1
+                behind = find(b"\n", start) + 1
+                self._settle_question(first, replies[start:behind])
             elif isinstance(first, _Block):
-                taken = lines[at:min(at + first.left, end)]
-                at += len(taken)
-                self._settle_block(first, b"\n".join(taken) + b"\n", len(taken))
+                behind, count = end_of_lines(replies, start, first.left)
+                self._settle_block(first, replies[start:behind], count)
             else:
-                self._answer(lines[at])
-                at += 1
+                behind = find(b"\n", start) + 1
+                self._answer(replies[start:behind - 1])
+            start = behind
 
     def _settle_question(self, route: Route, reply: bytes) -> None:
         self._sent.popleft()
         self.in_flight -= 1
         self.answered += 1
         route.sink(reply if route.is_same else route.own + reply[len(route.session):])
-        route.member.answer(1)
+        member = route.member
+        member.unanswered -= 1
+        if member.is_leaving:
+            member.answer(0)
 
     def _settle_block(self, block: _Block, replies: bytes, count: int) -> None:
         block.left -= count

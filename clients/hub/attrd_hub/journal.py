@@ -1,49 +1,27 @@
 """What is kept of a tree on disk: a term, and a journal of the edits that were accepted since.
 
-The folder has `tree-V.txt`, the term of version V, and `journal-V`, the edits that follow it. A new term is written beside a running
-journal: from the version W on edits go to `journal-W`, and only when `tree-W.txt` is whole the files before it are removed. So at
-each moment the newest term and the journals behind it, one after the other, make up the tree.
+The folder has `tree-V.txt`, the term of version V, with its check sum in `tree-V.sum`, and `journal-V`, the edits that follow it. A new
+term is written beside a running journal: from the version W on edits go to `journal-W`, and only when `tree-W.txt` is whole the files
+before it are removed. So at each moment the newest term and the journals behind it, one after the other, make up the tree.
 """
 from __future__ import annotations
 
 import errno
 import fcntl
 import os
-import re
 import threading
-from dataclasses import dataclass
+from contextlib import suppress
 from pathlib import Path
 from typing import List, Optional
 
-from attrd import AttrdError
+from .folder import JOURNAL, SUM, TERM, JournalFault, State, StateFault, read_folder, sum_line, unused_name, versions
+from .peers import Peer
+from .records import head, record
 
-from .records import head, read_journal, record
-
+__all__ = ["SYNCS", "Journal", "JournalFault", "State", "StateFault", "write_all"]
 SYNCS = ("each", "second", "never")
-_TERM, _JOURNAL = re.compile(r"tree-([0-9]+)\.txt\Z"), re.compile(r"journal-([0-9]+)\Z")
-
-
-class JournalFault(AttrdError):
-    """The journal can't be written or read: nothing more can be accepted."""
-
-
-@dataclass
-class State:
-    """What the folder has: the term's file and its version, the edits since, and what has to be told of the reading."""
-
-    term: Path
-    base: int
-    commands: List[bytes]
-    told: List[str]
-
-    @property
-    def version(self) -> int:
-        """The version behind all edits."""
-        return self.base + len(self.commands)
-
-
-def _versions(folder: Path, form: "re.Pattern[str]") -> List[int]:
-    return sorted(int(found[1]) for found in map(form.match, os.listdir(folder)) if found)
+# The term of the first start, until the program has taken it.
+_FIRST = "tree-0.new"
 
 
 def write_all(file: int, data: bytes) -> None:
@@ -52,25 +30,18 @@ def write_all(file: int, data: bytes) -> None:
         data = data[os.write(file, data):]
 
 
-def _write_file(path: Path, data: bytes) -> None:
-    """Writes a file anew: it is there as a whole, or not at all. Raises OSError."""
-    new = path.with_suffix(".new")
-    file = os.open(new, os.O_WRONLY | os.O_CREAT | os.O_TRUNC | os.O_CLOEXEC, 0o600)
+def _write_new(path: Path, data: bytes, flags: int = os.O_TRUNC) -> None:
+    """Writes a file, and makes it safe; no part of it is left where that fails. Raises OSError."""
+    file = os.open(path, os.O_WRONLY | os.O_CREAT | os.O_CLOEXEC | flags, 0o600)
     try:
         write_all(file, data)
         os.fsync(file)
+    except OSError:
+        with suppress(OSError):
+            os.unlink(path)
+        raise
     finally:
         os.close(file)
-    os.rename(new, path)
-    _sync_folder(path.parent)
-
-
-def _sync_folder(path: Path) -> None:
-    folder = os.open(path, os.O_RDONLY | os.O_CLOEXEC)
-    try:
-        os.fsync(folder)
-    finally:
-        os.close(folder)
 
 
 class Journal:
@@ -99,57 +70,67 @@ class Journal:
             raise _fault(folder, fault) from None
         try:
             fcntl.flock(self._lock, fcntl.LOCK_EX | fcntl.LOCK_NB)
+            # It stays open: a term can be begun where the process may open no more files.
+            self._directory = os.open(folder, os.O_RDONLY | os.O_CLOEXEC)
         except OSError as fault:
             os.close(self._lock)
             text = "another hub has it" if fault.errno in (errno.EAGAIN, errno.EACCES) else fault.strerror
             raise JournalFault(f"{folder}: {text}") from None
 
     def open(self, tree: Path) -> State:
-        """Reads what is there, cuts off what isn't right, and goes on behind it.
+        """Reads what is there, and goes on from it: `read` and `begin`. Raises JournalFault."""
+        state = self.read(tree)
+        self.begin(state)
+        return state
+
+    def read(self, tree: Path) -> State:
+        """Reads what is there. Nothing of it is changed before `begin`.
 
         Where the folder has no term yet, that of the file `tree` is version 0. Raises JournalFault.
         """
         try:
             self.wait()
             self._end_file()
-            versions = _versions(self.folder, _TERM)
-            if not versions:
-                _write_file(self.folder / "tree-0.txt", tree.read_bytes())
-                versions = [0]
-            state = self._read(versions[-1])
+            state = read_folder(self.folder)
+            if state is None:
+                _write_new(self.folder / _FIRST, tree.read_bytes())
+                state = State(self.folder / _FIRST, 0, is_first=True)
+            return state
+        except OSError as fault:
+            raise _fault(self.folder, fault) from None
+
+    def begin(self, state: State) -> None:
+        """Goes on from what `read` has found, since the program has taken it: keeps the term of a first start, and cuts off what isn't
+        right. Raises JournalFault."""
+        try:
+            if state.is_first:
+                self._keep_first(state)
+            if state.cut:
+                _write_new(self.folder / state.cut_name, state.cut, os.O_EXCL)
+            self.bytes = state.length
+            self._go_on(self.folder / f"journal-{state.last}", state.last, state.right)
             self._drop(state)
         except OSError as fault:
             raise _fault(self.folder, fault) from None
         self.version, self.edits = state.version, len(state.commands)
-        return state
 
-    def _read(self, base: int) -> State:
-        """The edits of all journals behind the term, one after the other."""
-        state = State(self.folder / f"tree-{base}.txt", base, [], [])
-        self.bytes = 0
-        while True:
-            at = state.version
-            path = self.folder / f"journal-{at}"
-            data = path.read_bytes() if path.exists() else b""
-            found = read_journal(data, at)
-            state.commands += found.commands
-            self.bytes += found.right
-            if found.cut:
-                state.told.append(self._told(path, state.version, found.cut, found.is_one_record))
-            is_last = state.version == at or not (self.folder / f"journal-{state.version}").exists()
-            if is_last:
-                self._go_on(path, at, found.right, found.cut)
-                return state
+    def _write_file(self, path: Path, data: bytes) -> None:
+        """Writes a file anew: it is there as a whole, or not at all. Raises OSError."""
+        new = path.with_name(f"{path.name}.new")
+        _write_new(new, data)
+        os.rename(new, path)
+        os.fsync(self._directory)
 
-    def _told(self, path: Path, version: int, cut: bytes, is_one: bool) -> str:
-        what = "the edit behind it was cut off in the middle, and is left out" if is_one else (
-            f"what stands behind it isn't right: {len(cut)} bytes are left out, and kept in {path.name}.cut")
-        return f"{path.name}: it ends with version {version}: {what}"
+    def _keep_first(self, state: State) -> None:
+        """The term of the first start gets its name."""
+        term = self.folder / "tree-0.txt"
+        self._write_file(term.with_suffix(".sum"), sum_line(state.term.read_bytes()))
+        os.rename(state.term, term)
+        os.fsync(self._directory)
+        state.term = term
 
-    def _go_on(self, path: Path, base: int, right: int, cut: bytes) -> None:
+    def _go_on(self, path: Path, base: int, right: int) -> None:
         """Opens the last journal, behind what is right of it."""
-        if cut:
-            _write_file(path.with_name(f"{path.name}.cut"), cut)
         self._file = os.open(path, os.O_RDWR | os.O_CREAT | os.O_APPEND | os.O_CLOEXEC, 0o600)
         os.ftruncate(self._file, right)
         if not right:
@@ -157,29 +138,31 @@ class Journal:
             self.bytes += len(head(base))
         if self.sync != "never":
             os.fsync(self._file)
-            _sync_folder(self.folder)
+            os.fsync(self._directory)
         self._base = base
 
     def _drop(self, state: State) -> None:
         """Removes the files before the term, and puts aside journals that don't follow it."""
-        for version in _versions(self.folder, _JOURNAL):
+        for version in state.aside:
             path = self.folder / f"journal-{version}"
-            if version < state.base:
-                path.unlink()
-            elif version > state.version:
-                os.replace(path, path.with_name(f"{path.name}.cut"))
-                state.told.append(f"{path.name}: the edits before it are lost, so it is left out, and kept in {path.name}.cut")
-        for version in _versions(self.folder, _TERM)[:-1]:
-            (self.folder / f"tree-{version}.txt").unlink()
+            os.rename(path, path.with_name(unused_name(self.folder, path.name)))
+        self._remove_before(state.base)
         for left in self.folder.glob("*.new"):
             left.unlink()
 
-    def append(self, version: int, command: bytes) -> None:
+    def _remove_before(self, base: int) -> None:
+        """Removes the files before the term of this version, and check sums without a term. Raises OSError."""
+        for form, name in ((TERM, "tree-{}.txt"), (JOURNAL, "journal-{}"), (SUM, "tree-{}.sum")):
+            for version in versions(self.folder, form):
+                if version < base or (form is SUM and version > base):
+                    (self.folder / name.format(version)).unlink()
+
+    def append(self, version: int, command: bytes, editor: Optional[Peer] = None) -> None:
         """An edit was accepted that made the tree this version. It is written by `commit`. Raises JournalFault where one is missing."""
         if version != self.version + 1:
             raise JournalFault(f"{self.folder}: an edit made the version {version}, and {self.version + 1} is next")
         self.version = version
-        self.pending.append(record(version, command))
+        self.pending.append(record(version, command, editor))
 
     def commit(self) -> None:
         """Writes the edits so far: before a client is told that they are accepted. Raises JournalFault."""
@@ -208,9 +191,24 @@ class Journal:
         if self._fault is not None:
             raise _fault(self.folder, self._fault)
         if self.sync == "second" and not self._is_synced and (self._syncing is None or not self._syncing.is_alive()):
+            self._begin_sync()
+
+    def _begin_sync(self) -> None:
+        """Where the system has no descriptor or no thread for that, it is waited for. Raises JournalFault."""
+        file = -1
+        try:
+            file = os.dup(self._file)
+            self._syncing = threading.Thread(target=self._sync, args=(file,), daemon=True)
             self._is_synced = True
-            self._syncing = threading.Thread(target=self._sync, args=(os.dup(self._file),), daemon=True)
             self._syncing.start()
+        except (OSError, RuntimeError):
+            self._syncing, self._is_synced = None, False
+            if file >= 0:
+                os.close(file)
+            try:
+                self._make_safe()
+            except OSError as fault:
+                raise _fault(self.folder, fault) from None
 
     def _sync(self, file: int) -> None:
         try:
@@ -237,20 +235,23 @@ class Journal:
                 self._make_safe()
             self._end_file()
             self.edits = self.bytes = 0
-            self._go_on(self.folder / f"journal-{base}", base, 0, b"")
+            self._go_on(self.folder / f"journal-{base}", base, 0)
         except OSError as fault:
             raise _fault(self.folder, fault) from None
-        self._writing = threading.Thread(target=self._write_term, args=(base, term), daemon=True)
-        self._writing.start()
+        writing = threading.Thread(target=self._write_term, args=(base, term + b"\n"), daemon=True)
+        try:
+            writing.start()
+        except RuntimeError as fault:
+            self.term_fault = f"{self.folder}: the term of version {base} can't be written: {fault}"
+            return
+        self._writing = writing
 
     def _write_term(self, base: int, term: bytes) -> None:
         """Writes the term, and removes the files before it. Where it can't be written all stays as it is, and `term_fault` tells why."""
         try:
-            _write_file(self.folder / f"tree-{base}.txt", term + b"\n")
-            for form, name in ((_TERM, "tree-{}.txt"), (_JOURNAL, "journal-{}")):
-                for version in _versions(self.folder, form):
-                    if version < base:
-                        (self.folder / name.format(version)).unlink()
+            self._write_file(self.folder / f"tree-{base}.sum", sum_line(term))
+            self._write_file(self.folder / f"tree-{base}.txt", term)
+            self._remove_before(base)
         except OSError as fault:
             self.term_fault = f"{self.folder}: the term of version {base} can't be written: {fault.strerror}"
 
@@ -266,9 +267,12 @@ class Journal:
             self._file = -1
 
     def close(self) -> None:
-        """Lets go of the folder. Edits that weren't written are left out."""
+        """Lets go of the folder. Edits that weren't written are left out, and so is a first term that the program hasn't taken."""
         self.wait()
         self._end_file()
+        with suppress(OSError):
+            os.unlink(self.folder / _FIRST)
+        os.close(self._directory)
         os.close(self._lock)
 
 

@@ -53,16 +53,30 @@ def plain_session(lines: bytes, count: int) -> Optional[bytes]:
         return None
     framed = b"\n" + lines
     head = b"\n" + session + b" "
+    word = framed[len(head):framed.find(b" ", len(head)) + 1]
+    # Most often all are of one kind.
+    if word in QUESTIONS and framed.count(head + word) == count:
+        return session
     return session if sum(framed.count(head + it) for it in QUESTIONS) == count else None
+
+
+def end_of_lines(data: bytes, start: int, most: int) -> Tuple[int, int]:
+    """Where the first lines from `start` on end, at most so many, and how many they are. `data` ends with a newline, or is empty."""
+    # Where lines are alike the first one tells where: then no more than these are looked at.
+    end = start + most * (data.find(b"\n", start) + 1 - start)
+    found = data.count(b"\n", start, end)
+    while found < most and start < end < len(data):
+        end += end - start
+        found = data.count(b"\n", start, end)
+    if found <= most:
+        return data.rfind(b"\n", start, end) + 1, found
+    piece = data[start:end]
+    return start + len(piece) - len(piece.split(b"\n", most)[-1]), most
 
 
 def first_lines(lines: bytes, most: int) -> bytes:
     """The first lines, at most so many, each with its newline."""
-    if most <= 0:
-        return b""
-    if lines.count(b"\n") <= most:
-        return lines
-    return lines[:len(lines) - len(lines.split(b"\n", most)[-1])]
+    return lines[:end_of_lines(lines, 0, most)[0]] if most > 0 else b""
 
 
 class Places:

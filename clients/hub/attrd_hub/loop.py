@@ -46,9 +46,9 @@ class Loop:
         self._looking = {True: _Looking(), False: _Looking()}
 
     def watch(self, file: int, events: int, handler: Handler) -> None:
-        """Begins to wait for a stream; that it is gone is told in any case."""
-        self._handlers[file] = handler
+        """Begins to wait for a stream; that it is gone is told in any case. Raises OSError where the system waits for no more."""
         self._epoll.register(file, events)
+        self._handlers[file] = handler
 
     def is_watched(self, file: int) -> bool:
         """Whether it waits for this stream."""

@@ -6,32 +6,36 @@ import os
 import signal
 import socket
 import time
-from collections import deque
 from contextlib import suppress
 from pathlib import Path
-from typing import Deque, List, Optional, Set, Tuple
+from typing import Dict, List, Optional, Sequence, Set, Tuple
 
-from attrd import ProtocolFault
+from attrd import AttrdError, ProtocolFault, StartFault
+from attrd.server import program_version, start_fault
+from attrd.versions import misfit
 
+from .callers import Callers
 from .client import Client
 from .hub import SHARED, Hub
-from .journal import Journal, JournalFault
+from .journal import Journal, JournalFault, State
 from .lines import Places
 from .loop import READ, WRITE, Loop
+from .member import Member
 from .pace import Pace
+from .peers import Peer
 from .program import Program
+from .room import UNREAD_IN_ALL, Room
 from .settings import Settings
-from .sockets import listen_at, listen_tcp
-from .status import Counts, figures_of, status_path
-from .telling import Level, log, notify
+from .sockets import file_at, listen_at, listen_tcp
+from .status import Counts, Waits, figures_of, status_path
+from .telling import Level, log, notify, shown
+from .turns import CHARGED, SLOW, Turns
 
 TICK_SECONDS = 0.5
 ACCEPTED_AT_ONCE = 32
 CLIENTS_IN_A_TURN = 64
 # So many bytes that the program hasn't taken may wait.
 UNSENT = 1 << 18
-# So many bytes all clients together may leave unread: beyond it the one with most of them is let go of.
-UNREAD_IN_ALL = 1 << 28
 # A term is written anew when the journal has so many edits, or so many bytes.
 JOURNAL_EDITS, JOURNAL_BYTES = 10_000, 1 << 24
 # A term that is longer than the file of a tree, or than so many bytes for each node of it, is refused: the journal goes on behind the
@@ -40,6 +44,8 @@ FILE_BYTES, BYTES_A_NODE = 4_194_304, 64
 # The least time between two starts of the program.
 RESTART_SECONDS = 1.0
 LAST_SECONDS = 5.0
+# That no connection can be taken is told once in so long.
+TOLD_AGAIN_SECONDS = 60.0
 
 
 class Service:
@@ -50,17 +56,29 @@ class Service:
         self.settings = settings
         self.loop = Loop()
         self.counts = Counts()
-        self.ready: Deque[Client] = deque()
+        self.room = Room()
+        self.ready = Turns(self.room)
+        self.callers = Callers()
         self.dirty: List[Client] = []
         self.clients: Set[Client] = set()
         self.hub = Hub()
         self.program: Program
         self.journal = Journal(Path(settings.state), settings.sync) if settings.state is not None else None
         self.pace = Pace()
+        self.waits = Waits()
+        self.program_version: Optional[str] = None
+        self._told_version: Optional[str] = None
+        self._handed_on = 0.0
         self._listening: List[Tuple[socket.socket, Optional[str]]] = []
-        self._is_stopping = self._is_running = self._has_ended = self._is_renewing = False
+        # The files of the sockets, as they were made here: one of another hub that stands there later stays.
+        self._made: Dict[str, Optional[Tuple[int, int]]] = {}
+        self._is_paused = False
+        self._told_again = 0.0
+        self._is_stopping = self._is_running = self._has_ended = self._is_renewing = self._is_busy = False
         self.began = self._started = time.monotonic()
         self._told: Tuple[int, int] = (0, 0)
+        # When the last reply came, or the first line behind it went to the program.
+        self._answered = 0.0
 
     def run(self) -> int:
         """Serves; the status: 0 after a signal, 3 where the program has ended and there is no journal. Raises AttrdError."""
@@ -84,30 +102,62 @@ class Service:
 
     def _start(self) -> None:
         """Starts the program with the tree as it was. Raises AttrdError."""
-        files, commands = list(self.settings.files), []
         self._started = time.monotonic()
-        self.hub, self.pace = Hub(), Pace()
-        if self.journal is not None:
-            state = self.journal.open(Path(files[1]))
-            files[1], commands = str(state.term), state.commands
-            self.hub.base = self.hub.version = state.base
+        self.hub = Hub()
+        state = self.journal.read(Path(self.settings.files[1])) if self.journal is not None else None
+        commands = state.commands if state is not None else []
+        self._start_program(state)
+        if self.journal is not None and state is not None:
+            self.journal.begin(state)
+            self.hub.base = state.base
             for text in state.told:
                 log(Level.WARNING, text)
-        self.program = Program(self.settings.program, files, self.settings.options)
-        self._is_running = True
-        self.program.replay(commands)
-        self.hub.version += len(commands)
+        self.hub.version = self.hub.base + len(commands)
         self._has_ended = self._is_renewing = False
         self.loop.watch(self.program.output, READ, self._on_output)
         self.loop.watch(self.program.input, 0, self._on_input)
         log(Level.INFO, f"the program serves {' '.join(self.settings.files)}, version {self.hub.version}"
             + (f", {len(commands)} edits of the journal" if self.journal is not None else ""))
 
+    def _start_program(self, state: Optional[State]) -> None:
+        """Starts the program with the term and the edits of the state, where there is one. Raises AttrdError."""
+        files = list(self.settings.files)
+        if state is not None:
+            files[1] = str(state.term)
+        self._ask_version()
+        self.room.expect(Path(files[1]).stat().st_size if os.path.exists(files[1]) else 0)
+        self.program = Program(self.settings.program, files, self.settings.options)
+        self.pace = Pace(self.program.seconds)
+        self._is_running = True
+        try:
+            self.program.replay(state.commands if state is not None else [])
+        except StartFault as fault:
+            if state is None or not state.is_first:
+                raise
+            # It is the operator's file that is refused, and not the copy of it.
+            raise start_fault(fault.status, fault.message.replace(files[1], self.settings.files[1])) from None
+
+    def _ask_version(self) -> None:
+        """Asks the program for its version. Where it isn't the hub's, or none is told, that is told once."""
+        self.program_version = None
+        try:
+            self.program_version = program_version(self.settings.program)
+            warning = misfit(self.program_version)
+        except AttrdError as fault:
+            warning = str(fault)
+        if warning and warning != self._told_version:
+            log(Level.WARNING, warning)
+        self._told_version = warning
+
     def _listen(self) -> None:
-        path = self.settings.socket
-        for at, handler in ((path, self._on_client), (status_path(path), self._on_status)):
-            stream = listen_at(at, self.settings.mode, self.settings.group)
+        path, readers = self.settings.socket, self.settings.read_only_socket
+        places = [(path, self._on_client, self.settings.mode), (status_path(path), self._on_status, self.settings.mode)]
+        if readers is not None:
+            places.append((readers, self._on_reader, self.settings.read_only_mode))
+        for at, handler, mode in places:
+            stream = listen_at(at, mode, self.settings.group)
             self._listening.append((stream, at))
+            self._made[at] = file_at(at)
             self.loop.watch(stream.fileno(), READ, lambda _, stream=stream, handler=handler: handler(stream))  # type: ignore[misc]
         if self.settings.port is not None:
             tcp = listen_tcp(self.settings.port)
@@ -117,7 +167,7 @@ class Service:
     def _serve(self) -> int:
         tick = time.monotonic() + TICK_SECONDS
         while not self._is_stopping:
-            self.loop.turn(0.0 if self.ready and self.has_room() else TICK_SECONDS, self.hub.in_flight > 0)
+            self.loop.turn(0.0 if self.ready.waiting and self.has_room() else TICK_SECONDS, self.hub.in_flight > 0)
             self._hand_on()
             if self._has_ended and not self._go_on():
                 return 0 if self._is_stopping else 3
@@ -133,12 +183,15 @@ class Service:
 
     def _hand_on(self) -> None:
         """Sends what the turn has brought: lines to the program, edits to the journal, and then replies to clients."""
-        if self.ready:
+        if self.ready.waiting:
             self._supply()
         if self.hub.out:
+            if not self._is_busy:
+                self._is_busy, self._answered = True, self.loop.now
             self.program.send(self.hub.lines())
             if self.loop.now >= self.pace.next:
-                self.pace.begin(self.hub.answered + self.hub.in_flight, self.loop.now)
+                self.pace.begin(self.hub.answered, self.hub.in_flight, self.loop.now)
+                self._handed_on = self.loop.now
             if self.program.unsent:
                 self._await_room()
         if self.journal is not None and self.journal.pending:
@@ -147,17 +200,27 @@ class Service:
             dirty, self.dirty = self.dirty, []
             for client in dirty:
                 client.flush()
+            if self.room.unread > UNREAD_IN_ALL:
+                self._make_room()
+
+    def _make_room(self) -> None:
+        """Ends clients that don't read, as long as all together leave too much unread."""
+        while self.room.unread > UNREAD_IN_ALL:
+            client = self.room.who_goes(self.clients)
+            if client is None:
+                return
+            self.let_go(client, "it doesn't read its replies")
 
     def _supply(self) -> None:
-        """Has clients hand on lines. Few of them have a share each: then those that have come meanwhile are heard."""
-        share = self.pace.share(len(self.ready))
-        for _ in range(min(len(self.ready), CLIENTS_IN_A_TURN)):
-            if not self.ready or not self.has_room():
+        """Has clients hand on lines by turns. Few of them have a share each: then those that have come meanwhile are heard."""
+        if not self.has_room():
+            return
+        hub, ready, waiting, most = self.hub, self.ready, self.ready.waiting, self.pace.most
+        share = self.pace.share(len(waiting))
+        for _ in range(min(len(waiting), CLIENTS_IN_A_TURN)):
+            if not waiting or hub.in_flight >= most:
                 break
-            client = self.ready.popleft()
-            client.is_ready = client.supply(share)
-            if client.is_ready:
-                self.ready.append(client)
+            ready.serve(share, hub)
 
     def _await_room(self) -> None:
         self.loop.change(self.program.input, WRITE if self.program.unsent else 0)
@@ -174,23 +237,46 @@ class Service:
         if not data:
             self._has_ended = True
             return
+        hub, now = self.hub, self.loop.now
+        answered, since = hub.answered, now - self._answered
+        slow = hub.first(CHARGED) if since > SLOW else []
         try:
-            self.hub.feed(data)
+            hub.feed(data)
         except ProtocolFault as fault:
             log(Level.ERROR, str(fault))
             self._has_ended = True
-        if self.hub.answered >= self.pace.until:
-            self.pace.end(self.loop.now)
+        lines = hub.answered - answered
+        if lines:
+            self._answered, self._is_busy = now, hub.in_flight > 0
+            if slow:
+                self._charge(slow[:lines], since, lines)
+            if self.ready.long:
+                self.ready.release(hub.answered)
+        if hub.answered >= self.pace.until:
+            self.pace.end(now)
+            self.waits.add(now - self._handed_on)
 
-    def accepted(self, places: Places) -> None:
-        """An edit was accepted: it goes into the journal before its client is told."""
+    def _charge(self, slow: Sequence[Optional[Member]], seconds: float, lines: int) -> None:
+        """So many lines have replies behind so many seconds. Where that took long, the clients of the first ones pay for theirs."""
+        # By the program's own time: the machine may have had other work.
+        taken = min(seconds, self.program.seconds_since())
+        if taken > SLOW:
+            for it in slow:
+                if it is not None and it.client is not None:
+                    self.ready.charge(it.client, taken / lines)
+
+    def accepted(self, places: Places, editor: Optional[Peer] = None) -> None:
+        """An edit was accepted that this one made: it goes into the journal before its client is told."""
         self.counts.edits += 1
-        if self.journal is None:
+        if self.journal is None and not self.settings.logs_edits:
             return
         command = places.command()
         if command is None:
             raise JournalFault("an edit was accepted whose mark isn't known: it is left out")
-        self.journal.append(self.hub.version, command)
+        if self.settings.logs_edits:
+            log(Level.INFO, f"version {self.hub.version} by {editor or 'a client over TCP'}: {shown(command)}")
+        if self.journal is not None:
+            self.journal.append(self.hub.version, command, editor)
 
     def _renew(self) -> None:
         """Has the term written anew, where the journal is long."""
@@ -238,25 +324,76 @@ class Service:
             log(Level.INFO, f"{self.settings.program}: {line}")
         log(Level.INFO, f"{self.settings.program} has ended: {self.program.status}")
 
-    def _on_client(self, stream: socket.socket, token: Optional[bytes] = None) -> None:
+    def _on_reader(self, stream: socket.socket) -> None:
+        self._on_client(stream, may_edit=False)
+
+    def admit(self, client: Client) -> bool:
+        """A connection has sent its token. Whether there is a place for it."""
+        self.callers.remove(client)
+        self.counts.came += 1
+        if len(self.clients) < self.settings.clients:
+            self.clients.add(client)
+            return True
+        self.counts.let_go += 1
+        client.end()
+        return False
+
+    def _on_client(self, stream: socket.socket, token: Optional[bytes] = None, may_edit: bool = True) -> None:
         for _ in range(ACCEPTED_AT_ONCE):
             try:
                 connection, _ = stream.accept()
-            except BlockingIOError:
+            except (BlockingIOError, ConnectionAbortedError):
                 return
             except OSError as fault:
-                log(Level.WARNING, f"no connection is accepted: {fault.strerror}")
+                self._pause(fault)
                 return
-            self.counts.came += 1
-            if len(self.clients) >= self.settings.clients:
-                self.counts.let_go += 1
-                connection.close()
-            else:
-                self.clients.add(Client(self, connection, token))
+            # Who has a token to send has a place of its own until then.
+            if token is None:
+                self.counts.came += 1
+                if len(self.clients) >= self.settings.clients:
+                    self.counts.let_go += 1
+                    connection.close()
+                    continue
+            if not self._take(connection, token, may_edit):
+                return
+
+    def _take(self, connection: socket.socket, token: Optional[bytes], may_edit: bool = True) -> bool:
+        """Makes a client of a connection, one that waits for its token where it has to send one. Whether the system allowed that."""
+        try:
+            client = Client(self, connection, token, may_edit)
+        except OSError as fault:
+            self.counts.let_go += 1
+            connection.close()
+            self._pause(fault)
+            return False
+        if token is None:
+            self.clients.add(client)
+            return True
+        oldest = self.callers.add(client)
+        if oldest is not None:
+            self.let_go(oldest, "it sent no token, and others came")
+        return True
+
+    def _pause(self, fault: OSError) -> None:
+        """No connection can be taken, since the system has no more of what one needs: until the next tick none is looked for. That is
+        told once in a while."""
+        if self.loop.now >= self._told_again:
+            self._told_again = self.loop.now + TOLD_AGAIN_SECONDS
+            log(Level.WARNING, f"no connection can be taken: {fault.strerror}: those that come wait, and it is tried each half second")
+        self._is_paused = True
+        for stream, _ in self._listening:
+            self.loop.change(stream.fileno(), 0)
+
+    def _go_on_listening(self) -> None:
+        if self._is_paused:
+            self._is_paused = False
+            for stream, _ in self._listening:
+                self.loop.change(stream.fileno(), READ)
 
     def left(self, client: Client) -> None:
         """A connection has ended."""
         self.clients.discard(client)
+        self.callers.remove(client)
 
     def let_go(self, client: Client, reason: str) -> None:
         """Ends a client's connection for this reason."""
@@ -265,24 +402,28 @@ class Service:
         client.end()
 
     def _on_status(self, stream: socket.socket) -> None:
-        with suppress(OSError):
+        try:
             connection, _ = stream.accept()
-            with connection:
-                connection.setblocking(False)
-                connection.send(json.dumps(figures_of(self)).encode("ascii") + b"\n")
+        except (BlockingIOError, ConnectionAbortedError):
+            return
+        except OSError as fault:
+            self._pause(fault)
+            return
+        with connection, suppress(OSError):
+            connection.setblocking(False)
+            connection.send(json.dumps(figures_of(self)).encode("ascii") + b"\n")
 
     def _tick(self) -> None:
         """What is looked at about each half second."""
         now = time.monotonic()
+        self._go_on_listening()
         for client in [it for it in self.clients if it.is_silent(now - self.settings.half)]:
             self.let_go(client, f"nothing came for {self.settings.half:g} s in the middle of a line")
-        if sum(len(it.unread) for it in self.clients) > UNREAD_IN_ALL:
-            self.let_go(max(self.clients, key=lambda it: len(it.unread)), "it doesn't read its replies")
+        for client in self.callers.late(now, self.settings.half):
+            self.let_go(client, "it sent no token")
         if self.journal is not None:
             self.journal.tick()
-            if self.journal.term_fault is not None:
-                log(Level.WARNING, self.journal.term_fault)
-                self.journal.term_fault = None
+            self._tell_term_fault(self.journal)
             self._renew()
         self._tell_clients()
 
@@ -299,6 +440,8 @@ class Service:
     def _last_lines(self) -> None:
         """Has the lines under way answered, and the term written, where that doesn't take long."""
         notify("STOPPING=1")
+        # No line of a client goes any more.
+        self.pace.most = 0
         self._close_listening()
         if self.journal is not None and self.journal.edits and not self._is_renewing:
             self._ask_term()
@@ -312,20 +455,28 @@ class Service:
     def _close_listening(self) -> None:
         for stream, path in self._listening:
             self.loop.forget(stream.fileno())
-            stream.close()
-            if path is not None:
+            # While it listens here, no other hub takes the path: so the file is looked at and removed before that ends.
+            if path is not None and file_at(path) == self._made[path]:
                 with suppress(OSError):
                     os.unlink(path)
+            stream.close()
         self._listening.clear()
 
     def _end(self) -> None:
         has_served = bool(self._listening) or self._is_stopping
         self._close_listening()
-        for client in list(self.clients):
+        for client in [*self.clients, *self.callers.all()]:
             client.end()
         self._forget_program()
         if has_served:
             log(Level.INFO, f"the service ends at version {self.hub.version}, after {self.counts.lines} lines, {self.counts.edits} edits")
         if self.journal is not None:
             self.journal.close()
+            self._tell_term_fault(self.journal)
         self.loop.close()
+
+    def _tell_term_fault(self, journal: Journal) -> None:
+        """Tells that a term couldn't be written, once: the journal goes on without it."""
+        if journal.term_fault is not None:
+            log(Level.WARNING, journal.term_fault)
+            journal.term_fault = None

@@ -10,7 +10,7 @@ from attrd.lexical import TREE_NODES
 @dataclass
 class Settings:
     """The words of the command line. `state` is the journal's folder, where there is one; `half` a time in seconds; `nodes` how many nodes
-    the tree may have."""
+    the tree may have; `logs_edits` says whether each edit has a line in the log."""
 
     program: str
     files: Sequence[str]
@@ -25,3 +25,6 @@ class Settings:
     clients: int = 1_000
     half: float = 30.0
     nodes: int = TREE_NODES
+    logs_edits: bool = False
+    read_only_socket: Optional[str] = None
+    read_only_mode: int = 0o660

@@ -6,7 +6,7 @@ import shutil
 import socket
 import stat
 from pathlib import Path
-from typing import Optional
+from typing import Optional, Tuple
 
 from attrd import AttrdError
 
@@ -23,13 +23,26 @@ def _is_left_over(path: str) -> bool:
     except FileNotFoundError:
         return False
     with socket.socket(socket.AF_UNIX, socket.SOCK_STREAM) as probe:
+        probe.setblocking(False)
         try:
             probe.connect(path)
         except ConnectionRefusedError:
             return True
+        except BlockingIOError:
+            # Somebody listens there, and has as many connections waiting as may wait.
+            pass
         except OSError as fault:
             raise AttrdError(f"{path}: {fault.strerror}") from None
     raise AttrdError(f"{path}: another server answers there")
+
+
+def file_at(path: str) -> Optional[Tuple[int, int]]:
+    """Which file is at a path, as the system numbers it: the number of its device and its own; None where there is none."""
+    try:
+        found = os.lstat(path)
+    except OSError:
+        return None
+    return found.st_dev, found.st_ino
 
 
 def listen_at(path: str, mode: int, group: Optional[str]) -> socket.socket:

@@ -2,23 +2,36 @@
 from __future__ import annotations
 
 import json
+import re
 import socket
+import statistics
 import time
-from dataclasses import dataclass
-from typing import TYPE_CHECKING, Dict, Optional, Union
+from bisect import bisect_left
+from collections import Counter, deque
+from dataclasses import dataclass, field
+from typing import TYPE_CHECKING, Deque, Dict, List, Optional, Union
 
 from attrd import AttrdError
+from attrd.versions import VERSION
 
 if TYPE_CHECKING:
     from .service import Service
 
 SECONDS = 10.0
-Figure = Union[int, float, str, None]
+Figure = Union[int, float, str, None, List[int], Dict[str, int]]
+# The waits of lines are counted up to each of these, in seconds.
+BOUNDS = (0.0001, 0.00025, 0.0005, 0.001, 0.0025, 0.005, 0.01, 0.025, 0.05, 0.1, 0.25, 0.5, 1.0, 2.5, 5.0, 10.0)
+# Of so many waits the median and the longest are told.
+RECENT = 1_000
+_REFUSED = re.compile(rb"^[0-9?]+ refused ([0-9]+)", re.M)
 # Each figure, in the order in which it is told, with its name and its unit in words.
 FIGURES = {
+    "hub_version": ("version of the hub", ""), "program_version": ("version of the program", ""),
     "version": ("version of the tree", ""), "clients": ("clients", ""), "came": ("clients that came", ""),
     "let_go": ("clients that were let go of", ""), "lines": ("lines", ""), "in_flight": ("lines without a reply", ""),
-    "edits": ("accepted edits", ""), "unread": ("bytes that clients haven't read", ""), "restarts": ("restarts of the program", ""),
+    "refused": ("lines that were refused", ""), "edits": ("accepted edits", ""),
+    "wait_median": ("wait of a line, median", "ms"), "wait_longest": ("wait of a line, longest", "ms"),
+    "unread": ("bytes that clients haven't read", ""), "restarts": ("restarts of the program", ""),
     "seconds": ("seconds since the start", ""), "journal_edits": ("edits in the journal", ""),
     "journal_bytes": ("bytes of the journal", ""),
     "hub_memory": ("memory of the hub", "KiB"), "program_memory": ("memory of the program", "KiB"),
@@ -33,8 +46,41 @@ class Counts:
     came: int = 0
     let_go: int = 0
     lines: int = 0
+    refused: int = 0
+    refused_codes: Dict[str, int] = field(default_factory=Counter)
     edits: int = 0
     restarts: int = 0
+
+    def count_refused(self, replies: bytes) -> None:
+        """Counts those of these replies that refuse a line, by their codes."""
+        for code in _REFUSED.findall(replies):
+            self.refused += 1
+            self.refused_codes[code.decode("ascii")] += 1
+
+
+class Waits:
+    """How long lines wait for the program: about one in a millisecond is looked at, from where it is handed on until its reply comes.
+
+    `counts` has the waits since the start, up to each of `BOUNDS` and above; `seconds` is their sum.
+    """
+
+    def __init__(self) -> None:
+        self.counts = [0] * (len(BOUNDS) + 1)
+        self.seconds = 0.0
+        self._recent: Deque[float] = deque(maxlen=RECENT)
+
+    def add(self, seconds: float) -> None:
+        """One more."""
+        self.counts[bisect_left(BOUNDS, seconds)] += 1
+        self.seconds += seconds
+        self._recent.append(seconds)
+
+    def figures(self) -> Dict[str, Figure]:
+        """The waits as figures; the median and the longest are of the last ones, in milliseconds, and None before the first."""
+        recent = self._recent
+        return {"wait_counts": self.counts, "wait_seconds": round(self.seconds, 6),
+                "wait_median": round(statistics.median(recent) * 1e3, 3) if recent else None,
+                "wait_longest": round(max(recent) * 1e3, 3) if recent else None}
 
 
 def status_path(path: str) -> str:
@@ -55,7 +101,8 @@ def figures_of(service: "Service") -> Dict[str, Figure]:
     """What a service tells of itself."""
     journal = service.journal
     return {
-        **vars(service.counts), "version": service.hub.version, "clients": len(service.clients), "in_flight": service.hub.in_flight,
+        **vars(service.counts), **service.waits.figures(), "hub_version": VERSION, "program_version": service.program_version,
+        "version": service.hub.version, "clients": len(service.clients), "in_flight": service.hub.in_flight,
         "unread": sum(len(it.unread) for it in service.clients), "seconds": round(time.monotonic() - service.began, 1),
         "journal_edits": journal.edits if journal is not None else None,
         "journal_bytes": journal.bytes if journal is not None else None,
@@ -80,6 +127,6 @@ def as_text(figures: Dict[str, Figure]) -> str:
     lines = []
     for key, (name, unit) in FIGURES.items():
         value = figures.get(key)
-        told = "not known" if value is None else f"{value:,}" if isinstance(value, (int, float)) else value
+        told = "not known" if value is None else f"{value:,}" if isinstance(value, (int, float)) else str(value)
         lines.append(f"{name:34}{told} {unit}".rstrip())
     return "\n".join(lines)

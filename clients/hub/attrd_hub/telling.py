@@ -4,7 +4,12 @@ from __future__ import annotations
 import os
 import socket
 import sys
+import time
 from enum import IntEnum
+
+
+# So many bytes of a client's line are told.
+SHOWN = 200
 
 
 class Level(IntEnum):
@@ -15,9 +20,16 @@ class Level(IntEnum):
     INFO = 6
 
 
+def shown(line: bytes) -> str:
+    """A client's line as the log has it: its first characters, each of which can be printed."""
+    text = line[:SHOWN].decode("utf-8", "replace")
+    return "".join(it if it.isprintable() else "\ufffd" for it in text) + (" .." if len(line) > SHOWN else "")
+
+
 def log(level: Level, text: str) -> None:
-    """Writes lines on standard error; where that is the system's journal, each with its level."""
-    head = f"<{level.value}>" if "JOURNAL_STREAM" in os.environ else ""
+    """Writes lines on standard error: each with its level where that is the system's journal, which adds the time, and else with the
+    time."""
+    head = f"<{level.value}>" if "JOURNAL_STREAM" in os.environ else time.strftime("%Y-%m-%dT%H:%M:%S%z ")
     try:
         print("\n".join(head + it for it in text.splitlines()), file=sys.stderr, flush=True)
     except OSError:

@@ -19,9 +19,10 @@ from hub_support import SECONDS, calculator, program, until
 import attrd_hub.journal
 import attrd_hub.main
 import attrd_hub.service
+import attrd_hub.status
 
 # How many points a run tries, spread over all bytes: with more, as 1,200, it takes minutes.
-POINTS = int(os.environ.get("ATTRD_HUB_POINTS", "300"))
+POINTS = int(os.environ.get("ATTRD_HUB_POINTS", "48"))
 WHO = ("hub", "program", "both")
 # A term is written anew behind so many edits.
 RENEWED = 7
@@ -34,11 +35,17 @@ EDITS = ['token /Block/Stmt:0 ID "a"', "insert /Block Stmt 0 Block([])", "mark u
 
 
 class Point:
-    """Counts the bytes of the journal, and kills when so many are written."""
+    """Counts the bytes of the journal, and kills when so many are written. A term is written anew behind `renewed` edits."""
+
+    renewed = RENEWED
 
     def __init__(self, at: int, who: str) -> None:
         self.left, self.who = at, who
         self.service: Optional[attrd_hub.service.Service] = None
+
+    def prepare(self) -> None:
+        """Is called before the hub starts, in its process."""
+        attrd_hub.journal.write_all = self.write_all
 
     def write_all(self, file: int, data: bytes) -> None:
         """In the place of the journal's own: writes up to the point, and kills there."""
@@ -85,15 +92,16 @@ def child(folder: Path, point: Optional[Point]) -> Iterator[int]:
 def run_child(folder: Path, point: Optional[Point], tell: int) -> None:
     """Serves, and ends the process."""
     os.dup2(os.open(folder / "log", os.O_WRONLY | os.O_CREAT | os.O_APPEND), 2)
-    attrd_hub.service.JOURNAL_EDITS = RENEWED
+    attrd_hub.service.JOURNAL_EDITS = RENEWED if point is None else point.renewed
     attrd_hub.service.TICK_SECONDS = 0.002
     attrd_hub.service.RESTART_SECONDS = 0.0
-    # The machine doesn't crash here, so nothing has to be made safe; and the program's options are known.
+    # The machine doesn't crash here, so nothing has to be made safe; and the program's options and version are known.
     os.fsync = lambda file: None
     attrd_hub.main.known_options = lambda name: frozenset()
+    attrd_hub.service.program_version = lambda name: attrd_hub.status.VERSION
     attrd_hub.service.notify = lambda state: os.close(tell) if state.startswith("READY") and os.write(tell, b"1") else None
     if point is not None:
-        attrd_hub.journal.write_all = point.write_all
+        point.prepare()
         start = attrd_hub.service.Service._start
 
         def started(service: attrd_hub.service.Service) -> None:

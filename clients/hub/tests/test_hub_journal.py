@@ -11,7 +11,7 @@ from unittest import mock
 from hub_support import until
 
 from attrd_hub.journal import Journal, JournalFault
-from attrd_hub.records import head, read_journal, record
+from attrd_hub.records import Ending, head, read_journal, record
 
 EDITS = [b"drop /A:%d" % it for it in range(16)]
 
@@ -25,7 +25,7 @@ class Records(unittest.TestCase):
             whole = [it for it in range(len(records) + 1) if len(head(6)) + sum(map(len, records[:it])) <= length]
             self.assertEqual(found.commands, EDITS[:whole[-1]] if whole else [], length)
             self.assertEqual(data[:found.right] + found.cut, data[:length])
-            self.assertTrue(found.is_one_record)
+            self.assertIn(found.ending, (Ending.WHOLE, Ending.CUT_OFF))
 
     def test_each_byte_counts(self) -> None:
         data = head(0) + b"".join(record(1 + it, command) for it, command in enumerate(EDITS[:3]))
@@ -113,7 +113,7 @@ class Folders(unittest.TestCase):
         self.add(journal, EDITS[5:])
         journal.wait()
         self.closed(journal)
-        self.assertEqual(sorted(it.name for it in self.folder.iterdir()), ["journal-5", "lock", "tree-5.txt"])
+        self.assertEqual(sorted(it.name for it in self.folder.iterdir()), ["journal-5", "lock", "tree-5.sum", "tree-5.txt"])
         self.assertEqual(self.read(), (5, b"B()\n", EDITS[5:], []))
 
     def test_a_crash_before_the_term_is_whole(self) -> None:

@@ -6,7 +6,7 @@ import unittest
 import hub_support  # noqa: F401
 from attrd import ServerLost
 from attrd_hub.hub import Hub, NoSession, Route, pass_over
-from attrd_hub.lines import Places, condition_moved, first_lines, plain_session, split_line
+from attrd_hub.lines import Places, condition_moved, end_of_lines, first_lines, plain_session, split_line
 from attrd_hub.member import Member
 from attrd_hub.program import edit_lines
 
@@ -25,6 +25,12 @@ class Lines(unittest.TestCase):
 
     def test_first_lines(self) -> None:
         self.assertEqual([first_lines(b"a\n\nb\n", it) for it in range(5)], [b"", b"a\n", b"a\n\n", b"a\n\nb\n", b"a\n\nb\n"])
+
+    def test_end_of_lines(self) -> None:
+        """Where the first line is shorter or longer than those behind it, and with no more lines than asked for."""
+        lines = b"a\nbbbbbbbb\ncc\n\nd\n"
+        self.assertEqual([end_of_lines(lines, 0, it) for it in range(1, 7)], [(2, 1), (11, 2), (14, 3), (15, 4), (17, 5), (17, 5)])
+        self.assertEqual([end_of_lines(lines, 2, it) for it in range(1, 6)], [(11, 1), (14, 2), (15, 3), (17, 4), (17, 4)])
 
     def test_conditions(self) -> None:
         self.assertEqual(condition_moved(b"at 7 drop /A", 5), b"at 2 drop /A")

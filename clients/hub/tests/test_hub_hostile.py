@@ -1,0 +1,360 @@
+"""Crowds that do what they should not, and what the others have meanwhile: long replies, marks, turns, room, and places.
+
+Bounds are counts and ratios: of a crowd's replies, and of what a question takes with nobody beside it, on the same machine.
+"""
+from __future__ import annotations
+
+import os
+import select
+import shutil
+import signal
+import socket
+import stat
+import statistics
+import tempfile
+import time
+import unittest
+from pathlib import Path
+from typing import List, Optional
+
+from hub_support import SECONDS, Hub, Lines, until
+
+from attrd_hub.status import asked
+
+MEGABYTE = 1 << 20
+# A question whose answer is found anew each time, since nothing is kept of it: it looks at each pair of declarations.
+SLOW = """aspect Slow {
+  syn int Program.slow() = getBlock().pairs();
+  syn int Block.pairs() = sum (a : getStmtList()) { a.row() };
+  syn int Stmt.row() = all();
+  inh int Stmt.all();
+  eq Block.getStmt(int i).all() = sum (b : getStmtList()) { b.one() };
+  eq Program.getBlock().all() = 0;
+  syn int Stmt.one() = 1;
+}
+"""
+
+
+class Wide(Hub):
+    """A hub over a tree with many declarations whose names are long: `show /` has so many bytes."""
+
+    def __init__(self, length: int, *words: str) -> None:
+        self.length = length
+        super().__init__("--sync", "never", *words)
+
+    def start(self) -> None:
+        """Writes the tree before the first start."""
+        declarations = ['Decl("x",-)', *['Decl("%s",-)' % ("y" * 4_000)] * (self.length // 4_011)]
+        Path(self.files[1]).write_text(f"Program(Block([{','.join(declarations)}]))\n")
+        super().start()
+
+
+def processor_seconds(process: int) -> float:
+    """How long a process has run so far."""
+    return int(Path(f"/proc/{process}/schedstat").read_text().split()[0]) / 1e9
+
+
+def connected(path: str) -> socket.socket:
+    """A connection."""
+    stream = socket.socket(socket.AF_UNIX, socket.SOCK_STREAM)
+    stream.settimeout(SECONDS)
+    stream.connect(path)
+    return stream
+
+
+class Case(unittest.TestCase):
+    def wide(self, length: int, *words: str) -> Wide:
+        hub = Wide(length, *words)
+        self.addCleanup(hub.close)
+        return hub
+
+    def hub(self, *words: str) -> Hub:
+        hub = Hub(*words)
+        self.addCleanup(hub.close)
+        return hub
+
+
+class LongReplies(Case):
+    def taken(self, length: int) -> float:
+        """The hub's processor time for one reply of about this length, in seconds: the least of two."""
+        hub = self.wide(length, "--nodes", "600000")
+        client = connected(hub.socket)
+        times = []
+        for _ in range(2):
+            before = processor_seconds(hub.process.pid)
+            client.sendall(b"0 show /\n")
+            got, last = 0, b""
+            while last[-1:] != b"\n":
+                last = client.recv(MEGABYTE)
+                got += len(last)
+            self.assertGreater(got, length * 9 // 10)
+            times.append(processor_seconds(hub.process.pid) - before)
+        client.close()
+        return min(times)
+
+    def test_processor_time_goes_with_the_length(self) -> None:
+        short = self.taken(4 * MEGABYTE)
+        long = self.taken(16 * MEGABYTE)
+        # Four times the length: in the square of it, it would be sixteen times.
+        self.assertLess(long, 8 * short, f"4 MB {short:.3f} s, 16 MB {long:.3f} s")
+
+
+class Marks(Case):
+    def memory(self, hub: Hub) -> int:
+        return int(asked(hub.socket)["hub_memory"] or 0)
+
+    def test_marks_whose_nodes_went_take_no_memory(self) -> None:
+        """The names take 30 MB in all."""
+        hub = self.hub("--sync", "never")
+        client = hub.client()
+        lines = [*(f"0 mark m{{}}_{it}{'x' * 6_000} /Block/Stmt:0" for it in range(50)), '0 set /Block/Stmt:0 Decl("x",-)']
+        before = self.memory(hub)
+        for number in range(100):
+            client.send(*(it.format(number) for it in lines))
+            for _ in lines:
+                self.assertRegex(client.reply(), "^0 ok ")
+        self.assertLess(self.memory(hub) - before, 20 << 10)
+        self.assertEqual(client.ask("0 mark last /Block"), "0 ok 100")
+        self.assertEqual(client.ask("0 where last"), "0 = /Block")
+
+    def test_a_client_that_leaves_with_many_marks_holds_up_nobody(self) -> None:
+        """Thirty marks in each of a hundred sessions, all with long names: while they are taken back others are served."""
+        hub = self.hub("--sync", "never")
+        client = hub.client()
+        for session in range(100):
+            client.send(*(f"{session} mark m{it}{'x' * 1_500} /Block" for it in range(30)))
+            for _ in range(30):
+                self.assertRegex(client.reply(), " ok ")
+        other = hub.client()
+        self.assertRegex(other.ask("0 mark u /Block"), "ok")
+        client.close()
+        started = asked(hub.socket)["in_flight"]
+        # Lines of the hub's own go a few at a time: never are all three thousand under way.
+        most = 0
+        for _ in range(50):
+            self.assertEqual(other.ask("0 where u"), "0 = /Block")
+            most = max(most, int(asked(hub.socket)["in_flight"] or 0))
+        self.assertLess(max(most, int(started or 0)), 200)
+        # At last all sessions are free again.
+        self.assertRegex(until(lambda: self.has_sessions(hub), "sessions that are free"), "ok")
+
+    def has_sessions(self, hub: Hub) -> Optional[str]:
+        """Whether ten clients have a hundred sessions each, all but one of which is the hub's own."""
+        clients = [hub.client() for _ in range(9)]
+        told = ""
+        for it in clients:
+            it.send(*(f"{session} mark u /Block" for session in range(100)))
+            told = [it.reply() for _ in range(100)][-1]
+        for it in clients:
+            it.close()
+        return told if " ok " in told else None
+
+
+class Fairness(Case):
+    def slow_hub(self, statements: int) -> Hub:
+        """A hub with the attribute `slow`, whose value is dropped by each edit."""
+        hub = self.hub("--sync", "never")
+        hub.kill()
+        shutil.rmtree(hub.state)
+        declarations = ",".join(['Decl("x",-)'] * statements)
+        Path(hub.files[1]).write_text(f"Program(Block([{declarations}]))\n")
+        with open(hub.files[2], "a", encoding="ascii") as aspects:
+            aspects.write(SLOW)
+        hub.start()
+        return hub
+
+    def replies_of(self, hub: Hub, lines: bytes, most: int, answers: int) -> List[int]:
+        """How many replies each of 64 clients has when one has so many. Each sends these lines, and again when it has so many answers to
+        them. The hub stands still until all have sent theirs, so that none begins earlier than others."""
+        streams = [connected(hub.socket) for _ in range(64)]
+        counts = dict.fromkeys(streams, 0)
+        hub.process.send_signal(signal.SIGSTOP)
+        for it in streams:
+            it.sendall(lines)
+        hub.process.send_signal(signal.SIGCONT)
+        while max(counts.values()) < most:
+            ready, _, _ = select.select(streams, [], [], SECONDS)
+            self.assertTrue(ready)
+            for it in ready:
+                found = it.recv(1 << 18).count(b"\n")
+                counts[it] += found
+                if found and counts[it] % answers == 0:
+                    it.sendall(lines)
+        for it in streams:
+            it.close()
+        return sorted(counts.values())
+
+    def test_who_waits_for_each_reply(self) -> None:
+        """Sixty-four clients, each with the same question that isn't quick: the slowest has at least half of the fastest one's replies."""
+        hub = self.wide(MEGABYTE // 8)
+        counts = self.replies_of(hub, b"0 show /\n", 16, 1)
+        self.assertGreaterEqual(2 * counts[0], counts[-1], counts)
+
+    def test_who_waits_for_none(self) -> None:
+        """Also of clients that send all their lines at once."""
+        hub = self.slow_hub(40)
+        lines = b"0 token /Block/Stmt:0 ID \"y\"\n0 ask / slow()\n" * 15
+        counts = self.replies_of(hub, lines, 20, 1 << 30)
+        self.assertGreaterEqual(2 * counts[0], counts[-1], counts)
+
+
+class Unread(Case):
+    def beside(self, length: int, others: int) -> None:
+        """What a quiet client waits for beside so many that ask for the whole tree and never read, from their first line on."""
+        hub = self.wide(length, "--nodes", "100000")
+        quiet = Lines(hub.socket)
+        self.addCleanup(quiet.close)
+        with_nobody = []
+        for _ in range(3):
+            start = time.perf_counter()
+            quiet.ask("0 show /")
+            with_nobody.append(time.perf_counter() - start)
+        crowd = [connected(hub.socket) for _ in range(others)]
+        for it in crowd:
+            it.sendall(b"0 show /\n" * 50)
+        waits = []
+        for _ in range(40):
+            start = time.perf_counter()
+            self.assertEqual(quiet.ask("0 show /Block/Stmt:0"), '0 = Decl("x",-)')
+            waits.append(time.perf_counter() - start)
+            time.sleep(0.01)
+        figures = asked(hub.socket)
+        for it in crowd:
+            it.close()
+        told = f"one question {max(with_nobody):.4f} s; median {statistics.median(waits):.4f}, most {max(waits):.4f} s; {figures}"
+        # A wait that was longer by the machine's other work is allowed for one in ten.
+        late = sum(it > max(0.1, 5 * max(with_nobody)) for it in waits)
+        self.assertLessEqual(late, 4, told)
+        # A megabyte for each, or one reply, and what is under way.
+        self.assertLess(int(figures["unread"] or 0), min(300 * MEGABYTE, others * (MEGABYTE + 2 * length)), told)
+
+    def test_four_hundred_kilobytes(self) -> None:
+        self.beside(400_000, 100)
+
+    def test_four_megabytes(self) -> None:
+        self.beside(4_000_000, 30)
+
+
+class Places(Case):
+    def test_who_sends_no_token_takes_no_place_of_others(self) -> None:
+        with tempfile.TemporaryDirectory() as folder, socket.socket() as free:
+            (Path(folder) / "token").write_text("0123456789abcdef\n")
+            free.bind(("127.0.0.1", 0))
+            port = free.getsockname()[1]
+            free.close()
+            hub = self.hub("--tcp", str(port), "--token", str(Path(folder) / "token"), "--clients", "40")
+            silent = [socket.create_connection(("127.0.0.1", port), timeout=SECONDS) for _ in range(200)]
+            for it in silent[::2]:
+                it.sendall(b"0123")
+            clients = [hub.client() for _ in range(39)]
+            self.assertEqual({it.ask("0 version") for it in clients}, {"0 ok 0"})
+            with socket.create_connection(("127.0.0.1", port), timeout=SECONDS) as late:
+                late.sendall(b"0123456789abcdef\n0 version\n")
+                self.assertEqual(late.recv(100), b"0 ok 0\n")
+                # The forty places are taken now, and none of them by who is silent.
+                with socket.create_connection(("127.0.0.1", port), timeout=SECONDS) as more:
+                    more.sendall(b"0123456789abcdef\n0 version\n")
+                    self.assertEqual(end_of(more), b"")
+            # Nobody keeps a place for long by silence, nor by a byte now and then.
+            until(lambda: all(is_ended(it) for it in silent), "the end of those that are silent")
+            for it in [*silent, *clients]:
+                it.close()
+
+
+def end_of(stream: socket.socket) -> bytes:
+    """What comes up to the end."""
+    try:
+        return b"".join(iter(lambda: stream.recv(1_000), b""))
+    except ConnectionError:
+        return b""
+
+
+def is_ended(stream: socket.socket) -> bool:
+    """Whether the other side has ended the connection; else it is sent one byte more."""
+    try:
+        stream.setblocking(False)
+        if not stream.recv(1):
+            return True
+    except BlockingIOError:
+        try:
+            stream.send(b"x")
+        except OSError:
+            return True
+        return False
+    except OSError:
+        return True
+    return False
+
+
+class Gone(Case):
+    EDIT = b'0 token /Block/Stmt:0 ID "y"\n'
+
+    def leave(self, hub: Hub, data: bytes) -> None:
+        """Sends this, and goes away at once."""
+        with connected(hub.socket) as stream:
+            stream.setsockopt(socket.SOL_SOCKET, socket.SO_SNDBUF, MEGABYTE)
+            stream.sendall(data)
+
+    def test_lines_that_came_whole_are_obeyed(self) -> None:
+        hub = self.hub("--sync", "never")
+        client = hub.client()
+        made = 0
+        for data, edits in ((self.EDIT * 100, 100), (b"0 show " + b"x" * 100_000 + b"\n" + self.EDIT * 100, 100),
+                            (b"0 show " + b"x" * 65_000 + b"\n" + self.EDIT, 1), (self.EDIT + b"0 drop /Block/Stmt:1", 1),
+                            (b"x" * 150_000 + b"\n" + self.EDIT * 3 + b"0 drop /Block/Stmt:1", 3), (b"0 drop /Block/Stmt:1", 0)):
+            self.leave(hub, data)
+            made += edits
+            until(lambda: int(client.ask("0 version").split()[2]) >= made, f"{made} edits")
+            until(lambda: asked(hub.socket)["clients"] == 1, "that the client is gone")
+            self.assertEqual(client.ask("0 version"), f"0 ok {made}")
+
+    def test_half_a_line_is_not_obeyed_at_the_end_of_a_stream(self) -> None:
+        hub = self.hub("--sync", "never")
+        with connected(hub.socket) as stream:
+            stream.sendall(b"6 show /Block/Stmt:0\n7 drop /Block/Stmt:1")
+            stream.shutdown(socket.SHUT_WR)
+            self.assertEqual(end_of(stream), b'6 = Decl("x",Num(1))\n')
+        self.assertEqual(hub.client().ask("0 version"), "0 ok 0")
+
+    def test_a_place_is_free_at_once(self) -> None:
+        """Where the one that had it sent many bytes without a newline."""
+        hub = self.hub("--clients", "20")
+        for _ in range(5):
+            for _ in range(10):
+                self.leave(hub, b"x" * 150_000)
+            # The time for half a line is 30 seconds, and this is much less, on any machine.
+            until(lambda: asked(hub.socket)["clients"] == 0, "free places", 15.0)
+        self.assertEqual(hub.client().ask("0 version"), "0 ok 0")
+
+
+class ReadOnly(Case):
+    def test_who_may_ask_alone(self) -> None:
+        hub = self.hub("--sync", "never", "--read-only-mode", "604")
+        hub.kill(signal.SIGTERM)
+        path = str(hub.folder / "readers")
+        hub.words += ("--read-only-socket", path)
+        hub.start()
+        self.assertEqual(stat.S_IMODE(os.stat(path).st_mode), 0o604)
+        reader, writer = Lines(path), hub.client()
+        self.addCleanup(reader.close)
+        self.addCleanup(writer.close)
+        lines = ['0 set /Block/Stmt:0 Decl("y",-)', "0 at 0 drop /Block/Stmt:0", "3 mark u /Block", "3 at 0 unmark u",
+                 'token /Block/Stmt:0 ID "z"', '0 token /Block/Stmt:0 ID "z"', "0 put /Block/Stmt:0 Init Num(1)",
+                 "0 insert /Block Stmt 0 Block([])", "0 move /Block/Stmt:0 to /Block Stmt 1", "0 version", "5 show /Block/Stmt:0",
+                 "5 ask /Block/Stmt:1/Expr value()"]
+        reader.send(*lines)
+        self.assertEqual([reader.reply() for _ in lines], [
+            *["0 refused 12 limit"] * 2, *["3 refused 12 limit"] * 2, "? refused 1 syntax", *["0 refused 12 limit"] * 4, "0 ok 0",
+            '5 = Decl("x",Num(1))', "5 = 3"])
+        reader.send("7 post /Block/Stmt:1/Expr value()", *["7 version"] * 50)
+        self.assertEqual({reader.reply() for _ in range(52)}, {"7 open 1", "7 done 1 0 = 3", "7 ok 0"})
+        self.assertEqual(writer.ask('0 token /Block/Stmt:0 ID "z"'), "0 ok 1")
+        self.assertEqual(reader.ask("0 show /Block/Stmt:0"), '0 = Decl("z",Num(1))')
+        # Also of lines that it sends and goes away behind.
+        with connected(path) as stream:
+            stream.sendall(b'0 token /Block/Stmt:0 ID "y"\n' * 10)
+        self.assertEqual(writer.ask("0 version"), "0 ok 1")
+
+
+if __name__ == "__main__":
+    unittest.main()
