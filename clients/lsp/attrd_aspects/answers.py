@@ -107,4 +107,4 @@ def diagnostic(text: Text, it: Finding) -> Json:
     """A fault, for the editor: at its word, or at the character before where it stands at the end."""
     span = Span(it.start, it.end) if it.end > it.start else Span(max(0, it.start - 1), it.start)
     return {"range": range_of(text, span.start, span.end), "severity": ERROR, "source": "attrd", "code": it.code,
-            "message": f"{it.code} {it.name}. {it.message} {it.hint}"}
+            "message": f"{it.code} {it.name}. {it.message} {it.hint}{f' (docs/FROM_JASTADD.md, {it.section})' if it.section else ''}"}

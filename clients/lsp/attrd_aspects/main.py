@@ -6,6 +6,7 @@ import sys
 from typing import List, Optional
 
 from attrd.server import FORMS_HELP
+from attrd.versions import VERSION
 from attrd_lsp.editor import Editor, EditorGone
 from attrd_lsp.rpc import Inbox
 
@@ -17,6 +18,7 @@ def main(words: Optional[List[str]] = None) -> int:
     parser = argparse.ArgumentParser(prog="attrd_aspects", description="A language server for grammars (.ast) and aspects (.jrag) of attrd.")
     parser.add_argument("--program", default="attrd", help="the program attrd (found on the PATH if it isn't given)")
     parser.add_argument("--forms", metavar="WORDS", default="", help=FORMS_HELP)
+    parser.add_argument("--version", action="version", version=f"attrd-aspects {VERSION}")
     options = parser.parse_args(words)
     try:
         return Server(Inbox(sys.stdin.fileno()), Editor(sys.stdout.buffer), options.program, options.forms).serve()

@@ -8,6 +8,7 @@ from pathlib import Path
 from typing import List, Optional
 
 import attrd
+from attrd.versions import VERSION
 
 from .checking import check_files
 from .desk import Program
@@ -38,6 +39,7 @@ def command_line(description: str) -> argparse.ArgumentParser:
     parser.add_argument("--keep", type=int, metavar="N", help=keep_help)
     check_help = "tells what is wrong with these files, and serves no editor; the status is 1 where there is an error"
     parser.add_argument("--check", type=Path, nargs="+", metavar="FILE", help=check_help)
+    parser.add_argument("--version", action="version", version=f"attrd-lsp {VERSION}")
     return parser
 
 

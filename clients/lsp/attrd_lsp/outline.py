@@ -4,6 +4,7 @@ from __future__ import annotations
 from typing import Dict, Iterator, List, Sequence, Tuple
 
 from .editor import ERROR, INFORMATION, WARNING
+from .phrases import Phrase
 from .positions import Span
 from .project import Project
 from .protocol import Json, diagnostic, range_of
@@ -30,8 +31,8 @@ def diagnostics_of(project: Project, file: str) -> Sequence[Json]:
 
 def held_text(spot: Spot, is_last_good: bool) -> str:
     """What is told of a part that the tree doesn't have as its text is."""
-    by = "its last text that could be" if is_last_good else "what could be read of it"
-    return f"{spot.phrase.identifier or 'this'} can't be parsed: what is told of it goes by {by}"
+    version = "its last version that parsed" if is_last_good else "what could be read of it"
+    return f"{spot.phrase.identifier or 'this'} has a syntax error: other messages are from {version}"
 
 
 def symbols_of(project: Project, file: str) -> List[Json]:
@@ -82,12 +83,18 @@ def matching_symbols(project: Project, query: str) -> Iterator[Json]:
 
 
 def folds_of(project: Project, file: str) -> List[Json]:
-    """The stretches of lines that can be folded: each phrase of more than one line, the longest one of those that begin in a line."""
+    """The stretches of lines that can be folded: each phrase of more than one line, the longest one of those that begin in a line. The
+    phrase of a whole file is none: its fold would hide the file."""
     text = project.texts[file]
     longest: Dict[int, int] = {}
     whole = Span(0, len(text.text))
-    source = project.source
-    for spot in source.in_file(file, whole, lambda number, _, it: "\n" in source.piece(number).text[it.span[0] : it.span[1]]):
+    source, listed = project.source, project.source.language.listed
+    has_parts = listed is not None and listed.starts is not None
+
+    def is_foldable(number: int, below: str, it: Phrase) -> bool:
+        return (has_parts or below != "") and "\n" in source.piece(number).text[it.span[0] : it.span[1]]
+
+    for spot in source.in_file(file, whole, is_foldable):
         start, end = text.position(spot.span.start).line, text.position(spot.span.end).line
         if end > longest.get(start, start):
             longest[start] = end

@@ -86,13 +86,28 @@ class OnSmallFile(unittest.TestCase):
 
     def test_a_text_that_is_no_program_keeps_the_tree_and_says_so(self) -> None:
         self.editor.keys("7G0fxx")
-        held = "5:7 Circle can't be parsed: what is told of it goes by its last text that could be"
+        held = "5:7 Circle has a syntax error: other messages are from its last version that parsed"
         self.diagnostics(["7:12 expected an expression, found '+'", held])
         self.editor.keys("fr")
         self.editor.keys("gd")
         self.editor.until("return vim.api.nvim_win_get_cursor(0)[1] == 6")
         self.editor.keys("u")
         self.diagnostics([])
+
+    def test_words_and_numbers_are_coloured(self) -> None:
+        """In the line `{ near = x < 10; show near; }`: nothing at a name, a number, a word; and the word of the first line."""
+        name = "local line, column = ... return vim.fn.synIDattr(vim.fn.synID(line, column, 1), 'name')"
+        line = SMALL.splitlines()[2]
+        found = [self.editor.lua(name, 3, line.index(it) + 1) for it in ("near", "10", "show")] + [self.editor.lua(name, 1, 1)]
+        self.assertEqual(found, ["", "Number", "Keyword", "Keyword"])
+
+    def test_a_completion_shows_its_list_and_no_second_window(self) -> None:
+        self.addCleanup(self.editor.keys, "<Esc>")
+        self.editor.keys("3G$ishow ne<C-x><C-o>")
+        self.editor.until("return vim.fn.pumvisible() == 1")
+        self.editor.keys("<C-y>")
+        self.editor.until("return vim.api.nvim_buf_get_lines(0, 2, 3, true)[1]:match('show near; show near}') ~= nil")
+        self.assertEqual(len(self.editor.lua("return vim.api.nvim_list_wins()")), 1)
 
     def test_the_cursor_goes_to_a_definition(self) -> None:
         self.editor.keys("7G0fx")

@@ -7,7 +7,7 @@ import tempfile
 import unittest
 from pathlib import Path
 
-from lsp_support import CLONE, SAMPLE, SECONDS, program
+from lsp_support import CLONE, SAMPLE, SECONDS, Client, Editing, program
 from neovim import Neovim
 from test_lsp_neovim import DIAGNOSTICS, READY, WATCH
 
@@ -30,6 +30,15 @@ IN_EMACS = """
           (flymake-diagnostics)))
 (setq eglot-sync-connect 120)
 (find-file (car command-line-args-left))
+(font-lock-mode 1)
+(font-lock-ensure)
+(princ (format "%s %s\\n" (get-text-property 1 'face) (get-text-property 5 'face)))
+(with-temp-buffer
+  (insert "show a; // let\\n")
+  (sums-mode)
+  (font-lock-mode 1)
+  (font-lock-ensure)
+  (princ (format "%s %s\\n" (get-text-property 1 'face) (get-text-property 13 'face))))
 (run-hooks 'post-command-hook)
 (wait-for "a server" (lambda () (eglot-current-server)))
 (flymake-start)
@@ -133,7 +142,33 @@ class Followed(unittest.TestCase):
         wanted = ["let wide = 3;", "let area = wide + (wide + 1);", "show area;"]
         editor.until("return vim.deep_equal(vim.api.nvim_buf_get_lines(0, 0, -1, true), ...)", wanted)
         editor.keys("3GA<CR>show wi<C-x><C-o>")
+        editor.until("return vim.fn.pumvisible() == 1")
+        self.assertEqual(editor.lua("return vim.api.nvim_buf_get_lines(0, 3, 4, true)[1]"), "show wi")
+        editor.keys("<C-y>")
         editor.until("return vim.api.nvim_buf_get_lines(0, 3, 4, true)[1] == 'show wide'")
+        self.assertEqual(len(editor.lua("return vim.api.nvim_list_wins()")), 1)
+
+    def test_words_numbers_and_comments_are_coloured_in_neovim(self):
+        (self.home.sums / "one.sums").write_text("let a = 10; // let 1\nshow letter;\n", "utf-8")
+        editor = self.home.neovim(self, block("lua", 0), self.home.sums / "one.sums")
+        at = {"let": (1, 1), "a": (1, 5), "10": (1, 9), "//": (1, 13), "let in a comment": (1, 16), "show": (2, 1), "letter": (2, 6)}
+        name = "local line, column = ... return vim.fn.synIDattr(vim.fn.synID(line, column, 1), 'name')"
+        found = {word: editor.lua(name, *place) for word, place in at.items()}
+        wanted = {"let": "Keyword", "a": "", "10": "Number", "//": "Comment", "let in a comment": "Comment", "show": "Keyword",
+                  "letter": ""}
+        self.assertEqual(found, wanted)
+
+    def test_the_whole_file_is_no_fold_of_its_server(self):
+        with Client(script=self.home.sums / "sums_server.py") as client:
+            document = Editing(client, "let a =\n  1;\nshow a;\n", (self.home.sums / "two.sums").as_uri())
+            document.settled()
+            folds = client.ask("textDocument/foldingRange", {"textDocument": {"uri": document.uri}})
+        self.assertEqual([(it["startLine"], it["endLine"]) for it in folds], [(0, 1)])
+
+    def test_its_example_of_a_dot_is_that_of_the_tutorials_language(self):
+        shown = re.search(r"^   ```text\n(   aspect Members.*?)^   ```$", PAGE, re.M | re.S)[1]
+        aspect = "\n".join(it[3:] for it in shown.splitlines())
+        self.assertIn(aspect, (CLONE / "clients/lsp/attrd_lsp/small/checks.jrag").read_text("utf-8"))
 
     @unittest.skipUnless(has_eglot(), "there is no Emacs with eglot (tools/editors.sh emacs installs them)")
     def test_in_emacs(self):
@@ -145,6 +180,8 @@ class Followed(unittest.TestCase):
         told = subprocess.run(words, env=self.home.environment, capture_output=True, text=True, timeout=3 * SECONDS)
         lines = [it for it in told.stdout.splitlines() if it]
         self.assertEqual(told.returncode, 0, told.stderr)
+        self.assertEqual(lines[:2], ["font-lock-keyword-face nil", "font-lock-keyword-face font-lock-comment-face"])
+        lines = lines[2:]
         self.assertIn("2 ", lines[0])
         self.assertIn("nothing is named widht", lines[0])
         hover = block("text", 1).splitlines()

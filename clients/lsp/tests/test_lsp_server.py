@@ -11,7 +11,7 @@ from lsp_support import LSP, PYTHONPATH, SMALL, Client, Editing, Ended, children
 from attrd_lsp.small.language import DATA, NoLanguage, in_folder
 
 CONTENT_MODIFIED, CANCELLED, FAILED = -32801, -32800, -32803
-HELD = "can't be parsed: what is told of it goes by its last text that could be"
+HELD = "has a syntax error: other messages are from its last version that parsed"
 
 
 def large(count):

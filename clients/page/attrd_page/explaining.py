@@ -15,7 +15,7 @@ class Overtaken(AttrdError):
 
 async def explained(member: Member, specification: Specification, tree: Node, version: int, instance: Instance) -> Json:
     """A reason as a window shows it. `tree` is the server's at this version. Raises NoReason, Overtaken, and what a refused line is."""
-    running = Why(specification, tree).reason(instance)
+    running = Why(specification, tree).reason_with_circle(instance)
     try:
         wanted = next(running)
         while True:
@@ -41,7 +41,8 @@ def _told(reason: Reason) -> Json:
     steps = [{"text": it.text, "answer": str(it.answer), "instance": spelled(it.instance)} for it in reason.steps]
     return {"kind": "why", "instance": spelled(reason.instance), "answer": str(reason.answer), "place": reason.place, "head": reason.head,
             "equation": " ".join(reason.equation.split()), "at": str(reason.at) if reason.at != reason.instance.path else None,
-            "bound": [f"{name} = {_value(value)}" for name, value in reason.bound.items()], "steps": steps, "stopped": reason.stopped}
+            "bound": [f"{name} = {_value(value)}" for name, value in reason.bound.items()], "steps": steps,
+            "stopped": "\n".join(str(it) for it in (reason.stopped, reason.circle) if it)}
 
 
 def _value(value: object) -> str:

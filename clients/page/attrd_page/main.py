@@ -4,18 +4,24 @@ from __future__ import annotations
 import argparse
 import asyncio
 import os
+import re
 import signal
 import sys
 import webbrowser
 from contextlib import suppress
 from typing import Any, List, Optional
 
-from attrd import KEPT, AttrdError, StartFault, explain
+from attrd import KEPT, AttrdError, GrammarFault, StartFault, explain
 from attrd.server import FORMS_HELP
+from attrd.versions import VERSION
 
 from .front import listen
-from .running import Running, Watched
+from .running import NoTree, Running, Watched
 from .web import Web
+
+LONGEST_NAME = 1 << 16
+# How the file of a tree begins, and no file of aspects does.
+TERM = re.compile(r"\ufeff?\s*[^\W\d]\w*\s*\(")
 
 
 def options(words: Optional[List[str]] = None) -> argparse.Namespace:
@@ -23,8 +29,8 @@ def options(words: Optional[List[str]] = None) -> argparse.Namespace:
     reader = argparse.ArgumentParser(prog="python -m attrd_page", description="Opens a page with the tree and probes of its attributes. "
                                      "With --listen editors and other clients share the server with it.")
     reader.add_argument("grammar", metavar="GRAMMAR")
-    reader.add_argument("tree", metavar="TREE")
-    reader.add_argument("aspects", metavar="ASPECT", nargs="+")
+    reader.add_argument("tree", metavar="TREE", help="may be left out with --source, whose text has a tree")
+    reader.add_argument("aspects", metavar="ASPECT", nargs="*")
     reader.add_argument("--program", default="attrd", help="the program (attrd on the PATH, where none is given)")
     reader.add_argument("--keep", metavar="N", type=int,
                         help=f"how many values the program keeps at most, if it has the option ({KEPT} where none is given, more for large trees)")
@@ -33,12 +39,27 @@ def options(words: Optional[List[str]] = None) -> argparse.Namespace:
     reader.add_argument("--listen", metavar="SOCKET", help="has other clients speak the server's protocol at this socket, all at once")
     reader.add_argument("--port", type=int, default=0, help="the page's port at 127.0.0.1 (a random one, where none is given)")
     reader.add_argument("--source", metavar="FILE", help="a source text, which is shown beside the tree, and can be edited; the tree follows it")
-    reader.add_argument("--parser", metavar="FILE.py[:FUNCTION]", help="the function that reads such a text: it gives the tree and the places of nodes")
+    reader.add_argument("--parser", metavar="FILE.py[:FUNCTION]",
+                        help="the function that reads such a text, to the tree and the places of nodes; or one of a language server")
     reader.add_argument("--no-browser", action="store_true", help="tells the page's address, and opens no browser")
+    reader.add_argument("--version", action="version", version=f"attrd-page {VERSION}")
     given = reader.parse_args(words)
     if (given.source is None) is not (given.parser is None):
         reader.error("--source and --parser belong together")
+    if given.source is not None and not (given.aspects and is_tree_file(given.tree)):
+        given.tree, given.aspects = None, [given.tree, *given.aspects]
+    if not given.aspects:
+        reader.error("the following arguments are required: ASPECT")
     return given
+
+
+def is_tree_file(name: str) -> bool:
+    """Whether the file is one of a tree and not one of aspects: it begins with a term, or can't be read, which the program tells."""
+    try:
+        with open(name, "rb") as file:
+            return TERM.match(file.read(LONGEST_NAME).decode("utf-8", "replace")) is not None
+    except (OSError, ValueError):
+        return True
 
 
 class Service:
@@ -123,10 +144,17 @@ async def serve(given: argparse.Namespace) -> int:
 
 def told(fault: AttrdError, given: argparse.Namespace) -> str:
     """A fault in words; of a file with its place and a hint."""
-    if isinstance(fault, StartFault):
+    if isinstance(fault, (StartFault, GrammarFault)):
         with suppress(AttrdError):
-            return str(explain(fault, [given.grammar, given.tree, *given.aspects]))
+            return str(explain(fault, [given.grammar, given.tree or given.source, *given.aspects]))
     return str(fault)
+
+
+def status_of(fault: AttrdError) -> int:
+    """The status with which a fault ends the page: that of the program, where it has one."""
+    if isinstance(fault, (NoTree, GrammarFault)):
+        return 1
+    return (fault.status if isinstance(fault, StartFault) else None) or 3
 
 
 def main(words: Optional[List[str]] = None) -> int:
@@ -136,6 +164,6 @@ def main(words: Optional[List[str]] = None) -> int:
         return asyncio.run(serve(given))
     except AttrdError as fault:
         print(told(fault, given), file=sys.stderr)
-        return (fault.status if isinstance(fault, StartFault) else None) or 3
+        return status_of(fault)
     except KeyboardInterrupt:
         return 0

@@ -21,6 +21,10 @@ LOOK_SECONDS = 0.5
 BYTES_A_NODE = 8
 
 
+class NoTree(AttrdError):
+    """The parser makes no tree of the source text, and there is no other tree to begin with."""
+
+
 class Running:
     """A server that answers, with its hub and its page. `replies` ends when the server does."""
 
@@ -29,11 +33,15 @@ class Running:
 
     @classmethod
     async def begin(cls, given: argparse.Namespace, tree: Optional[str] = None) -> Running:
-        """Starts the program over the files, or over a tree in the place of that which is named; or takes the one that is told.
+        """Starts the program over the files, or over a tree in the place of that which is named; or takes the one that is told. Where no
+        tree is named, it begins with that of the source text.
 
-        Raises StartFault where a file is refused, and AttrdError.
+        Raises StartFault where a file is refused, NoTree, and AttrdError.
         """
-        files = [given.grammar, tree or given.tree, *given.aspects]
+        if tree is None and given.tree is None and not given.connect:
+            with tempfile.TemporaryDirectory(prefix="attrd-page-") as folder:
+                return await cls.begin(given, _tree_of_source(given, FilePath(folder)))
+        files = [given.grammar, tree or given.tree or given.source, *given.aspects]
         stream = await _upstream(given, files)
         hub = Hub(stream)
         replies = asyncio.ensure_future(hub.run())
@@ -44,9 +52,9 @@ class Running:
                 first.leave()
             except AttrdError:
                 raise await stream.fault() if stream.process is not None else AttrdError(f"{given.connect}: the server has ended") from None
-            source = SourceText.load(given.parser, Grammar.load(given.grammar), given.source) if given.source else None
+            source = _source(given) if given.source else None
             program = given.program if stream.process is not None else None
-            page = Page(hub, [given.grammar, given.tree, *given.aspects], program, source, given.forms)
+            page = Page(hub, [given.grammar, given.tree or given.source, *given.aspects], program, source, given.forms)
             await page.begin()
         except BaseException:
             replies.cancel()
@@ -74,6 +82,21 @@ class Running:
         await self.page.end()
         self.replies.cancel()
         return await self.hub.close()
+
+
+def _source(given: argparse.Namespace) -> SourceText:
+    """The source text, as it stands in its file. Raises AttrdError where it, the parser or the grammar can't be loaded."""
+    return SourceText.load(given.parser, Grammar.load(given.grammar), given.source)
+
+
+def _tree_of_source(given: argparse.Namespace, folder: FilePath) -> str:
+    """A file in the folder with the tree of the source text. Raises NoTree where the text has none, and AttrdError."""
+    source = _source(given)
+    if source.tree is None:
+        raise NoTree(f"{given.source}: it can't be read, and no TREE is given to begin with: {source.fault}")
+    file = folder / "tree.txt"
+    file.write_text(write_term(source.tree), "utf-8")
+    return str(file)
 
 
 async def _upstream(given: argparse.Namespace, files: Sequence[str]) -> Upstream:

@@ -4,7 +4,7 @@ from __future__ import annotations
 import importlib.util
 from itertools import accumulate
 from pathlib import Path as FilePath
-from typing import Any, Callable, Iterable, List, Optional, Tuple
+from typing import Any, Callable, Iterable, Iterator, List, Optional, Tuple
 
 from attrd import AttrdError, Grammar, Node, Path, difference
 from attrd.grammar import read_file
@@ -15,9 +15,11 @@ from .hub import Hub, Member
 from .mirror import Astray, Mirror
 from .views import Json
 
-# A parser gives for a text its tree, and for nodes the path and the offsets at which they begin and end. It raises any exception, with
-# a text for the reader, where it can't.
-Parser = Callable[[str], Tuple[Node, Iterable[Tuple[str, int, int]]]]
+# The path of a node, and the offsets of its first character and behind its last.
+Place = Tuple[str, int, int]
+# A parser gives for a text its tree, and places of nodes; or what one of the language server gives, `attrd_lsp.Parsed`, which has these in
+# its phrase. Where it can't read the text it raises any exception, with a text for the reader, or gives faults.
+Parser = Callable[[str], Any]
 
 
 def load_parser(spelled: str) -> Parser:
@@ -34,6 +36,34 @@ def load_parser(spelled: str) -> Parser:
     except Exception as fault:
         raise AttrdError(f"{spelled}: the parser can't be loaded: {type(fault).__name__}: {fault}") from fault
     return found
+
+
+def tree_and_places(answer: Any, text: str) -> Tuple[Node, Iterable[Place]]:
+    """What a parser answered as a tree and places. Raises ValueError with the first fault of the text, where the answer has faults."""
+    if not hasattr(answer, "faults"):
+        tree, places = answer
+        return tree, places
+    if answer.faults or answer.phrase is None:
+        raise ValueError(told_fault(answer.faults, text) or "nothing could be read")
+    return answer.phrase.tree, places_of(answer.phrase)
+
+
+def told_fault(faults: Iterable[Any], text: str) -> str:
+    """The first of these faults with its line and column, from 1, and how many more there are; empty where there is none."""
+    found = list(faults)
+    if not found:
+        return ""
+    at = found[0].span[0]
+    more = f" (and {len(found) - 1} more)" if len(found) > 1 else ""
+    return f"{text.count(chr(10), 0, at) + 1}:{at - text.rfind(chr(10), 0, at)}: {found[0].text}{more}"
+
+
+def places_of(top: Any) -> Iterator[Place]:
+    """The places of a phrase, which is the root, and of those below it."""
+    waiting = [("/", top)]
+    for path, phrase in waiting:
+        yield path, phrase.span[0], phrase.span[1]
+        waiting += [(f"{path.rstrip('/')}/{step}", child) for step, child in phrase.children]
 
 
 class SourceText:
@@ -56,7 +86,7 @@ class SourceText:
         """Reads another text; its tree, or None where it has a fault: then there are no places."""
         self.text, self.fault, self.places, self.tree, self.version = text, "", [], None, None
         try:
-            tree, places = self.parser(text)
+            tree, places = tree_and_places(self.parser(text), text)
             self.grammar.check(tree, nodes=MOST_NODES)
             self.places = [(Path.read(path), int(start), int(end)) for path, start, end in places]
         except Exception as fault:

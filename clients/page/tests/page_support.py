@@ -14,7 +14,7 @@ from typing import Any, Callable, List
 from websocket import TEXT, Inbox, accept_key, frame, new_key
 
 CLONE = Path(__file__).resolve().parents[3]
-PYTHONPATH = [str(CLONE / "clients" / it) for it in ("python", "hub", "page")]
+PYTHONPATH = [str(CLONE / "clients" / it) for it in ("python", "hub", "page", "lsp")]
 sys.path[:0] = [it for it in PYTHONPATH if it not in sys.path]
 
 TUTORIAL = (CLONE / "docs" / "TUTORIAL.md").read_text("utf-8")

@@ -9,6 +9,8 @@ from typing import Any
 from browser import ALT, CONTROL, Browser, Tab
 from page_support import Served
 
+# What a window of 1280 by 800 has for the page, in Chromium.
+INNER = {"width": 1280, "height": 713}
 # From an edit of another client to the value that a window shows.
 BOUND_SECONDS = 5.0
 
@@ -65,6 +67,24 @@ class Windows(unittest.TestCase):
         self.assertNotIn("changed", tab.text(card))
         self.client.ask("0 drop /Kind:3/Block/Stmt:1")
         self.shows(tab, card, "its node is gone")
+
+    def test_the_card_of_the_node_is_seen_without_scrolling(self) -> None:
+        """In a window of 1280 by 800, with a node of many attributes and with probes; and it stays where the probes are scrolled."""
+        tab = self.window()
+        tab.call("Emulation.setDeviceMetricsOverride", deviceScaleFactor=1, mobile=False, **INNER)
+        tab.until(f"innerWidth === {INNER['width']} && innerHeight === {INNER['height']}", "the window's size")
+        seen = "((it) => it.top >= 0 && it.bottom <= innerHeight)(document.getElementById('card').getBoundingClientRect())"
+        within = "((it) => it.scrollHeight <= it.clientHeight)(document.getElementById('card'))"
+        for path in ("/", "/Kind:2/Block", "/Kind:2/Block/Stmt:0/Init/Left"):
+            self.select(tab, path)
+            self.assertTrue(tab.value(seen), path)
+        self.assertTrue(tab.value(within), "all of it is in sight")
+        for attribute in ("decl", "error", "errors", "kind"):
+            self.probe(tab, "/Kind:2/Block/Stmt:0/Init/Left", attribute)
+            self.probe(tab, "/Kind:3/Block/Stmt:0/Init/Left", attribute)
+        tab.value("scrollTo(0, document.body.scrollHeight)")
+        tab.until("scrollY > 0", "it is scrolled")
+        self.assertTrue(tab.value(seen))
 
     def test_a_value_changes_in_time(self) -> None:
         tab = self.window()

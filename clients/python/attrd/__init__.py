@@ -19,10 +19,10 @@ from .session import Mark, Question, Session
 from .terms import Node, read_term, write_term
 from .versions import VERSION, VersionWarning
 from .view import View, Views
-from .why import Bounds, Instance, NoReason, Reason, Why
+from .why import Bounds, Circle, Instance, NoReason, Reason, Why
 
 __all__ = [
-    "Answer", "AskValue", "AspectFault", "AttrdError", "Bounds", "Check", "Circular", "ClassOf", "Code", "Connection",
+    "Answer", "AskValue", "AspectFault", "AttrdError", "Bounds", "Check", "Circle", "Circular", "ClassOf", "Code", "Connection",
     "ConnectionClosed", "Costs", "Diagnostic", "Diagnostics", "Document", "Done", "Drop", "Edit", "Explanation", "Fault",
     "FaultKind", "FromMark", "Grammar", "GrammarFault", "Insert", "Instance", "KEPT", "LineFault", "Mark", "Memory", "Move",
     "NoReason", "NoValue", "Node", "Ok", "Opened", "OutOfMemory", "Part", "Path", "Pending", "ProtocolFault", "Put", "Question",

@@ -11,6 +11,7 @@ from .explain import explain
 from .lexical import TREE_NODES
 from .prompt import Prompt
 from .server import FORMS_HELP
+from .versions import VERSION
 
 
 def options(words: Optional[List[str]] = None) -> argparse.Namespace:
@@ -25,6 +26,7 @@ def options(words: Optional[List[str]] = None) -> argparse.Namespace:
     reader.add_argument("--faults", metavar="ATTRIBUTE", action="append", default=[],
                         help="an attribute that tells a fault of its node; then the command 'faults' finds all of them")
     reader.add_argument("--forms", metavar="WORDS", default="", help=FORMS_HELP)
+    reader.add_argument("--version", action="version", version=f"python -m attrd {VERSION}")
     reader.add_argument("--nodes", metavar="N", type=int, help="how many nodes the tree may have (65536, where none is given)")
     return reader.parse_args(words)
 

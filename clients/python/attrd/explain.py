@@ -5,10 +5,11 @@ import os
 from dataclasses import dataclass
 from typing import Dict, Optional, Sequence, Tuple, Union
 
-from .errors import AttrdError, GrammarFault, StartFault, SyntaxFault, TermFault
+from .errors import AttrdError, GrammarFault, StartFault
+from .file_faults import unreadable
 from .grammar import Grammar, read_file
 from .lexical import TREE_NODES
-from .terms import read_term
+from .tree_faults import fault_of_tree
 
 # For each code of the server: what is wrong, and what helps.
 SENTENCES: Dict[str, Tuple[str, str]] = {
@@ -50,7 +51,8 @@ SENTENCES: Dict[str, Tuple[str, str]] = {
             "Expressions nest at most 64 deep, 2,000 attributes may be declared, a text has at most 4,096 bytes, a file 4,194,304."),
     "J12": ("An attribute has the name of an accessor.", "Names such as getB, hasB, getNumB, equals and getChild are taken: use another one."),
     "F1": ("The file is no term.",
-           "A tree is one term without blanks, as `Add(Num(1),Num(2))`, with `[..]` for lists and `-` for an empty optional."),
+           "A tree is one term without blanks, as `Add(Num(1),Num(2))`, with `[..]` for lists and `-` for an empty optional, and at most one "
+           "newline (LF) behind it."),
     "F6": ("The tree has a class that isn't declared, or is abstract.", "Correct the name, or declare the class in the grammar."),
     "F7": ("A node doesn't fit the grammar.", "A node has a cell for each component, inherited ones first."),
     "F12": ("The tree is over a limit.", "There may be 65,536 nodes, 4,096 bytes in a token's text, and 4,194,304 in the file; `--nodes` has more nodes, and 64 bytes for each."),
@@ -59,7 +61,8 @@ SENTENCES: Dict[str, Tuple[str, str]] = {
 
 @dataclass(frozen=True)
 class Explanation:
-    """A fault that is explained. `line` and `column` count from 1; `source` is the text of the line."""
+    """A fault that is explained. `line` and `column` count from 1; `source` is the text of the line. Of a file that can't be read `code`
+    is empty, and `name` is `read fault`."""
 
     file: str
     code: str
@@ -72,7 +75,7 @@ class Explanation:
 
     def __str__(self) -> str:
         place = self.file if self.line is None else f"{self.file}:{self.line}:{self.column}"
-        told = [f"{place}: {self.code} {self.name}. {self.sentence}"]
+        told = [f"{place}: {f'{self.code} {self.name}'.strip()}. {self.sentence}"]
         if self.line is not None and self.column is not None:
             shown, caret = _window(self.source, self.column)
             told += ["    " + shown, "    " + caret]
@@ -80,6 +83,7 @@ class Explanation:
 
 
 WIDTH = 100
+READ_FAULT = ": read fault"
 
 
 def _window(source: str, column: int) -> Tuple[str, str]:
@@ -95,17 +99,21 @@ def explain(fault: Union[StartFault, GrammarFault], files: Sequence[Union[str, "
     """The fault in words. `files` are those that the program was given: the grammar first, then the tree, then aspects; and `nodes` is
     how many nodes it takes.
 
-    Of a tree, for which the server tells no place, the place is found here. Raises AttrdError where the fault isn't one of a file,
-    or the file can't be read.
+    Of a tree, for which the server tells no place, the place is found here; of a file that it can't read, why. Raises AttrdError where
+    the fault isn't one of a file.
     """
     names = [str(it) for it in files]
+    unread = _unread(fault, names)
+    if unread is not None:
+        return unread
     file = names[0] if isinstance(fault, GrammarFault) and names else getattr(fault, "file", None)
     code: Optional[str] = getattr(fault, "code", None)
     if file is None or code is None or code not in SENTENCES:
         raise AttrdError(f"this is no fault of a file: {fault}")
-    text = read_file(file).decode("utf-8", "replace")
+    data = read_file(file)
     if code.startswith("F"):
-        return _of_tree(fault, file, text, names[0] if names else None, nodes)
+        return _of_tree(fault, file, data, names[0] if names else None, nodes)
+    text = data.decode("utf-8", "replace")
     sentence, hint = SENTENCES[code]
     line, column = fault.line or 1, fault.column or 1
     lines = text.split("\n")
@@ -113,21 +121,28 @@ def explain(fault: Union[StartFault, GrammarFault], files: Sequence[Union[str, "
     return Explanation(file, code, fault.name or "", sentence, hint, line, column, source)
 
 
-def _of_tree(fault: Union[StartFault, GrammarFault], file: str, text: str, grammar: Optional[str], nodes: int) -> Explanation:
+def _unread(fault: Union[StartFault, GrammarFault], names: Sequence[str]) -> Optional[Explanation]:
+    """Why the program can't read one of its files; None where that isn't the fault."""
+    told = fault.message.splitlines() if isinstance(fault, StartFault) else []
+    file = next((it for it in names if f"{it}{READ_FAULT}" in told), None)
+    if file is None:
+        return None
+    reason = unreadable(file) or "it can be read now"
+    return Explanation(file, "", "read fault", f"{reason[0].upper()}{reason[1:]}.", "Name a file that this user may read.")
+
+
+def _of_tree(fault: Union[StartFault, GrammarFault], file: str, data: bytes, grammar: Optional[str], nodes: int) -> Explanation:
     code, name = fault.code or "", fault.name or ""
     sentence, hint = SENTENCES[code]
-    term = text[:-1] if text.endswith("\n") else text
     try:
-        tree = read_term(term)
-        if grammar is not None:
-            Grammar.load(grammar).check(tree, nodes=nodes)
-    except SyntaxFault as found:
-        line = term.count("\n", 0, found.at) + 1
-        begin = term.rfind("\n", 0, found.at) + 1
-        source = term[begin:].split("\n", 1)[0]
-        return Explanation(file, code, name, f"{sentence[:-1]}: {found.reason}.", hint, line, found.at - begin + 1, source)
-    except TermFault as found:
-        return Explanation(file, code, name, f"{sentence[:-1]}: at {found.path}, {found.reason}.", hint)
+        found = fault_of_tree(data, None if grammar is None else Grammar.load(grammar), nodes)
     except AttrdError:
-        pass
-    return Explanation(file, code, name, sentence, hint)
+        found = None
+    if found is None:
+        return Explanation(file, code, name, sentence, hint)
+    told = f"{sentence[:-1]}: {found.reason}."
+    if found.at is None:
+        return Explanation(file, code, name, told, hint)
+    text = data.decode("utf-8", "replace")
+    line, begin = text.count("\n", 0, found.at) + 1, text.rfind("\n", 0, found.at) + 1
+    return Explanation(file, code, name, told, hint, line, found.at - begin + 1, text[begin:].split("\n", 1)[0])

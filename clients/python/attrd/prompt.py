@@ -186,7 +186,7 @@ class Prompt:
             instance = self._steps[int(asked) - 1].instance
         else:
             instance = read_instance(self._with_path(asked))
-        running = Why(self.specification, tree).reason(instance)
+        running = Why(self.specification, tree).reason_with_circle(instance)
         try:
             wanted = next(running)
             while True:

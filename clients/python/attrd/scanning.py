@@ -13,6 +13,8 @@ _SIGNS = re.compile(r"::=|==|!=|<=|>=|&&|\|\||[:;*\[\]<>/.(){},=!\-+?%]")
 _NUMBER = re.compile(r"[0-9]+")
 # A text whatever its escapes are, or one that isn't closed, up to the end of its line or a semicolon.
 _ROUGH_TEXT = re.compile(r'"(?:[^"\\\n]|\\[^\n])*"|"[^;\n]*')
+# A character of Java, which is none here.
+_CHARACTER = re.compile(r"'(?:[^'\\\n]|\\.)'")
 _TEXT = re.compile(r'"(?:[^"\\\n\t]|\\["\\nt])*')
 
 
@@ -88,7 +90,8 @@ class Scan:
             return Word("other", number[0], at)
         if not text[at].isidentifier():
             self._miss(at)
-            return Word("bad", text[at], at)
+            character = _CHARACTER.match(text, at)
+            return Word("bad", character[0] if character else text[at], at)
         end = at + 1
         while end < len(text) and ("_" + text[end]).isidentifier():
             end += 1

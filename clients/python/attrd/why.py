@@ -5,7 +5,7 @@ server. What isn't evaluated, behind a decided `&&`, `||` or `? :`, isn't asked 
 """
 from __future__ import annotations
 
-from dataclasses import dataclass
+from dataclasses import dataclass, replace
 from typing import Dict, Generator, List, Mapping, NamedTuple, Optional, Tuple
 
 from . import commands
@@ -15,7 +15,7 @@ from .errors import AttrdError
 from .evaluating import Evaluation, Look, Stopped
 from .instances import read_call
 from .paths import Path
-from .replies import Answer, AskValue, Value
+from .replies import Answer, AskValue, Circular, Value
 from .terms import Node
 
 # What is done to find a reason: attributes are asked, and their answers come back.
@@ -24,6 +24,8 @@ Asking = Generator["Instance", Answer, "Reason"]
 
 # So many steps are written out.
 SHOWN = 100
+# So many attributes are gone through for a circle.
+LONGEST_CIRCLE = 1_000
 
 
 class Bounds(NamedTuple):
@@ -63,6 +65,28 @@ class Step:
 
 
 @dataclass(frozen=True)
+class Circle:
+    """Attributes of which each asks the next one, and the last one the first. `circular` are the declarations among them that say so, and
+    `others` those that don't, each once, as `Rule.nullable (names.jrag:7)`."""
+
+    instances: Tuple[Instance, ...]
+    circular: Tuple[str, ...]
+    others: Tuple[str, ...]
+
+    def __str__(self) -> str:
+        shown = [*map(str, self.instances[:SHOWN])]
+        more = [f"{len(self.instances) - SHOWN} more"] if len(self.instances) > SHOWN else []
+        return f"the circle: {' -> '.join([*shown, *more, str(self.instances[0])])}\n  {self._declared()}"
+
+    def _declared(self) -> str:
+        if not self.others:
+            return "each is declared circular: it comes back where a final value is wanted, as below one !, or to one of another start"
+        if not self.circular:
+            return f"not declared circular: {', '.join(self.others)}"
+        return f"not declared circular: {', '.join(self.others)}; declared so: {', '.join(self.circular)}"
+
+
+@dataclass(frozen=True)
 class Reason:
     """An instance with its answer, and where that comes from.
 
@@ -70,7 +94,7 @@ class Reason:
     (`names.jrag:7`); `at` is the node for which it was evaluated: for an inherited attribute the one above that has the equation.
     `bound` are its parameters and index with their values. `steps` are the attributes that it asked, in order, and
     `looks` the components of nodes that it looked at. `stopped` tells where evaluation here met a fault or a bound, or
-    is empty.
+    is empty. `circle` is that to which the answer `circular` comes back, where it was looked for and found.
     """
 
     instance: Instance
@@ -83,6 +107,7 @@ class Reason:
     steps: Tuple[Step, ...]
     stopped: str = ""
     looks: Tuple[Look, ...] = ()
+    circle: Optional[Circle] = None
 
     def __str__(self) -> str:
         lines = [f"{self.instance} {self.answer}", f"  {self.place}: {self.head} = {' '.join(self.equation.split())}"]
@@ -91,7 +116,8 @@ class Reason:
         lines += [f"  with {name} = {written(value)}" for name, value in self.bound.items()]
         lines += [f"  {number}. {step.text} {step.answer}   ({step.instance})" for number, step in enumerate(self.steps[:SHOWN], 1)]
         lines += [f"  and {len(self.steps) - SHOWN} more"] if len(self.steps) > SHOWN else []
-        return "\n".join([*lines, *([f"  {self.stopped}"] if self.stopped else [])])
+        lines += [f"  {it}" for it in (self.stopped, self.circle) if it]
+        return "\n".join(lines)
 
 
 def written(value: AskValue) -> str:
@@ -106,6 +132,42 @@ class Why:
 
     def __init__(self, specification: Specification, tree: Node) -> None:
         self.specification, self.tree = specification, tree
+
+    def reason_with_circle(self, instance: Instance) -> Asking:
+        """The reason as `reason` has it; where the answer is `circular`, with the circle. Raises NoReason."""
+        reason = yield from self.reason(instance)
+        circle = (yield from self._circle(reason)) if isinstance(reason.answer, Circular) else None
+        return replace(reason, circle=circle)
+
+    def _circle(self, reason: Reason) -> Generator[Instance, Answer, Optional[Circle]]:
+        """The circle to which an attribute leads that has no value; None where it isn't found."""
+        way: Dict[Instance, int] = {reason.instance: 0}
+        while len(way) < LONGEST_CIRCLE:
+            following = next((it.instance for it in reversed(reason.steps) if isinstance(it.answer, Circular)), None)
+            if following is None:
+                return None
+            if following in way:
+                return self._told(list(way)[way[following]:])
+            way[following] = len(way)
+            try:
+                reason = yield from self.reason(following)
+            except NoReason:
+                return None
+        return None
+
+    def _told(self, instances: List[Instance]) -> Circle:
+        declared = [placed for it in instances for placed in (self._declaration(it),) if placed is not None]
+        named = {id(it.declaration): (it.declaration.is_circular, f"{_head(it.declaration, False)} ({self._place(it)})") for it in declared}
+        circular = tuple(told for is_circular, told in named.values() if is_circular)
+        return Circle(tuple(instances), circular, tuple(told for is_circular, told in named.values() if not is_circular))
+
+    def _declaration(self, instance: Instance) -> Optional[Placed]:
+        node = self.specification.grammar.node_at(self.tree, instance.path)
+        return None if node is None else self.specification.attribute(node.name, instance.attribute)
+
+    def _place(self, placed: Placed) -> str:
+        text = self.specification.text(placed.file)
+        return f"{placed.file}:{text.count(chr(10), 0, placed.declaration.start) + 1}"
 
     def reason(self, instance: Instance, bounds: Bounds = Bounds()) -> Asking:
         """Why an instance has its value. Yields instances, and wants their answers; the first one is the instance itself.
@@ -127,7 +189,7 @@ class Why:
         except Stopped as fault:
             stopped = str(fault)
         text = self.specification.text(placed.file)
-        place = f"{placed.file}:{text.count(chr(10), 0, it.start) + 1}"
+        place = self._place(placed)
         equation, looks = text[it.body.start:it.body.end], tuple(evaluation.looks)
         return Reason(instance, answer, _head(it), equation, place, at, bound, tuple(steps), stopped, looks)
 
@@ -185,10 +247,11 @@ class Why:
         raise NoReason(f"no node above {instance.path} has an equation for {instance.attribute}")
 
 
-def _head(it: Declaration) -> str:
+def _head(it: Declaration, with_parameters: bool = True) -> str:
     getter = "" if it.getter is None else f"{it.getter.text}()."
     parameters = ", ".join(known.name.text for known in it.parameters)
-    return f"{'' if it.of is None else it.of.text}.{getter}{'' if it.name is None else it.name.text}({parameters})"
+    name = f"{'' if it.of is None else it.of.text}.{getter}{'' if it.name is None else it.name.text}"
+    return f"{name}({parameters})" if with_parameters else name
 
 
 def read_instance(text: str) -> Instance:

@@ -25,21 +25,31 @@ def calculator_grammar():
     return attrd.Grammar.load(CALCULATOR / "calc.ast")
 
 
+def page_text(name):
+    """The text of a page of the docs, or of the examples in tests/pages."""
+    page = ROOT / "docs" / name
+    return (page if page.exists() else ROOT / "tests" / "pages" / name).read_text(encoding="utf-8")
+
+
 def page_files(name):
-    """The files that a page of the docs writes, by their names: the last text of each."""
-    page = (ROOT / "docs" / name).read_text(encoding="utf-8")
-    return {it[1]: it[2] for it in re.finditer(r"^```file (\S+)\n(.*?)^```$", page, re.M | re.S)}
+    """The files that a page writes, by their names: the last text of each."""
+    return {it[1]: it[2] for it in re.finditer(r"^```file (\S+)\n(.*?)^```$", page_text(name), re.M | re.S)}
 
 
 def refused_files(page, name):
     """What a page says of files of this name: pairs of a text and what stands behind the arrow."""
-    text = (ROOT / "docs" / page).read_text(encoding="utf-8")
+    return [(text, told) for _, text, told in refused_rows(page, name)]
+
+
+def refused_rows(page, name):
+    """The same with the words of the command line: triples of these, options and files, of a text and of what stands behind the arrow."""
+    whole = page_text(page)
     found = []
-    for block in re.finditer(rf"^```refused {re.escape(name)} in [^\n]*\n(.*?)^```$", text, re.M | re.S):
+    for block in re.finditer(rf"^```refused {re.escape(name)} in ([^\n]*)\n(.*?)^```$", whole, re.M | re.S):
         lines = []
-        for line in block[1].splitlines():
+        for line in block[2].splitlines():
             if line.startswith("=> "):
-                found.append(("".join(written_out(it) + "\n" for it in lines), line[3:]))
+                found.append((block[1].split(" "), "".join(written_out(it) + "\n" for it in lines), line[3:]))
                 lines = []
             else:
                 lines.append(line)

@@ -1,11 +1,15 @@
 """Faults of files in words."""
+import errno
+import os
 import re
 import tempfile
 import unittest
 from pathlib import Path as FilePath
+from unittest import mock
 
 import attrd
 from attrd.explain import SENTENCES
+from attrd.file_faults import unreadable
 from support import CALCULATOR, PROGRAM, ROOT
 
 
@@ -55,10 +59,59 @@ class Explained(unittest.TestCase):
             attrd.Grammar.load(self.folder / "x.ast")
         self.assertEqual(attrd.explain(caught.exception, [self.folder / "x.ast"]).code, "G3")
 
+    def test_where_a_tree_file_is_no_term(self):
+        """What isn't seen is named; the place counts lines and columns from 1."""
+        term = 'Program(Block([Decl("x",Num(1))]))'
+        cases = [
+            (term + "\r\n", 1, 35, "a carriage return, as of lines that end with CRLF, stands behind the term"),
+            (term.replace("[", "[\r\n"), 1, 16, "a carriage return, as of lines that end with CRLF, stands within the term"),
+            ("\ufeff" + term, 1, 1, "a byte order mark (BOM) stands in front of the term"),
+            (term + "\n\n", 2, 1, "a second newline stands behind the term"),
+            (term + "\nx", 2, 1, "there is more behind the newline at the end"),
+            (term + " \n", 1, 35, "a blank stands behind the term"),
+            (term.replace("[", "[\t"), 1, 16, "a tab stands within the term"),
+            (term.replace("[", "[\n"), 1, 16, "a newline stands within the term"),
+            ("", 1, 1, "the file is empty"),
+        ]
+        for tree, line, column, reason in cases:
+            with self.subTest(reason):
+                (self.folder / "tree.txt").write_bytes(tree.encode())
+                found = self.explained_as_it_is()
+                place = (found.code, found.line, found.column)
+                self.assertEqual((place, found.sentence), (("F1", line, column), f"The file is no term: {reason}."))
+
+    def test_a_tree_file_that_is_no_utf_8(self):
+        (self.folder / "tree.txt").write_bytes('Program(Block([Decl("\xe4'.encode() + b'\xff",-)]))')
+        found = self.explained_as_it_is()
+        self.assertEqual((found.code, found.column, found.sentence), ("F1", 23, "The file is no term: the byte FF is no UTF-8."))
+
+    def explained_as_it_is(self):
+        files = [CALCULATOR / "calc.ast", self.folder / "tree.txt", CALCULATOR / "calc.jrag"]
+        with self.assertRaises(attrd.StartFault) as caught:
+            attrd.start(*files, program=PROGRAM)
+        return attrd.explain(caught.exception, files)
+
+    def test_files_that_cannot_be_read(self):
+        """The program tells one text for all of them; the reason is found here."""
+        self.assertIn("tree.txt: read fault. There is no such file.", str(self.explained_as_it_is()))
+        (self.folder / "tree.txt").mkdir()
+        self.assertIn("tree.txt: read fault. It is a directory.", str(self.explained_as_it_is()))
+
+    @unittest.skipIf(os.geteuid() == 0, "root may read each file")
+    def test_a_file_that_this_user_may_not_read(self):
+        (self.folder / "tree.txt").touch(0)
+        self.assertIn("read fault. This user may not read it.", str(self.explained_as_it_is()))
+
+    def test_the_reasons_of_the_system(self):
+        with mock.patch("builtins.open", side_effect=PermissionError(errno.EACCES, "Permission denied")):
+            self.assertEqual(unreadable("tree.txt"), "this user may not read it")
+        self.assertIsNone(unreadable(__file__))
+        self.assertEqual(unreadable(f"{__file__}/x"), "there is no such file")
+
     def test_no_fault_of_a_file(self):
         with self.assertRaises(attrd.StartFault) as caught:
-            attrd.start("nosuch.ast", "a", "b", program=PROGRAM)
-        self.assertRaises(attrd.AttrdError, attrd.explain, caught.exception, ["nosuch.ast"])
+            attrd.start("a", "b", "c", program=PROGRAM, options=["--keep", "0"])
+        self.assertRaises(attrd.AttrdError, attrd.explain, caught.exception, ["a", "b", "c"])
 
     def test_each_code_of_the_manual(self):
         manual = (ROOT / "docs" / "MANUAL.md").read_text(encoding="utf-8")

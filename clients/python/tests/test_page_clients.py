@@ -61,6 +61,23 @@ class Page(unittest.TestCase):
                     count += 1
             self.assertEqual(count, 5)
 
+    def test_its_faults_of_a_tree_file(self):
+        """Lines that end with CRLF, and a directory in the place of the file, are told as on the page."""
+        wanted = re.search(r"^```text\n(tree\.txt:.*?)^```$", PAGE, re.M | re.S)[1].splitlines()
+        tree = FilePath("tree.txt")
+        tree.write_bytes(tree.read_bytes().replace(b"\n", b"\r\n"))
+        first = self.told_of_the_files(1)
+        tree.unlink()
+        tree.mkdir()
+        self.assertEqual([first, self.told_of_the_files(3)], wanted)
+
+    def told_of_the_files(self, status):
+        """The first line that the prompt tells of the page's files, where it ends with that status."""
+        printed = io.StringIO()
+        with contextlib.redirect_stderr(printed):
+            self.assertEqual(main(["--program", "./attrd", "small.ast", "tree.txt", "kinds.jrag"]), status)
+        return printed.getvalue().splitlines()[0]
+
     def test_its_faults(self):
         """The command that tells all faults of `more.jrag` tells what stands below it."""
         aspect, command, wanted = re.search(r"^```text\n(aspect More \{\n.*?)^```\n\n```sh\npython -m attrd (check .*?)\n```\n\n```text\n(.*?)^```$",

@@ -21,11 +21,12 @@ def run(session, asking):
 
 
 class OverFiles(unittest.TestCase):
-    def open(self, grammar, tree, aspects):
+    def open(self, grammar, tree, aspects, forms=""):
         """A session over texts of files, and what finds reasons there."""
-        server = attrd.start(attrd.Text("x.ast", grammar), tree, *[attrd.Text(name, text) for name, text in aspects], program=PROGRAM)
+        texts = [attrd.Text(name, text) for name, text in aspects]
+        server = attrd.start(attrd.Text("x.ast", grammar), tree, *texts, program=PROGRAM, options=attrd.forms_options(forms))
         self.addCleanup(server.close)
-        specification = Specification(Source("x.ast", grammar), [Source(*it) for it in aspects])
+        specification = Specification(Source("x.ast", grammar), [Source(*it) for it in aspects], forms)
         return server.session(), Why(specification, tree)
 
 
@@ -62,6 +63,74 @@ class Reasons(OverFiles):
                 asking = self.why.reason(Instance(Path.read(path), attribute))
                 next(asking)
                 asking.send(attrd.Value("1"))
+
+
+class Circles(OverFiles):
+    """To which circle the answer `circular` comes back, and which of its attributes isn't declared circular."""
+
+    NET = "Net ::= Place*;\nPlace ::= <Name> Way*;\nWay ::= <To>;\n"
+    TREE = 'Net([Place("a",[Way("b")]),Place("b",[Way("a"),Way("b")])])'
+    ASPECT = """aspect Ways {
+  inh Place Way.named(String n);
+  eq Net.getPlace().named(String n) = first (p : getPlaceList()) { p.getName().equals(n) };
+  syn boolean Place.leads() circular [false] = exists (w : getWayList()) { w.leads() };
+  syn boolean Way.leads() = named(getTo()).opens();
+  syn boolean Place.opens() circular [false] = leads();
+  syn String Place.told() = leads() ? "yes" : "no";
+  syn int Place.far() = 1 + near();
+  syn int Place.near() = far();
+  syn boolean Place.up() circular [true] = down();
+  syn boolean Place.down() circular [false] = up();
+  syn boolean Place.is(Place p) circular [false] = !isn(p);
+  syn boolean Place.isn(Place p) circular [false] = is(p);
+  syn int Place.none() = 1 / 0;
+}
+"""
+
+    def setUp(self):
+        self.session, self.why = self.open(self.NET, read_term(self.TREE), [("net.jrag", self.ASPECT)], "circular")
+
+    def told(self, path, attribute, *arguments):
+        return run(self.session, self.why.reason_with_circle(Instance(Path.read(path), attribute, arguments)))
+
+    def test_one_that_is_not_declared(self):
+        reason = self.told("/Place:0", "leads")
+        self.assertEqual([str(it) for it in reason.circle.instances], [
+            "/Place:0.leads()", "/Place:0/Way:0.leads()", "/Place:1.opens()", "/Place:1.leads()", "/Place:1/Way:0.leads()",
+            "/Place:0.opens()"])
+        self.assertEqual(reason.circle.others, ("Way.leads (net.jrag:5)",))
+        self.assertEqual(reason.circle.circular, ("Place.leads (net.jrag:4)", "Place.opens (net.jrag:6)"))
+        self.assertEqual(str(reason).splitlines()[-1], "  not declared circular: Way.leads (net.jrag:5); declared so: "
+                                                       "Place.leads (net.jrag:4), Place.opens (net.jrag:6)")
+        self.assertTrue(str(reason).splitlines()[-2].endswith("-> /Place:0.opens() -> /Place:0.leads()"))
+
+    def test_one_that_only_leads_to_it(self):
+        """An attribute that isn't on the circle isn't one of it, whether it is declared circular or not."""
+        circle = self.told("/Place:0", "told").circle
+        self.assertEqual(str(circle.instances[0]), "/Place:0.leads()")
+        self.assertEqual(circle.others, ("Way.leads (net.jrag:5)",))
+
+    def test_none_and_all(self):
+        self.assertEqual(self.told("/Place:0", "far").circle.others, ("Place.far (net.jrag:8)", "Place.near (net.jrag:9)"))
+        for attribute, arguments in (("up", ()), ("is", (Path.read("/Place:1"),))):
+            reason = self.told("/Place:0", attribute, *arguments)
+            self.assertEqual((len(reason.circle.instances), reason.circle.others), (2, ()), attribute)
+            self.assertIn("each is declared circular: it comes back where a final value is wanted", str(reason))
+
+    def test_no_circle(self):
+        self.assertIsNone(self.told("/Place:0", "none").circle)
+        self.assertIsNone(run(self.session, self.why.reason(Instance(Path.read("/Place:0"), "far"))).circle)
+
+    def test_the_house_of_the_manual(self):
+        """`by()` goes round by way of `plain()`, which isn't declared circular, as the page says."""
+        files = page_files("MANUAL.md")
+        tree, aspects = read_term(files["house.txt"].strip()), [("house.jrag", files["house.jrag"])]
+        session, why = self.open(files["house.ast"], tree, aspects, "circular")
+        line = [it.strip() for it in files["house.jrag"].splitlines()].index("syn boolean Room.plain() = by();") + 1
+        circle = run(session, why.reason_with_circle(Instance(Path.read("/Room:0"), "by"))).circle
+        self.assertEqual([str(it) for it in circle.instances], ["/Room:0.by()", "/Room:0.plain()"])
+        self.assertEqual(circle.others, (f"Room.plain (house.jrag:{line})",))
+        self.assertEqual(run(session, why.reason_with_circle(Instance(Path.read("/Room:0"), "not"))).circle.others, ())
 
 
 class Evaluated(OverFiles):

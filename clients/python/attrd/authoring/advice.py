@@ -8,35 +8,52 @@ from typing import Iterable, List, Optional
 from ..errors import GrammarFault
 from ..explain import SENTENCES
 from ..grammar import Part, Shape
+from ..scanning import Scan
 from .aspect_tree import Declaration, Expression, Form
 from .finding import Finding
+from .hints import Hints
 from .mending import Refused
 from .reaching import classes_without, way_without
-from .specification import Placed, Specification
-from .ways import way_round, way_round_at
+from .specification import NODES, Placed, Specification, is_java_kind
+from .ways import section
 
 _WORD = re.compile(r"\w+|\S|\Z")
+# What a call of Java names: a package, a class and a method.
+_CALLED = re.compile(r"[\w\s]+(\.[\w\s]+)+\(")
 SHOWN = 8
+# What a form is that its first word doesn't name.
+NOUNS = {"method": "a method", "field": "a field", "constructor": "a constructor", "class": "a class of Java",
+         "contributes": "a contribution", "implements": "an interface of a class", "local": "a local variable", "statement": "a statement",
+         "return": "a second statement", "index": "an index of all components"}
+# What is said of a piece at which no aspect goes on; `{}` is the piece.
+PIECES = {"kind": "`{}` is a type of Java.", "parameter kind": "`{}` is a type of Java.", "new": "`{}` would make something.",
+          "field of Java": "`{}` is Java.", "reserved": "`{}` is a reserved word.", "word": "`{}` is no word and no sign here.",
+          "circular misplaced": "`circular` doesn't stand here.", "modifier": "`{}` doesn't stand here.",
+          "circular": "`circular` goes on with its start between brackets.",
+          "circular start": "`circular` goes on with its start between brackets."}
 
 
 class Advice:
     """Findings of faults, over what the grammar and the aspects declare."""
 
     def __init__(self, specification: Specification) -> None:
-        self.specification = specification
+        self.specification, self.hints = specification, Hints(specification)
 
     def of_grammar(self, fault: GrammarFault, start: int) -> Finding:
         """The finding of a fault of the grammar, at an offset of its text."""
         text = self.specification.grammar_file.text
         word = _word(text, start)
-        sentence, hint = SENTENCES[fault.code]
+        sentence = SENTENCES[fault.code][0]
         if fault.code == "G3":
             sentence = f"There is no class {word}. {self._near(word, self.specification.classes)}"
-        elif fault.code == "G2" and word in self.specification.classes:
-            sentence = f"The class {word} is declared already, at {self._line(self.specification.grammar_file.name, self.specification.classes[word].name.at)}."
+        elif fault.code == "G2" and word in self.specification.classes and word not in NODES:
+            place = self._line(self.specification.grammar_file.name, self.specification.classes[word].name.at)
+            sentence = f"The class {word} is declared already, at {place}."
         elif fault.code == "G1":
             sentence = f"No grammar goes on with {_shown(word)} here."
-        return Finding(self.specification.grammar_file.name, fault.code, fault.name, fault.line, fault.column, start, start + len(word), sentence.strip(), hint)
+        way = self.hints.of_grammar(fault.code, word)
+        return Finding(self.specification.grammar_file.name, fault.code, fault.name, fault.line, fault.column, start, start + len(word),
+                       sentence.strip(), way.hint, section(way.section))
 
     def of_aspects(self, refused: Refused) -> Finding:
         """The finding of a fault of the aspects."""
@@ -45,25 +62,16 @@ class Advice:
         end = refused.expression.end if refused.expression is not None else refused.offset + len(word)
         start = text.rfind("\n", 0, refused.offset) + 1
         line = text.count("\n", 0, refused.offset) + 1
-        sentence, hint = SENTENCES[refused.code]
-        message = self._message(refused, word) or sentence
-        return Finding(file, refused.code, refused.name, line, refused.offset - start + 1, refused.offset, end, message, self._hint(refused, text, hint))
+        message = self._message(refused, text, word) or SENTENCES[refused.code][0]
+        way, column = self.hints.of_aspects(refused, text, word), refused.offset - start + 1
+        return Finding(file, refused.code, refused.name, line, column, refused.offset, end, message, way.hint, section(way.section))
 
-    def _hint(self, refused: Refused, text: str, hint: str) -> str:
-        if refused.code == "J10":
-            return way_round_at(text, refused.offset)
-        if refused.code == "J1":
-            return way_round(_word(text, refused.offset)) or hint
-        if refused.code == "J3" and refused.expression is not None:
-            return way_round(refused.expression.word.text) or hint
-        return hint
-
-    def _message(self, refused: Refused, word: str) -> Optional[str]:
+    def _message(self, refused: Refused, text: str, word: str) -> Optional[str]:
         it = refused.declaration
-        if refused.code == "J1":
-            return f"No aspect goes on with {_shown(word)} here."
         if refused.code == "J10":
-            return f"{_shown(word)} begins a form that is left out here."
+            return self._of_form(refused, text, word)
+        if refused.code == "J1":
+            return self._of_piece(refused, text) or f"No aspect goes on with {_shown(word)} here."
         if it is None:
             return None
         if refused.code in ("J3", "J4", "J5"):
@@ -71,15 +79,40 @@ class Advice:
             return self._of_head(refused, it, word) if expression is None else self._of_expression(refused.code, expression, it)
         return self._of_declaration(refused, it)
 
+    def _of_form(self, refused: Refused, text: str, word: str) -> str:
+        """What is said of a form that is left out; of a body of statements, also what else it asks that isn't there."""
+        noun = NOUNS.get(refused.sort)
+        told = f"{_shown(word)} begins a form that is left out here{f': {noun}' if noun else ''}."
+        piece = self.hints.piece(refused)
+        if piece is None or piece.plain is not None:
+            return told
+        missing = [it for it in _asked(text[piece.start:piece.end]) if not self._is_somewhere(it)]
+        return f"{told} The body asks {_listed(missing)}, too: there is no such accessor." if missing else told
+
+    def _is_somewhere(self, name: str) -> bool:
+        known = self.specification
+        return name in known.attribute_names or any(name in known.accessors(it) for it in known.classes)
+
+    def _of_piece(self, refused: Refused, text: str) -> Optional[str]:
+        said = PIECES.get(refused.sort)
+        piece = self.hints.piece(refused)
+        shown = _word(text, refused.offset) if piece is None else text[piece.start:piece.end]
+        if piece is not None and piece.sort == "field of Java" and not _CALLED.match(shown):
+            shown = text[piece.start:piece.reach].strip()
+        else:
+            shown = shown.split("(")[0].strip()
+        return None if said is None else said.format(shown)
+
     def _of_declaration(self, refused: Refused, it: Declaration) -> Optional[str]:
         if it.name is None or it.of is None:
             return None
         name, of = it.name.text, it.of.text
         if refused.code == "J7":
             without = classes_without(self.specification, it)
-            return f"{_listed(without)} {'comes' if len(without) == 1 else 'come'} to no equation for {name}."
+            return f"{_listed(without)} {'comes' if len(without) == 1 else 'come'} to no equation for {name}." if without else None
         if refused.code == "J8":
-            return f"A node can stand without an equation for {name} above it: {way_without(self.specification, it)}."
+            way = way_without(self.specification, it)
+            return f"A node can stand without an equation for {name} above it{f': {way}' if way else ''}."
         if refused.code == "J9" and it.getter is not None:
             inherited = {known for known in self.specification.attribute_names if self.specification.named(known)[0].declaration.form == "inh"}
             return f"No class has an inherited attribute {name}. {self._near(name, inherited)}".strip()
@@ -94,19 +127,12 @@ class Advice:
 
     def _of_twice(self, refused: Refused, it: Declaration) -> Optional[str]:
         """Where the earlier declaration or equation of the same stands."""
-        for placed in self.specification.declarations:
-            other = placed.declaration
-            if other is it:
-                return None
-            if _heads(other) == _heads(it) or (refused.code == "J2" and other.is_declaring and other.name is not None
-                                               and it.name is not None and other.name.text == it.name.text and self._is_related(other, it)):
-                return f"It stands already at {self._line(placed.file, other.start)}."
-        return None
-
-    def _is_related(self, other: Declaration, it: Declaration) -> bool:
-        assert other.of is not None and it.of is not None
-        grammar = self.specification.grammar
-        return other.form != it.form or grammar.is_below(other.of.text, it.of.text) or grammar.is_below(it.of.text, other.of.text)
+        other = self.hints.earlier(refused.code, it)
+        if other is None:
+            return None
+        form = other.declaration.form
+        as_form = f", as `{form}`" if refused.code == "J2" and form != it.form and form in ("syn", "inh") else ""
+        return f"It stands already at {self._line(other.file, other.declaration.start)}{as_form}."
 
     def _of_head(self, refused: Refused, it: Declaration, word: str) -> Optional[str]:
         if refused.code == "J5":
@@ -117,7 +143,7 @@ class Advice:
         if it.index is not None and word == it.index.text:
             return f"{word} stands for the index of an element, and {it.getter.text if it.getter else 'it'} is no list."
         if refused.code == "J3":
-            return f"There is no class {word}. {self._near(word, self.specification.classes)}".strip()
+            return f"There is no class {word}. {'' if word in NODES else self._near(word, self.specification.classes)}".strip()
         return None
 
     def _parts(self, of: str) -> List[Part]:
@@ -131,16 +157,33 @@ class Advice:
         return f"The attribute is declared as {self._head(named[0])}." if named else None
 
     def _of_expression(self, code: str, expression: Expression, it: Declaration) -> Optional[str]:
+        unbound = self.hints.unbound(expression, it)
+        if unbound is not None:
+            return self._of_unbound(unbound, it)
+        calls = sorted((made for made in expression.all() if made.form is Form.CALL), key=lambda made: made.end)
+        of_java = [made for made in calls if self.hints.is_of_java(made, it)]
+        if of_java:
+            return self._of_call("J3", of_java[0], it)
         if code == "J4":
             return self._of_kind(expression, it)
+        if code == "J5" and not calls:
+            kind = self.specification.kind_of(expression, it)
+            return None if kind is None else f"This is {_article(kind)}, and no argument of this kind is taken here."
         word = expression.word.text
-        if expression.form is Form.NAME:
-            return f"No name {word} is bound here. {self._near(word, [known.name.text for known in expression.bound])}".strip()
         if expression.form in (Form.CAST, Form.INSTANCE) and word not in self.specification.classes:
             return f"There is no class {word}. {self._near(word, self.specification.classes)}".strip()
-        calls = sorted((made for made in expression.all() if made.form is Form.CALL), key=lambda made: made.end)
         unknown = [made for made in calls if code == "J3" and self._is_unknown(made, it)]
         return self._of_call(code, (unknown or calls[-1:])[0], it) if calls else None
+
+    def _of_unbound(self, name: Expression, it: Declaration) -> str:
+        """What is said of a name that is none: with a call behind it that of a class of Java, or `super`."""
+        word = name.word.text
+        call = next((made for made in it.made if made.form is Form.CALL and made.receiver is name), None)
+        if call is not None and word == "super":
+            return f"There is no `super` here, and so no `super.{call.word.text}`."
+        if call is not None and word[:1].isupper():
+            return f"`{word}.{call.word.text}` is Java: no name {word} is bound here."
+        return f"No name {word} is bound here. {self._near(word, [known.name.text for known in name.bound])}".strip()
 
     def _is_unknown(self, call: Expression, it: Declaration) -> bool:
         """Whether a call is of what its receiver hasn't, where the receiver's class is known."""
@@ -149,10 +192,14 @@ class Advice:
             and self.specification.attribute(of, name) is None
 
     def _of_kind(self, expression: Expression, it: Declaration) -> Optional[str]:
-        kinds = [self.specification.kind_of(part, it) for part in expression.parts]
+        whole = self.hints.operation(expression, it)
+        kinds = [self.specification.kind_of(part, it) for part in whole.parts]
         kind = self.specification.kind_of(expression, it)
-        if expression.form is Form.BINARY and len(kinds) == 2 and kinds[0] and kinds[1] and not _fit(expression.word.text, *kinds):
-            return f"`{expression.word.text}` doesn't stand between {_article(kinds[0])} and {_article(kinds[1])}."
+        if whole.form is Form.BINARY and len(kinds) == 2 and kinds[0] and kinds[1] and not _fit(whole.word.text, *kinds):
+            return f"`{whole.word.text}` doesn't stand between {_article(kinds[0])} and {_article(kinds[1])}."
+        of_text = next((made for made in expression.all() if self.hints.is_of_text(made, it)), None)
+        if of_text is not None:
+            return f"A String has no {of_text.word.text}."
         if expression is it.body and it.kind is not None and kind is not None:
             return f"This is {_article(kind)}, and {_article(it.kind.text)} is wanted."
         return None if kind is None else f"This is {_article(kind)}, and another kind is wanted here."
@@ -164,6 +211,8 @@ class Advice:
         if code == "J5":
             known = self.specification.attribute(of, name)
             return None if known is None else f"The attribute is declared as {self._head(known)}."
+        if is_java_kind(of):
+            return f"`{of}` is a type of Java, and nothing is asked of it here: there is no {name}."
         if of not in self.specification.grammar:
             return f"{_article(of).capitalize()} has no {name}."
         return f"{of} has no attribute or accessor {name}. {self._near(name, [*self.specification.accessors(of), *self._attributes(of)])}".strip()
@@ -189,15 +238,16 @@ class Advice:
         return f"There is {_listed(shown)}{f', and {more} more' if more > 0 else ''}." if shown else ""
 
 
-def _heads(it: Declaration) -> List[Optional[str]]:
-    """What a declaration is for: equations of equal heads are for the same."""
-    form = "syn" if it.form in ("syn", "eq") and it.getter is None and it.body is not None else it.form
-    return [form, *(None if word is None else word.text for word in (it.of, it.getter, it.name))]
-
-
 def _smallest(it: Declaration, offset: int) -> Optional[Expression]:
     """The smallest expression that begins at an offset."""
     return next((made for made in sorted(it.made, key=lambda made: made.end) if made.start == offset), None)
+
+
+def _asked(text: str) -> List[str]:
+    """The names that a text of Java asks as accessors are named, each once."""
+    words = Scan(text, is_lenient=True).words()
+    found = [it.text for it, behind in zip(words, words[1:]) if behind.text == "(" and re.match(r"(get|has)[A-Z]", it.text)]
+    return list(dict.fromkeys(found))
 
 
 def _fit(sign: str, left: Optional[str], right: Optional[str]) -> bool:

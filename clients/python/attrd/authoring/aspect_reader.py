@@ -1,14 +1,13 @@
 """Reads `.jrag` texts, as far as that is possible: a declaration that can't be read ends where the next one begins."""
 from __future__ import annotations
 
-from typing import List, Optional, Sequence, Tuple
+from typing import List, Optional, Tuple
 
 from ..errors import GrammarFault
-from ..scanning import Scan, Word, WordReader
-from .aspect_tree import Binding, Declaration, Expression, Form
+from ..scanning import Scan, Word
+from .aspect_tree import Binding, Declaration, Expression, Form, Piece
+from .java_reader import BEGINNINGS, MODIFIERS, JavaReader
 
-BEGINNINGS = ("syn", "inh", "eq", "aspect")
-KINDS = ("int", "boolean", "String")
 FOLDS = ("exists", "first", "sum")
 # Operators that lean to the left, from the weakest row to the strongest; `instanceof` stands in the row of `<`.
 ROWS: Tuple[Tuple[str, ...], ...] = (("||",), ("&&",), ("==", "!="), ("<", "<=", ">", ">=", "instanceof"), ("+", "-"), ("*", "/", "%"))
@@ -16,7 +15,7 @@ ROWS: Tuple[Tuple[str, ...], ...] = (("||",), ("&&",), ("==", "!="), ("<", "<=",
 BEHIND_CAST = (("sign", "("), ("reserved", "this"), ("reserved", "null"), *(("reserved", it) for it in FOLDS))
 
 
-class AspectReader(WordReader):
+class AspectReader(JavaReader):
     """Reads the declarations of a file; with the forms that are read, which are left out else, as `circular`, with commas between them."""
 
     def __init__(self, text: str, forms: str = "") -> None:
@@ -24,9 +23,10 @@ class AspectReader(WordReader):
         self.forms = forms.split(",")
         self.bound: Tuple[Binding, ...] = ()
         self.made: List[Expression] = []
+        self.pieces: List[Piece] = []
 
     def file(self) -> List[Declaration]:
-        """All declarations, and stretches of the form `other` for what is none."""
+        """All declarations, those that this profile doesn't take among them."""
         found: List[Declaration] = []
         while self.next.kind != "end":
             if self.take("reserved", "aspect"):
@@ -37,79 +37,118 @@ class AspectReader(WordReader):
         return found
 
     def declaration(self) -> Declaration:
-        """The next declaration. What isn't whole ends before the next word with which one may begin."""
+        """The next declaration. What isn't whole ends where it ends in JastAdd2, or before the next word with which one may begin."""
         first, begun = self.next, self.at
         declared = Declaration(first.text if first.text in BEGINNINGS and first.kind == "reserved" else "other", first.at)
-        self.bound, self.made = (), declared.made
+        self.bound, self.made, self.pieces = (), declared.made, declared.pieces
+        declared.sort = self.sort() if declared.form == "other" else ""
         try:
-            if declared.form == "other":
-                self.refinement()
-            self.at += 1
-            self.equation(declared) if declared.form == "eq" else self.attribute(declared)
-            declared.is_whole = True
+            self._read(declared)
+            declared.is_whole = declared.form != "other"
         except (GrammarFault, RecursionError):
-            self.at = max(self.at, begun + 1)
-            self.pass_over(self.words[begun:self.at])
+            pass
+        if not declared.is_whole:
+            self.at = max(self.end_of(begun, declared.sort == "contributes"), begun + 1)
         declared.end = self.words[self.at - 1].end
         return declared
 
-    def refinement(self) -> None:
-        """Passes over `refine ASPECT eq ..`, of which the equation is no declaration of its own. Raises GrammarFault."""
-        self.want("name", "refine")
-        self.take("name")
-        self.want("reserved", "eq")
-        self.equation(Declaration("other", self.next.at))
-        raise self.fault()
+    def _read(self, declared: Declaration) -> None:
+        if declared.form == "other":
+            if declared.sort in ("method", "coll"):
+                self.member(declared)
+            return
+        self.at += 1
+        self.equation(declared) if declared.form == "eq" else self.attribute(declared)
 
-    def pass_over(self, read: Sequence[Word]) -> None:
-        """Goes to the next declaration, or to the brace that closes the aspect; `read` are the words of the declaration so far."""
-        depth = sum({"{": 1, "}": -1}.get(it.text, 0) for it in read if it.kind == "sign")
-        while self.next.kind != "end" and not (self.next.kind == "reserved" and self.next.text in BEGINNINGS):
-            if self.next.kind == "sign" and self.next.text in "{}":
-                depth += 1 if self.next.text == "{" else -1
-                if depth < 0:
-                    return
-            self.at += 1
-
-    def attribute(self, declared: Declaration) -> None:
-        self.left_out(declared, "nta")
-        self.take("reserved", "lazy")
-        self.left_out(declared, "nta")
-        declared.kind = self.kind()
+    def member(self, declared: Declaration) -> None:
+        """The head of a method or of a collection attribute, which might be that of an attribute. Raises GrammarFault."""
+        self.at = self._behind_modifiers(self.at + (declared.sort == "coll"))
+        self._angles()
+        declared.kind = self.kind("kind")
         declared.of = self.want("name")
         self.want("sign", ".")
-        declared.name = self.want("name")
+        declared.name = self.attribute_name()
         self.parameters(declared)
-        self.left_out(declared, "circular")
+
+    def attribute(self, declared: Declaration) -> None:
+        self.front()
+        declared.kind = self.kind("kind")
+        declared.of = self.want("name")
+        self.want("sign", ".")
+        declared.name = self.attribute_name()
+        self.parameters(declared)
+        self.circular(declared)
         if not self.take("sign", ";"):
             self.body(declared)
 
-    def left_out(self, declared: Declaration, word: str) -> None:
-        """Passes over a word that is left out here, if its form isn't read, with what stands between brackets behind it."""
-        found = self.take("reserved", word)
-        if found is not None:
-            if self.take("sign", "["):
-                self.expression()
-                self.want("sign", "]")
-            if word not in self.forms:
-                declared.left_out.append((found.at, self.words[self.at - 1].end))
+    def front(self) -> None:
+        """Passes over the words between `syn` or `inh` and the kind."""
+        is_lazy = False
+        while True:
+            word, following = self.next, self.word(self.at + 1)
+            if self.take("reserved", "nta"):
+                self.left_out(word, "nta")
+            elif self.take("reserved", "circular"):
+                self.pass_brackets("[", "]")
+                self.left_out(word, "circular misplaced")
+            elif self.take("reserved", "lazy"):
+                if is_lazy:
+                    self.left_out(word, "modifier")
+                is_lazy = True
+            elif word.text in MODIFIERS and following.kind in ("name", "reserved"):
+                self.at += 1
+                self.left_out(word, "modifier")
+            else:
+                return
+
+    def left_out(self, first: Word, sort: str, plain: Optional[str] = " ", reach: int = 0) -> None:
+        """Notes that what stands from a word up to here isn't taken."""
+        self.pieces.append(Piece(first.at, self.words[self.at - 1].end, sort, plain, reach))
+
+    def circular(self, declared: Declaration) -> None:
+        """Passes over `circular [..]`, which isn't taken unless it is read, the kind is boolean, and it starts from a constant."""
+        first = self.next
+        if not self.take("reserved", "circular"):
+            return
+        declared.is_circular, begun = True, self.at
+        self.pass_brackets("[", "]")
+        is_boolean = declared.kind is not None and declared.kind.text == "boolean"
+        is_read = "circular" in self.forms and is_boolean
+        start = [it.text for it in self.words[begun + 1:self.at - 1]]
+        if not is_read or start not in (["true"], ["false"]):
+            self.left_out(first, "circular start" if is_read else "circular", "circular [false]" if is_read else " ", self.next.at)
+        while self.next.text == "circular":
+            first = self.next
+            self.at += 1
+            self.pass_brackets("[", "]")
+            self.left_out(first, "circular misplaced")
 
     def equation(self, declared: Declaration) -> None:
         declared.of = self.want("name")
         self.want("sign", ".")
-        declared.name = self.want("name")
-        if self.words[self.at].text == "(" and self._is_for_component():
+        if self.word(self.at + 1).text == "(" and self._is_for_component():
+            declared.getter = self.want("name")
             self.want("sign", "(")
-            declared.getter, declared.name = declared.name, None
-            if self.take("reserved", "int"):
-                declared.index = self.want("name")
+            self.index(declared)
             self.want("sign", ")")
             self.want("sign", ".")
-            declared.name = self.want("name")
-            if declared.index is not None:
-                self.bound += (Binding(declared.index),)
+        declared.name = self.attribute_name()
         self.parameters(declared)
+        if self.next.text == "circular":
+            first = self.next
+            self.at += 1
+            self.pass_brackets("[", "]")
+            self.left_out(first, "circular misplaced")
         self.body(declared)
+
+    def index(self, declared: Declaration) -> None:
+        """The name of an index; none is taken where the equation is for all components."""
+        first = self.next
+        if self.take("reserved", "int"):
+            declared.index = self.want("name")
+            self.bound += (Binding(declared.index),)
+            if declared.getter is not None and declared.getter.text == "getChild":
+                self.left_out(first, "index", "")
 
     def _is_for_component(self) -> bool:
         at = self.at
@@ -117,30 +156,56 @@ class AspectReader(WordReader):
             at += 1
         return self.words[at].text == ")" and at + 1 < len(self.words) and self.words[at + 1].text == "."
 
+    def attribute_name(self) -> Word:
+        """The name of an attribute; one that is a reserved word isn't taken."""
+        word = self.next
+        if word.text in FOLDS and word.kind == "reserved" and self.word(self.at + 1).text == "(":
+            self.at += 1
+            self.left_out(word, "reserved", f"{word.text}__")
+            return word
+        return self.want("name")
+
     def parameters(self, declared: Declaration) -> None:
         self.want("sign", "(")
         while not self.take("sign", ")"):
             if declared.parameters:
                 self.want("sign", ",")
-            kind = self.kind()
+            word = self.next
+            if self.take("name", "final"):
+                self.left_out(word, "modifier")
+            kind = self.kind("parameter kind")
             declared.parameters.append(Binding(self.want("name"), kind))
         declared.parameters_end = self.words[self.at - 1].end
         self.bound += tuple(declared.parameters)
 
-    def kind(self) -> Word:
-        """A kind: int, boolean, String or the name of a class."""
-        return self.take("reserved", *KINDS) or self.want("name")
+    def kind(self, sort: str) -> Word:
+        """A kind: int, boolean, String or the name of a class. A type of Java isn't taken. Raises GrammarFault where none stands here."""
+        first = self.next
+        found = self.java_kind()
+        if found is None:
+            raise self.fault()
+        if found.kind == "java":
+            self.left_out(first, sort, "boolean" if sort == "kind" else "String")
+        return found
 
     def body(self, declared: Declaration) -> None:
+        begun, first = self.at, self.next
         if self.take("sign", "="):
             declared.body = self.expression()
             self.want("sign", ";")
-        else:
-            self.want("sign", "{")
-            self.want("reserved", "return")
-            declared.body = self.expression()
+            return
+        self.want("sign", "{")
+        if self.take("reserved", "return"):
+            body = self.expression()
             self.want("sign", ";")
-            self.want("sign", "}")
+            if self.take("sign", "}"):
+                declared.body = body
+                return
+        sort = self.statement()
+        self.at = self.end_of(begun)
+        if self.words[self.at - 1].text != "}" or self.at - 1 == begun:
+            raise self.fault()
+        self.left_out(first, sort, None)
 
     def make(self, form: Form, start: int, word: Word, parts: List[Expression], has_receiver: bool = False) -> Expression:
         """An expression that ends behind the last word that was read."""
@@ -200,7 +265,7 @@ class AspectReader(WordReader):
         if self.take("reserved", "true", "false", "null", "this"):
             return self.make(Form.CONSTANT, word.at, word, [])
         if self.take("reserved", *FOLDS):
-            return self.fold(word)
+            return self.fold(word) if self.word(self.at + 2).text == ":" or self.next.text != "(" else self.reserved_call(word)
         if self.take("sign", "("):
             inner = self.expression()
             self.want("sign", ")")
@@ -208,13 +273,45 @@ class AspectReader(WordReader):
         self.want("name")
         if self.next.text == "(":
             return self.call(word.at, word, [])
+        if word.text == "new" and self.next.kind in ("name", "reserved"):
+            return self.creation(word)
         return self.make(Form.NAME, word.at, word, [])
 
+    def creation(self, word: Word) -> Expression:
+        """What is made by `new`, which isn't taken."""
+        self.java_kind()
+        for opening, closing in (("(", ")"), ("[", "]"), ("{", "}")):
+            self.pass_brackets(opening, closing)
+        self.left_out(word, "new", "null")
+        return self.make(Form.CONSTANT, word.at, Word("reserved", "null", word.at), [])
+
     def calls(self, receiver: Expression) -> Expression:
-        """The receiver with all calls behind it."""
+        """The receiver with all calls behind it. A field of Java isn't taken, and neither is what it stands in."""
+        null, behind_field = Word("reserved", "null", receiver.start), 0
         while self.take("sign", "."):
-            receiver = self.call(receiver.start, self.want("name"), [receiver])
+            name = self.call_name()
+            if self.next.text == "(" or self.next.kind == "end":
+                receiver = self.call(receiver.start, name, [receiver])
+            else:
+                behind_field = behind_field or self.next.at
+                receiver = self.make(Form.CONSTANT, receiver.start, null, [])
+        if behind_field:
+            self.left_out(null, "field of Java", None, behind_field)
+            return self.make(Form.CONSTANT, receiver.start, null, [])
         return receiver
+
+    def call_name(self) -> Word:
+        """The name of a call; one that is a reserved word isn't taken."""
+        word = self.next
+        if self.take("reserved", *FOLDS):
+            self.left_out(word, "reserved", f"{word.text}__")
+            return word
+        return self.want("name")
+
+    def reserved_call(self, word: Word) -> Expression:
+        """A call of what can't be an attribute, since its name is reserved."""
+        self.left_out(word, "reserved", f"{word.text}__", self.word(self.at + 1).end)
+        return self.call(word.at, word, [])
 
     def call(self, start: int, word: Word, parts: List[Expression]) -> Expression:
         has_receiver = bool(parts)

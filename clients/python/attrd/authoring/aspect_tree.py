@@ -68,11 +68,29 @@ class Expression:
 
 
 @dataclass(eq=False)
+class Piece:
+    """A stretch of a declaration that isn't taken, from `start` to before `end`, and `sort` says what it is. `plain` may stand in its
+    place; where it is None, something of the declaration's kind may. The program tells the fault at an offset up to `reach`.
+    """
+
+    start: int
+    end: int
+    sort: str
+    plain: Optional[str] = " "
+    reach: int = 0
+
+    def __post_init__(self) -> None:
+        self.reach = max(self.reach, self.end)
+
+
+@dataclass(eq=False)
 class Declaration:
     """A declaration, as far as it could be read, from `start` to before `end`. `form` is syn, inh, eq or other.
 
     `of` is its class and `name` its attribute; an equation for a component has its accessor in `getter` (`getStmt`), and perhaps the
-    name of an `index`. `left_out` are stretches that this profile leaves out (`circular [..]`, `nta`). `made` are all expressions that were read, whole ones and those of what could not be read to its end.
+    name of an `index`. `is_circular` is whether it says `circular [..]`. `pieces` are stretches that this profile leaves out
+    (`circular [..]`, `nta`, types of Java). `made` are all expressions that were read, whole ones and those of what could not be read to
+    its end. Of the form other, `sort` says what it is in JastAdd2: method, field, coll and the like, or nothing where that isn't known.
     """
 
     form: str
@@ -87,10 +105,12 @@ class Declaration:
     parameters: List[Binding] = field(default_factory=list)
     parameters_end: int = 0
     body: Optional[Expression] = None
-    left_out: List[Tuple[int, int]] = field(default_factory=list)
+    is_circular: bool = False
+    pieces: List[Piece] = field(default_factory=list)
     made: List[Expression] = field(default_factory=list)
+    sort: str = ""
 
     @property
     def is_declaring(self) -> bool:
-        """Whether it declares an attribute."""
-        return self.form in ("syn", "inh") and self.name is not None and self.of is not None
+        """Whether it declares an attribute, or what may stand for one: a method, or a collection attribute."""
+        return (self.form in ("syn", "inh") or self.sort in ("method", "coll")) and self.name is not None and self.of is not None

@@ -32,7 +32,7 @@ def checking(grammar: Source, aspects: Sequence[Source], program: str = "attrd",
 
     Raises AttrdError where the program can't be started, or doesn't know a form.
     """
-    specification = Specification(grammar, aspects, forms)
+    specification = Specification(grammar, aspects, forms).with_any_node()
     found = [_of_grammar(specification, it) for it in specification.whole.faults]
     found.sort(key=lambda it: it.start)
     if specification.whole.grammar is None:

@@ -4,8 +4,9 @@ from __future__ import annotations
 import re
 from typing import Dict, List, Optional, Tuple
 
-from .aspect_reader import KINDS, read_aspects
+from .aspect_reader import read_aspects
 from .aspect_tree import Declaration, Expression, Form
+from .java_reader import KINDS
 from .specification import Source, Specification
 
 _BEGUN = re.compile(r"\w*\Z")

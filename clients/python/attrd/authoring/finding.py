@@ -8,7 +8,8 @@ from dataclasses import dataclass
 class Finding:
     """A fault at a place of a file: `line` and `column` count from 1, `start` and `end` are offsets in its text.
 
-    `code` and `name` are the server's, `message` says what is wrong here and what is there instead, `hint` how to go on.
+    `code` and `name` are the server's, `message` says what is wrong here and what is there instead, `hint` how to go on. `section` is the
+    heading of the section of docs/FROM_JASTADD.md that says what to write instead; it is empty where none does.
     """
 
     file: str
@@ -20,6 +21,8 @@ class Finding:
     end: int
     message: str
     hint: str
+    section: str = ""
 
     def __str__(self) -> str:
-        return f"{self.file}:{self.line}:{self.column}: {self.code} {self.name}. {self.message}\n    {self.hint}"
+        told = f"{self.file}:{self.line}:{self.column}: {self.code} {self.name}. {self.message}\n    {self.hint}"
+        return f"{told}\n    docs/FROM_JASTADD.md, {self.section}" if self.section else told

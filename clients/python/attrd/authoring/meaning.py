@@ -7,8 +7,8 @@ from typing import Iterator, List, NamedTuple, Optional, Tuple
 
 from ..grammar import Shape
 from ..scanning import Word
-from .aspect_reader import KINDS
 from .aspect_tree import Binding, Declaration, Expression, Form
+from .java_reader import KINDS
 from .specification import Placed, Specification
 
 # What a name means: a class, a component of a class, an attribute, or a name that is bound in one declaration.

@@ -1,7 +1,7 @@
 """Which classes come to no equation for an attribute, and by which way of components."""
 from __future__ import annotations
 
-from typing import Dict, List, Optional, Set
+from typing import Dict, Iterable, List, Optional, Set
 
 from ..grammar import Shape
 from .aspect_tree import Declaration
@@ -17,11 +17,13 @@ def classes_without(specification: Specification, attribute: Declaration) -> Lis
     return [it for it in grammar.concrete_below(attribute.of.text) if not given.intersection(grammar.ancestors(it))]
 
 
-def way_without(specification: Specification, attribute: Declaration) -> str:
-    """A way from the root to a class that has an inherited attribute, through components for which no equation stands; the root's
-    name alone where the root itself has it, and empty where there is none."""
+def way_without(specification: Specification, attribute: Declaration, given: Iterable[str] = ()) -> str:
+    """A way from the root to a class that has an inherited attribute, through components for which no equation stands, and through none of
+    the classes that are `given`; the root's name alone where the root itself has it, and empty where there is none."""
     grammar = specification.grammar
     equated = _equated(specification, attribute)
+    for name in given:
+        equated.setdefault(name, set()).add("getChild")
     before: Dict[str, Optional[str]] = {it: None for it in grammar.concrete_below(grammar.start)}
     left = list(before)
     for name in left:

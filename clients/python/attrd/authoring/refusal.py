@@ -7,6 +7,13 @@ from typing import List, NamedTuple, Optional, Sequence
 from ..errors import StartFault
 from ..grammar import Grammar
 from ..server import Text, forms_options, start
+from ..terms import Node
+
+
+# The class above all others, where aspects speak of one, and that of a node above the root.
+ANY_NODE, TOP = "AnyNode__", "Top__"
+# So many classes a grammar may have.
+MOST_CLASSES = 1_000
 
 
 class Refusal(NamedTuple):
@@ -23,8 +30,10 @@ class Judge:
 
     def __init__(self, grammar: Grammar, program: str, forms: str = "") -> None:
         """Raises TermFault where no finite tree fits the grammar: then nothing can be judged."""
-        self.tree = grammar.smallest(grammar.start)
-        self.grammar, self.program, self.runs = written(grammar), program, 0
+        tree = grammar.smallest(grammar.start)
+        has_room = len(list(grammar)) < MOST_CLASSES
+        self.tree = Node(TOP, tree) if has_room else tree
+        self.grammar, self.program, self.runs = f"{TOP} ::= {grammar.start};\n" * has_room + written(grammar), program, 0
         self.options = forms_options(forms)
 
     def refusal(self, texts: Sequence[str]) -> Optional[Refusal]:
@@ -56,6 +65,11 @@ def written(grammar: Grammar) -> str:
     """The grammar as a text."""
     lines: List[str] = []
     for it in grammar:
-        above = f" : {it.superclass}" if it.superclass else ""
-        lines.append(f"{'abstract ' if it.is_abstract else ''}{it.name}{above} ::= {' '.join(map(str, it.own))};")
+        above = f" : {_spelled(it.superclass)}" if it.superclass else ""
+        lines.append(f"{'abstract ' if it.is_abstract else ''}{_spelled(it.name)}{above} ::= {' '.join(map(str, it.own))};")
     return "\n".join(lines) + "\n"
+
+
+def _spelled(name: str) -> str:
+    """The name of a class: one that can't be declared has another one there."""
+    return ANY_NODE if name == "ASTNode" else name

@@ -1,14 +1,20 @@
 """A grammar and its aspects as they are written: classes, attributes and equations, each with its place, and kinds of expressions."""
 from __future__ import annotations
 
+from dataclasses import replace
 from typing import Dict, Iterator, List, NamedTuple, Optional, Sequence, Set, Tuple
 
-from ..grammar import Grammar, Part, Shape
+from ..grammar import ClassOf, Grammar, Part, Shape
 from ..grammar_reader import Declared
-from .aspect_reader import FOLDS, KINDS, read_aspects
+from .aspect_reader import FOLDS, read_aspects
 from .aspect_tree import Binding, Declaration, Expression, Form
 from .grammar_faults import WholeGrammar
+from .java_reader import KINDS
 
+# Classes of JastAdd2 that no grammar declares, and of which there are no nodes here.
+NODES = ("ASTNode", "List", "Opt")
+# A grammar of fewer classes has room for one more.
+MOST_CLASSES = 999
 BOOLEAN_SIGNS = ("||", "&&", "==", "!=", "<", "<=", ">", ">=")
 
 
@@ -39,6 +45,7 @@ class Specification:
 
     def __init__(self, grammar: Source, aspects: Sequence[Source], forms: str = "") -> None:
         self.grammar_file, self.aspects = grammar, list(aspects)
+        self.forms = forms.split(",")
         self.whole = WholeGrammar(grammar.text)
         self.grammar: Grammar = self.whole.grammar or WholeGrammar("Nothing;").grammar  # type: ignore[assignment]
         self.classes: Dict[str, Declared] = {}
@@ -50,6 +57,24 @@ class Specification:
             if placed.declaration.is_declaring and placed.declaration.name is not None:
                 self._named.setdefault(placed.declaration.name.text, []).append(placed)
         self._accessors: Dict[str, Dict[str, Accessor]] = {}
+
+    def with_any_node(self) -> Specification:
+        """Has the class ASTNode above all others in its grammar from now on, where aspects speak of it or its like, so that what else they
+        say of it can be looked at."""
+        heads = (it for placed in self.declarations for it in (placed.declaration.of, placed.declaration.kind))
+        is_named = any(word is not None and word.text in NODES for word in heads)
+        if is_named and "ASTNode" not in self.grammar and len(self.classes) < MOST_CLASSES:
+            above = ClassOf("ASTNode", True, None, (), (), {})
+            self.grammar = Grammar([*(replace(it, superclass=it.superclass or "ASTNode") for it in self.grammar), above])
+        return self
+
+    def is_overriding(self, it: Declaration) -> bool:
+        """Whether a method would be an equation, since its name is declared for a class above its own."""
+        if it.sort != "method" or it.name is None or it.of is None:
+            return False
+        of = it.of.text
+        above = [placed.declaration.of.text for placed in self.named(it.name.text) if placed.declaration.of is not None]
+        return any(other != of and self.grammar.is_below(of, other) for other in above)
 
     def text(self, file: str) -> str:
         """The text of a file of this name; empty where there is none."""
@@ -180,3 +205,8 @@ class Specification:
 def is_class_kind(kind: Optional[str]) -> bool:
     """Whether a kind is that of a class."""
     return kind is not None and kind not in (*KINDS, "null", *FOLDS) and not kind.endswith("*")
+
+
+def is_java_kind(kind: str) -> bool:
+    """Whether a kind is a type of Java: one of several words."""
+    return any(sign in kind for sign in "<.[")

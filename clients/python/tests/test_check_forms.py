@@ -1,0 +1,261 @@
+"""What JastAdd2 has and this profile leaves out: `check` tells all of it in one run, and which section of the page says what to write."""
+import random
+import re
+import unittest
+
+import attrd
+from attrd.authoring import Source, check
+from attrd.authoring.ways import PAGE, SECTIONS, section
+from support import CALCULATOR, PROGRAM, ROOT, page_files, refused_rows
+
+GRAMMAR = Source("calc.ast", (CALCULATOR / "calc.ast").read_text())
+CALC = Source("calc.jrag", (CALCULATOR / "calc.jrag").read_text())
+# Each line has the faults that are named at its end, with the section of the page, and no other.
+FORMS = """import java.util.*; //: J10/1
+aspect Forms {
+  public class Note implements Comparable<Note> { //: J10/4
+    private final String text;
+    public Note(String text) { this.text = text; }
+  }
+  interface Named { String called(); } //: J10/2
+  Decl implements Named; //: J10/2
+  private int Block.count = 0; //: J10/4
+  public Block.Block(Stmt first) { count = 1; } //: J10/4
+  public abstract String Expr.text(); //: J10/4
+  public String Num.text() { return "" + getValue(); } //: J10/4
+  protected void Block.print() { System.out.println(size()); } //: J10/4
+  coll Set<Use> Decl.uses() [new HashSet<Use>()] with add root Program; //: J10/13 J1/1
+  Use contributes this when decl() != null to Decl.uses() for decl(); //: J10/13
+  Print contributes { if (isLong()) collection.add(this); } to Decl.uses(); //: J10/13
+  rewrite Use { when (decl() == null) to Expr new Num(0); } //: J10/12
+  refine Values eq Num.value() { return refined() + 1; } //: J10/10
+  cache Num.value(); //: J10/15
+  syn nta Num Program.one() = new Num(1); //: J10/11
+  eq Program.one().rank() = 1; //: J3/11
+  inh int Expr.rank();
+  inh boolean Decl.isLast(); //: J8/0
+  syn Set<String> Block.names() { //: J1/1
+    Set<String> found = new HashSet<String>(); //: J10/5
+    for (Stmt s : getStmts()) found.add(s.name());
+    return found;
+  }
+  syn boolean Block.has(String n) = names().contains(n); //: J4/1
+  syn lazy boolean Block.loops() circular [false] = loops(); //: J10/14
+  syn int ASTNode.weight() = 1; //: J3/2
+  eq Num.weight() = 2;
+  eq Block.getChild(int i).rank() = i; //: J10/15
+  syn int Num.first() = 1; //: J1/15
+  syn int Num.odd() = getValue() & 1; //: J1/15
+  syn int Num.parsed() = Integer.parseInt(label()); //: J3/1
+  syn String Num.label() = "n" + getValue();
+  syn boolean Use.isLong() = getID().length() > 8; //: J4/1
+  syn Expr Decl.start() = getInitOpt(); //: J3/15
+  syn Num Program.two() = new Num(2); //: J1/11
+  syn int Num.more() = super.value() + 1; //: J3/10
+  syn Stmt Stmt.above() = getParent(); //: J3/3
+  syn int Expr.padded(int width) = 1; //: J5/6
+  syn int Expr.fits(String n, Decl d, Block b) = 1; //: J5/8
+  syn Decl Use.own() = lookup("my_" + getID()); //: J5/7
+  syn Decl Block.local(Use u) = null; //: J2/8
+  syn int Use.lookup() = 1; //: J2/9
+  inh int Stmt.lookup(String n); //: J2/9
+  syn int Num.getNumChild() = 1; //: J12/3
+  syn int Block.last() { //:
+    int n = 0; //: J10/5
+    while (n < getNumStmts()) n++;
+    return n;
+  }
+  syn Expr Print.shown() { Expr e = getExpr(); return e; } //: J10/5
+}
+"""
+# A declaration of each form; each begins with what is refused.
+DECLARATIONS = (
+    "coll int Block.sum() [0] with add root Program;", "Use contributes 1 to Block.sum();", "public int Block.n() { return 1; }",
+    "int Block.m() { if (true) { return 1; } return 2; }", "private int Block.k = 3;", "rewrite Use { when (true) to Expr null; }",
+    "refine Values eq Num.value() = 1;", "refine Values public int Num.v() { return 1; }", "class Pair<A, B> { A a; B b; }",
+    "enum Sort { ONE, TWO }", "interface Named { String called(); }", "Decl implements Named;", "cache Num.value();",
+    "uncache Num.value();",
+    "public Block.Block() { super(); }", "static { start(); }", "private static final int[] Block.sizes = { 1, 2, 3 };",
+    "public java.util.Map<String, java.util.List<Use>> Block.map(int i) throws Exception { return null; }", "import java.util.Set;")
+
+
+def marked(text):
+    """The lines, codes and sections that a text names in its comments."""
+    found = [(number, mark) for number, line in enumerate(text.splitlines(), 1) for mark in line.partition("//:")[2].split()]
+    return sorted((number, mark.split("/")[0], section(int(mark.split("/")[1]))) for number, mark in found)
+
+
+class OneRun(unittest.TestCase):
+    @classmethod
+    def setUpClass(cls):
+        cls.found = check(GRAMMAR, [CALC, Source("forms.jrag", FORMS)], PROGRAM).findings
+
+    def test_each_form_with_its_section(self):
+        self.assertEqual(sorted((it.line, it.code, it.section) for it in self.found), marked(FORMS))
+
+    def test_what_is_said(self):
+        said = {(FORMS.splitlines()[it.line - 1].partition(" //:")[0].strip(), it.code): f"{it.message} {it.hint}" for it in self.found}
+        for line, code, part in (
+                ("syn int Num.parsed() = Integer.parseInt(label());", "J3", "`Integer.parseInt` is Java"),
+                ("syn int Num.more() = super.value() + 1;", "J3", "There is no `super` here, and so no `super.value`"),
+                ("int n = 0;", "J10", "a local variable. The body asks getNumStmts, too"),
+                ("int n = 0;", "J10", "A loop becomes a recursion from node to node"),
+                ("syn Expr Print.shown() { Expr e = getExpr(); return e; }", "J10",
+                 "a local variable. A local variable becomes an attribute of its own"),
+                ("syn int Use.lookup() = 1;", "J2", "It stands already at calc.jrag:2, as `inh`. A name is `syn` for all classes or `inh`"),
+                ("syn Decl Block.local(Use u) = null;", "J2", "take two names"),
+                ("syn Expr Decl.start() = getInitOpt();", "J3", "`getInitOpt()` is `hasInit()` and `getInit()` here"),
+                ("protected void Block.print() { System.out.println(size()); }", "J10", "Nothing is changed by aspects"),
+                ("syn boolean Block.has(String n) = names().contains(n);", "J4", "`Set<String>` is a type of Java"),
+                ("syn int Num.first() = 1;", "J1", "`first` is a reserved word"),
+                ("eq Program.one().rank() = 1;", "J3", "`one()` is made by an equation")):
+            self.assertIn(part, said[line, code])
+
+    def test_each_behind_others(self):
+        """Each declaration is told at its first word, whatever stands before it: in an order, in its reverse, and in one by chance."""
+        by_chance = random.Random(5).sample(DECLARATIONS, len(DECLARATIONS))
+        for declarations in (DECLARATIONS, DECLARATIONS[::-1], by_chance):
+            text = "\n".join(("aspect A {", *declarations, "}"))
+            found = [(it.code, it.line, it.column) for it in check(GRAMMAR, [CALC, Source("x.jrag", text)], PROGRAM).findings]
+            begun = [("J10", number, 1) for number in range(2, len(declarations) + 2)]
+            self.assertEqual([place for place in begun if place not in found], [], text)
+
+    def test_behind_what_has_no_end(self):
+        behind = "coll int Block.sum() [0] root Program;\nUse contributes 1 to Block.sum();\nsyn int Num.b() = nix();\n}"
+        for first in ("syn int Num.a() = (1 + ;", "syn int Num.a() = 1", "public int Num.a() { if (x) {", "syn Set< Num.a();",
+                      "eq Num.a() {"):
+            text = f"aspect A {{\n{first}\n{behind}"
+            found = check(GRAMMAR, [CALC, Source("x.jrag", text)], PROGRAM).findings
+            self.assertLessEqual({(3, "J10"), (4, "J10"), (5, "J3")}, {(it.line, it.code) for it in found}, first)
+
+    def test_several_as_the_list_of_a_fold(self):
+        text = "aspect A { syn boolean Block.any() = exists (s : getStmts()) { true }; }"
+        found = check(GRAMMAR, [CALC, Source("x.jrag", text)], PROGRAM).findings
+        self.assertEqual([(it.code, it.section) for it in found], [("J3", section(15))])
+        self.assertIn("`getStmts()` is `getStmtList()` here, as the list of a fold", found[0].hint)
+
+
+class Circular(unittest.TestCase):
+    def told(self, text, forms="circular"):
+        return check(GRAMMAR, [CALC, Source("x.jrag", f"aspect A {{ {text} }}")], PROGRAM, forms).findings
+
+    def test_misplaced_with_the_option(self):
+        for text in ("syn circular boolean Num.a() = true;", "syn circular [false] boolean Num.a() = true;",
+                     "syn boolean Num.a() circular [true]; eq Num.a() circular [true] = true;",
+                     "syn boolean Num.a() circular [true] circular [true] = true;"):
+            found = self.told(text)
+            self.assertEqual([it.section for it in found], [section(14)], text)
+            self.assertIn("behind the parameters, where the attribute is declared", found[0].hint, text)
+            self.assertNotIn("--forms", found[0].hint, text)
+
+    def test_another_kind_or_start(self):
+        found = self.told("syn int Num.a() circular [0] = 1;")
+        self.assertEqual([(it.code, it.section) for it in found], [("J10", section(14))])
+        self.assertIn("a boolean attribute is read", found[0].hint)
+        for start in ("[0]", "[new X()]", ""):
+            text = f"syn boolean Num.a() circular {start} = true;"
+            found = self.told(text)
+            self.assertEqual([it.section for it in found], [section(14)], text)
+            self.assertIn("`circular [false]` or `circular [true]`", found[0].hint, text)
+        self.assertIn("`--forms circular`", self.told("syn boolean Num.a() circular [false] = true;", "")[0].hint)
+
+
+class Mended(unittest.TestCase):
+    """What is told in the first run is all that has to be mended."""
+
+    # Lines as they were, and as they are mended; the others stay.
+    LINES = (
+        ("import java.util.*;", ""),
+        ("aspect Shop {", None),
+        ("  coll Set<Item> Shop.sold() [new HashSet<Item>()] root Shop;", "  syn int Shop.sold() = sum (p : getPartList()) { p.sold() };"),
+        ("  Item contributes this when isSold() to Shop.sold() for shop();",
+         "  syn int Part.sold() = 0; eq Item.sold() = isSold() ? 1 : 0;"),
+        ("  inh Shop Part.shop();", None),
+        ("  eq Shop.getPart().shop() = this;", None),
+        ("  public int Part.price() { return 0; }", "  syn int Part.price() = 0;"),
+        ("  public int Item.price() { return getPrice(); }", "  eq Item.price() = getPrice();"),
+        ("  eq Box.price() { int n = 0; for (Part p : getParts()) n += p.price(); return n; }",
+         "  eq Box.price() = sum (p : getPartList()) { p.price() };"),
+        ("  syn boolean Part.isSold();", "  syn boolean Part.isSold() = false;"),
+        ("  eq Item.isSold() = shop().sells(getName());", None),
+        ("  syn boolean Shop.sells(String n) = names().contains(n);", "  syn boolean Shop.sells(String n) = isNamed(n);"),
+        ("  syn Set<String> Shop.names() {", "  syn boolean Shop.isNamed(String n)"),
+        ("    Set<String> s = new TreeSet<String>();", "    = exists (p : getPartList())"),
+        ("    for (Part p : getParts()) s.add(p.name());", "    { p.name().equals(n) };"),
+        ("    return s; }", ""),
+        ("  syn String Part.name() = \"\";", None),
+        ("  eq Item.name() = getNamee();", "  eq Item.name() = getName();"),
+        ("  inh int Part.place();", None),
+        ("  eq Shop.getPart(int i).place() = i;", None),
+        ("  eq Box.getChild(int i).place() = i;", "  eq Box.getPart(int i).place() = i;"),
+        ("  inh Box Part.box();", None),
+        ("  eq Box.getPart().box() = this;", None),
+        ("  eq Shop.getPart().box() = nul;", "  eq Shop.getPart().box() = null;"),
+        ("  inh boolean Item.isLast();", "  inh boolean Item.isLast(); eq Shop.getChild().isLast() = true;"),
+        ("  syn lazy nta Box Shop.spare() = new Box();", "  syn lazy Box Shop.spare() = null;"),
+        ("  syn int Shop.size() = spare().price();", None),
+        ("  rewrite Item { when (isSold()) to Part new Box(); }", ""),
+        ("}", None))
+    GRAMMAR = "Shop ::= Part*; abstract Part; Item : Part ::= <Name> <Price:int>; Box : Part ::= Part*;"
+
+    def found(self, lines):
+        return check(Source("shop.ast", self.GRAMMAR), [Source("shop.jrag", "\n".join(lines) + "\n")], PROGRAM).findings
+
+    def test_the_second_run_finds_nothing(self):
+        told = {it.line for it in self.found([line for line, _ in self.LINES])}
+        mended = [line if other is None or number not in told else other for number, (line, other) in enumerate(self.LINES, 1)]
+        body = range(13, 17)  # one declaration, of which the first lines are told
+        mended[12:16] = [self.LINES[number - 1][1] for number in body]
+        self.assertEqual([str(it) for it in self.found(mended)], [])
+        self.assertEqual(told - set(body), {number for number, (_, other) in enumerate(self.LINES, 1) if other is not None} - set(body))
+
+
+class Page(unittest.TestCase):
+    def test_each_section_is_one_of_the_page(self):
+        page = (ROOT / "docs" / PAGE).read_text(encoding="utf-8")
+        self.assertEqual([section(it) for it in SECTIONS], re.findall(r"^## (\d+\. .*)$", page, re.M))
+
+    def test_each_form_of_the_page(self):
+        """What a section of the page shows to be refused is told with a section; a J10 always is."""
+        count = 0
+        for found, told in self.rows(PAGE):
+            if told != "accepted":
+                first = next(it for it in found if f"{it.code} {it.name} at {it.line}:{it.column}" == told)
+                self.assertTrue(first.section, told)
+                count += 1
+        self.assertGreater(count, 40)
+
+    def test_the_program_and_check_agree(self):
+        """The fault that the program tells of a row is among those that are found, with its code and its place."""
+        count = 0
+        for found, told in self.rows("REFUSALS.md"):
+            places = [f"{it.code} {it.name} at {it.line}:{it.column}" for it in found]
+            self.assertIn(told, places or ["accepted"])
+            count += 1
+        self.assertGreater(count, 200)
+
+    def rows(self, page):
+        """For each refused row of a page what is found, and what the program itself says of it."""
+        files = page_files(page)
+        for words, text, _ in refused_rows(page, "x.jrag"):
+            names = words[2:] if words[0] == "--forms" else words
+            forms = words[1] if words[0] == "--forms" else ""
+            if len(text) > 20_000 or "\udcff" in text or any(it not in files for it in names[:2]):
+                continue
+            texts = {**files, "x.jrag": text}
+            aspects = [Source(it, texts[it]) for it in names[2:]]
+            found = check(Source(names[0], texts[names[0]]), aspects, PROGRAM, forms).findings
+            yield [it for it in found if it.file == "x.jrag"], self.said(names, texts, forms)
+
+    def said(self, names, texts, forms):
+        tree = attrd.read_term(texts[names[1]].strip())
+        given = [attrd.Text(it, texts[it]) for it in names[2:]]
+        try:
+            attrd.start(attrd.Text(names[0], texts[names[0]]), tree, *given, program=PROGRAM, options=attrd.forms_options(forms)).close()
+            return "accepted"
+        except attrd.StartFault as fault:
+            return f"{fault.code} {fault.name} at {fault.line}:{fault.column}"
+
+
+if __name__ == "__main__":
+    unittest.main()
