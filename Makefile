@@ -1,20 +1,23 @@
 # attrd: `make` alone prints what there is.
 SHELL := /bin/bash
-SAMPLE := crates/attrd/data
 PREFIX ?= /usr/local
-PAGES := README.md docs/ATTRIBUTE_GRAMMARS.md docs/MANUAL.md docs/EDGES.md docs/REFUSALS.md docs/TUTORIAL.md docs/FROM_JASTADD.md samples/calculator samples/objects samples/machines samples/grammars samples/flow
+PAGES := README.md docs/ATTRIBUTE_GRAMMARS.md docs/MANUAL.md tests/pages/EDGES.md tests/pages/REFUSALS.md docs/TUTORIAL.md docs/FROM_JASTADD.md samples/calculator samples/objects samples/machines samples/grammars samples/flow
 
 # What examples, program and clients test: PROGRAM=.., else ./attrd where it stands, else a program with no proof.
 QUICK := .quick/attrd
 TESTED := $(or $(PROGRAM),$(if $(wildcard attrd),./attrd,$(QUICK)))
+
+# The language of README's first screen, whose session `make run` answers.
+FIRST := samples/sum
+PAGES += $(FIRST)
 
 .PHONY: help run try quick build install package warm check edits counts test examples program clients starve tries bench tools python crate tested
 
 # What there is, and how long it takes on two cores.
 help:
 	@echo "to use it:"
-	@echo "  make run           answers the sample session: by ./attrd where it was built, else with no proof (2 minutes)"
-	@echo "  make try           the sample session with no proof (2 minutes)"
+	@echo "  make run           answers the session of README's language: by ./attrd where it was built, else as make try does"
+	@echo "  make try           the same by .quick/attrd, which isn't proved, and stays there for use (2 minutes; a second from then on)"
 	@echo "  make build         the proved program, as ./attrd (60 minutes; one where it was built before)"
 	@echo "  make install       ./attrd and its man page, below PREFIX, /usr/local if none is given (a second, behind make build)"
 	@echo "  make package       ./attrd as a tarball and Debian packages, in dist/ (seconds, behind make build)"
@@ -35,13 +38,14 @@ help:
 	@echo "                     These three take PROGRAM=..; else ./attrd where it stands, else the program of make quick (2 minutes more)"
 	@echo "  make starve        four sessions with each keeper, with each request for memory refused in turn (a minute, behind its proof)"
 	@echo "  make tries         the examples of single tries of equations (a minute, behind its proof)"
-	@echo "  make bench         measures ./attrd (25 minutes and five GB, behind make build)"
+	@echo "  make bench [WRITE=1]"
+	@echo "                     measures ./attrd, and writes what it measured (25 minutes and five GB, behind make build)"
 
-# The sample session, answered by ./attrd where it was built, else by a program that isn't proved. Whether ./attrd is proved is known
-# by its record, attrd.proved (tools/proved.py).
-run: tools python
-	@if [ -x attrd ]; then echo "$$(python3 -B -m tools.proved tell ./attrd); it answers:" >&2; cd $(SAMPLE) && ../../../attrd calc.ast tree.txt calc.jrag < session; \
-	else echo "answered with no proof, in a minute or two (make build proves the program first):" >&2; $(MAKE) --no-print-directory try; fi
+# The session of README's language, each line with its reply below it: by ./attrd where it was built, else by the quick program.
+# Whether ./attrd is proved is known by its record, attrd.proved (tools/proved.py).
+run: python
+	@if [ -x attrd ]; then python3 -B -m tools.proved tell ./attrd; python3 -B -m tools.show_session ./attrd $(FIRST); \
+	else $(MAKE) --no-print-directory try; fi
 
 # The gate: the counts, the tests of the tools, every proof (see tools/gate.py), the tests, the programs, the must-fail edits; and
 # then, on the programs that were proved, sessions with each request for memory refused in turn, the words of the command line and
@@ -55,16 +59,20 @@ test: tools python
 	@ATTRD_READS=1 python3 tools/program.py --starve crates/starve/out/starve crates/attrd/out/attrd
 	@tools/editors.sh nvim chromium || true
 	@python3 clients/run_tests.py crates/attrd/out/attrd
-	@python3 tools/examples.py --program crates/attrd/out/attrd --tries crates/tries/out/tries $(PAGES) docs/TRIES.md
+	@python3 tools/examples.py --program crates/attrd/out/attrd --tries crates/tries/out/tries $(PAGES) tests/pages/TRIES.md
 
 # All tests that need no proof (see tools/quick.py).
 quick: tools python
 	@tools/editors.sh nvim chromium || true
 	@python3 -B -m tools.quick $(PAGES)
 
-# The sample session with no proof, in a minute or two.
-try: tools
-	@cd crates/attrd && rt try attrd -- data/calc.ast data/tree.txt data/calc.jrag < data/session
+# The same by the program that isn't proved, which stays in .quick for whoever wants to go on.
+try: tools python
+	@python3 -B -m tools.quick_program
+	@echo "$(QUICK) isn't proved (make build makes the proved program, ./attrd); it stays there. It answers, in $(FIRST):"
+	@python3 -B -m tools.show_session $(QUICK) $(FIRST)
+	@echo "docs/TUTORIAL.md goes on from here. A prompt for lines of your own:"
+	@echo "  cd $(FIRST) && PYTHONPATH=../../clients/python python3 -m attrd --program ../../$(QUICK) sum.ast tree.txt sum.jrag"
 
 # The proved program, as ./attrd, with its record. It may run meanwhile.
 build: tools python
@@ -131,11 +139,13 @@ starve: tools python
 # Single tries of equations, by the proved program.
 tries: tools python
 	cd crates/tries && rt run < stdin -- data/calc.ast data/calc.jrag data/tree.txt
-	@python3 tools/examples.py docs/TRIES.md
+	@python3 tools/examples.py tests/pages/TRIES.md
 
 # Speed, by the proved program, as ratios in one run; what the program takes at its limits; what evaluations, loading, lines and
 # edits cost where everything is kept, and circular attributes, which fails where a bound doesn't hold; a realistic program, beside Java; and trees of up to
-# 2,400,000 nodes, which take five GB.
+# 2,400,000 nodes, which take five GB. With WRITE=1 what is measured is added to bench/history.tsv, and the table of PERFORMANCE is written.
+bench: export ATTRD_HISTORY := $(if $(WRITE),$(CURDIR)/bench/history.tsv)
+bench: export ATTRD_PROVED := yes
 bench: build
 	cd crates/tries && rt run < stdin -- data/calc.ast data/calc.jrag data/tree.txt > /dev/null
 	python3 bench/bench.py
@@ -143,7 +153,8 @@ bench: build
 	python3 bench/clients.py
 	python3 bench/editor.py
 	python3 bench/hub.py
-	@status=0; for it in evaluation in_flight kept bounded cliff fixpoints realistic sizes; do python3 bench/$$it.py || status=1; done; exit $$status
+	@status=0; for it in evaluation in_flight kept bounded cliff fixpoints realistic sizes; do python3 bench/$$it.py || status=1; done; \
+	if [ -n "$(WRITE)" ]; then python3 bench/history.py --write || status=1; fi; exit $$status
 
 tools:
 	@command -v rt > /dev/null || { echo "attrd is written in Rattle: install the Rattle kit, so that the command 'rt' is on the PATH."; exit 1; }

@@ -9,6 +9,8 @@ import time
 from pathlib import Path
 from typing import IO, Callable, Dict, List, Sequence, Tuple, cast
 
+from history import note
+
 # Writes a file of the folder, by its name and its text, and gives the name back.
 Put = Callable[[str, str], str]
 # The seconds that lines take over these files.
@@ -137,6 +139,7 @@ def edits(files: Sequence[Sequence[str]], spent: Spent) -> None:
     """What edits cost on a tree of 61,000 nodes, each kind against the same on one of 4,000."""
     for (what, count, few), (_, _, many) in zip(edits_of(2000), edits_of(30500)):
         times = [spent(of, lines) for of, lines in zip(files, (few, many))]
+        note(f"{what}: 61,000 nodes against 4,000", times[1] / times[0])
         print(f"{count:,} {what}: {times[0] * 1e6 / count:.2f} us each on 4,000 nodes, {times[1] * 1e6 / count:.2f} us on 61,000: ratio {times[1] / times[0]:.2f}")
 
 
@@ -156,6 +159,7 @@ def moves(put: Put, spent: Spent) -> None:
     files = [calculator(put, 2, size) for size in sizes]
     for (what, few), (_, many) in zip(*map(moves_of, sizes)):
         times = [spent(of, lines) for of, lines in zip(files, (few, many))]
+        note(f"moves {what}: 60,000 elements against 30,000", times[1] / times[0])
         print(f"1,000 moves {what}: {times[1] * 1e3:.0f} us each with 60,000 elements, against 30,000: ratio {times[1] / times[0]:.2f}")
 
 
@@ -217,6 +221,7 @@ def layers(put: Put, spent: Spent) -> None:
 
     def halves(what: str, files: Sequence[Sequence[str]], lines: Sequence[str]) -> None:
         times = [spent(of, text) for of, text in zip(files, lines)]
+        note(f"{what}: against half of it", times[1] / times[0])
         print(f"{what}: {times[1] * 1000:.0f} ms, against half of it: ratio {times[1] / times[0]:.2f}")
 
     halves("300,000 questions whose answer is kept", (small, small), ["0 ask /Block/Stmt:1 value()\n" * n for n in (150000, 300000)])
@@ -298,6 +303,7 @@ def main() -> None:
             inputs = [nothing, Path(folder) / put("versions", "0 version\n" * count), Path(folder) / put("lines", lines)]
             begun, versions, spent = best_of_turns(folder, files, inputs, 3 * RUNS)
             versions, spent = versions - begun, spent - begun
+            note(f"{what}: against `version` lines", spent / versions)
             print(f"{count:,} lines, {what}: {spent * 1000:.0f} ms, {spent / versions:.1f} times as many `version` lines")
             return spent
 

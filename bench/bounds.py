@@ -1,7 +1,9 @@
-"""What was measured against what it may be."""
+"""What was measured against what it may be. Each is noted in the history, where that is wanted (history.py)."""
 from __future__ import annotations
 
 from typing import List
+
+import history
 
 
 class Bounds:
@@ -14,6 +16,7 @@ class Bounds:
     def at_most(self, what: str, value: float, most: float) -> str:
         """The value with its bound, which is noted where it doesn't hold."""
         self.looked_at += 1
+        history.note(what, value, most=most)
         if value > most:
             self.broken.append(f"{what}: {value:.2f}, at most {most:g}")
         return f"{value:.2f} (at most {most:g}{'' if value <= most else ': BROKEN'})"
@@ -21,6 +24,7 @@ class Bounds:
     def at_least(self, what: str, value: float, least: float) -> str:
         """The same of what it has to be at least."""
         self.looked_at += 1
+        history.note(what, value, least=least)
         if value < least:
             self.broken.append(f"{what}: {value:.1f}, at least {least:g}")
         return f"{value:.1f} (at least {least:g}{'' if value >= least else ': BROKEN'})"

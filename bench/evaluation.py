@@ -19,6 +19,7 @@ from typing import List, Optional, Sequence, Tuple
 from bench import calculator, doubling_grammar, doubling_term, long_aspects
 from bounds import Bounds
 from full_flush import FullFlush
+from history import note
 from instructions import instructions
 from served import Served
 from trees import ASPECTS, GRAMMAR, SumTree
@@ -82,8 +83,10 @@ class Bench:
         return min(times), min(peaks)
 
     def told(self, what: str, value: Optional[float], most: Optional[float] = None, unit: str = "") -> None:
-        """Prints a row; nothing where the value isn't known."""
+        """Prints a row, and notes it; nothing where the value isn't known."""
         if value is not None:
+            if not most:
+                note(what, value)
             print(f"{what}: {self.bounds.at_most(what, value, most) if most else format(value, '.2f')}{unit}", flush=True)
 
 
@@ -99,7 +102,7 @@ def sums(bench: Bench) -> None:
     instances = tree.nodes - 1
     bench.told("an instance of a sum over 60,000 nodes, in instructions", each(bench.counted(words, SUM), instances), 1_700)
     time, _ = bench.spent(words, SUM)
-    bench.told("the same, in microseconds", time / instances * 1e6, 0.8)
+    bench.told("an instance of a sum over 60,000 nodes, in microseconds", time / instances * 1e6, 0.8)
     _, loaded = bench.spent(words, "0 version\n")
     _, empty = bench.spent(["kept.ast", bench.put("one.txt", 'Top(Num(1,""),[])\n'), "kept.jrag"], "0 version\n")
     bench.told("a node at the peak of loading, in bytes", (loaded - empty) * 1024 / tree.nodes, 150)
@@ -156,7 +159,7 @@ def declarations(bench: Bench) -> None:
         for where, lines in asked:
             time, peak = bench.spent(words, lines, turns=turns)
             bench.told(f"a chain of {count:,} declarations asked {where}, in MiB", peak / 1024, 40)
-            bench.told("the same, in seconds", time, most)
+            bench.told(f"a chain of {count:,} declarations asked {where}, in seconds", time, most)
 
 
 def items_of(bench: Bench, count: int) -> List[str]:

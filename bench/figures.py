@@ -2,11 +2,18 @@
 from __future__ import annotations
 
 import os
+import re
 import sys
 from pathlib import Path
 from typing import List, Optional, Sequence
 
+from history import note
+
 ROOT = Path(__file__).resolve().parent.parent
+# The first number of a cell, and its unit.
+NUMBER = re.compile(r"([\d,]*\.?\d+) ?(ms|us|s|MiB|MB|GB|KiB|%)?(?![\w.])")
+# The heads of the table that is printed.
+HEADS: List[str] = []
 
 
 def program_in(words: Sequence[str], usage: Optional[str]) -> str:
@@ -27,13 +34,18 @@ def numbers_in(words: Sequence[str], otherwise: Sequence[int], usage: Optional[s
 def table(*heads: object) -> None:
     """Prints the head of a table."""
     print()
-    row(*heads)
-    row(*("---" for _ in heads))
+    HEADS[:] = map(str, heads)
+    for cells in (heads, ["---"] * len(heads)):
+        print("| " + " | ".join(map(str, cells)) + " |", flush=True)
 
 
 def row(*cells: object) -> None:
-    """Prints a row of a table."""
+    """Prints a row of a table, and notes its numbers, each with the heads of the table and of its column."""
     print("| " + " | ".join(str(it) for it in cells) + " |", flush=True)
+    for head, cell in zip(HEADS[1:], cells[1:]):
+        found = NUMBER.match(str(cell))
+        if found:
+            note(f"{HEADS[0]}: {cells[0]}: {head}" + (f", in {found[2]}" if found[2] else ""), float(found[1].replace(",", "")))
 
 
 def ms(number: float) -> str:

@@ -15,6 +15,8 @@ from contextlib import ExitStack
 from pathlib import Path
 from typing import Callable, Dict, List, Sequence, Tuple
 
+from history import note
+
 FILES = {"sum.ast": "Sum ::= Left:Num Right:Num; Num ::= <Value:int>;\n", "sum.txt": "Sum(Num(3),Num(4))\n",
          "sum.jrag": "aspect S { syn lazy int Sum.total() = getLeft().getValue() + getRight().getValue() * 2; }\n"}
 # How many rounds there are, and for how many lines a time is taken in each.
@@ -85,6 +87,7 @@ def main() -> int:
                 plain, gathered = (min(times[kind, option, flight]) for option in ("", "--gather"))
                 is_held = what != "version" or gathered <= wanted * plain
                 status = status if is_held else 1
+                note(f"{what}, {flight:,} in flight by a {kind}, --gather against none", gathered / plain, most=wanted if what == "version" else None)
                 print(f"{what}, {flight:,} in flight by a {kind}: {plain * 1e6:.2f} us, with --gather {gathered * 1e6:.2f}: "
                       f"ratio {gathered / plain:.2f}" + (f" (at most {wanted})" if what == "version" else "") + ("" if is_held else ", too much"))
     return status

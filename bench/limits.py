@@ -10,6 +10,8 @@ import time
 from pathlib import Path
 from typing import IO, Callable, Dict, Iterable, List, Sequence, Tuple, cast
 
+from history import note
+
 # The seconds, the peak in KiB and the replies by kind of a session.
 Session = Tuple[float, int, Dict[bytes, int]]
 
@@ -158,6 +160,7 @@ def file_times(program: str, folder: str) -> None:
             sys.exit(f"{what}: attrd ended with status {status}")
         said = said.strip() or "accepted"
         late = "" if seconds < SLOW else f", which is more than {SLOW:.0f} s"
+        note(f"a file of 4 MiB, {what}, in ms", seconds * 1000)
         print(f"{len(text) / 2 ** 20:.1f} MiB, {what}: {seconds * 1000:.0f} ms{late}; {said[:80]}")
 
 

@@ -1,5 +1,5 @@
 """Files that are refused: in which order they are looked at, what is no text, and each front of a tree. What their texts are refused
-for is shown by the examples of docs/REFUSALS.md and docs/EDGES.md."""
+for is shown by the examples of tests/pages/REFUSALS.md and EDGES.md."""
 from pathlib import Path
 from typing import Sequence
 
