@@ -23,3 +23,4 @@ pub mod PlainAnswered
 pub mod Untouched
 pub mod Spreading
 pub mod WorthKeeping
+pub mod FaultsPlaced

@@ -14,3 +14,5 @@ pub mod PassedLooks
 pub mod LookedSteps
 pub mod LookedLevels
 pub mod Deciding
+pub mod OneEach
+pub mod ChainTurns

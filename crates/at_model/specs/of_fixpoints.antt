@@ -10,3 +10,5 @@ pub mod FormKinds
 pub mod Searching
 pub mod Searched
 pub mod Met
+pub mod Failing
+pub mod Chains

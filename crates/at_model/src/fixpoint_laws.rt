@@ -1,11 +1,21 @@
 //! Laws of outcomes where attributes are circular: each is the contract of a function that does nothing.
 
 ghost use Rattle.std.specs.Prelude.{Bool, List, None, Ok, Option, Some, false, nat_eq, true, ◌+◌, ◌≡◌, ◌↔◌, ℕ};
-ghost use Rattle.at_model.specs.Trees.{Tree, conforms};
-ghost use Rattle.at_model.specs.Paths.{Node};
-ghost use Rattle.at_model.specs.Run.{Contents, Instance, Location, Truth, Value};
-ghost use Rattle.at_model.specs.Rules.{Rules, evaluation as evaluation_of, start_of};
-ghost use Rattle.at_model.specs.Meaning.{Among, Answer, Equations, Outcome, content, equations};
+ghost use Rattle.at_model.specs.Trees.{Tree, class_of, conforms};
+ghost use Rattle.at_model.specs.Paths.{Node, tree_at};
+ghost use Rattle.at_model.specs.Run.{Contents, FaultKind, Instance, Location, Truth, Value};
+ghost use Rattle.at_model.specs.Bodies.{Expr};
+ghost use Rattle.at_model.specs.Rules.{
+  Rules,
+  Source,
+  attribute_name,
+  evaluation as evaluation_of,
+  is_inherited,
+  own_equation,
+  source_of,
+  start_of,
+};
+ghost use Rattle.at_model.specs.Meaning.{Among, Answer, Equations, Faults, Outcome, content, equations};
 ghost use Rattle.at_model.specs.Meaning as meaning;
 ghost use Rattle.at_model.specs.Support as support;
 ghost use Rattle.at_model.specs.Alike.{AlikeAt, AnswerLike, InstanceLike, IsInjective, LocationLike, Names, OutcomeLike};
@@ -16,6 +26,7 @@ ghost use Rattle.at_model.specs.Instances.{instances};
 ghost use Rattle.at_model.specs.WellFormed.{AreWellFormed, IsTreeSound};
 ghost use Rattle.at_model.specs.of_fixpoints.Circles.{Answers, Circular};
 ghost use Rattle.at_model.specs.of_fixpoints.Evaluations.{evaluation, forms};
+ghost use Rattle.at_model.specs.of_fixpoints.Failing.{FailsItself};
 ghost use Rattle.at_model.specs.of_fixpoints.Fixpoints.{HasForm, HasValue, Holds, HoldsAt};
 ghost use Rattle.at_model.specs.of_fixpoints.Formulas.{Formula, Forms};
 ghost use Rattle.at_model.specs.of_fixpoints.Likeness.{AlikeBelow, FormsLike};
@@ -97,6 +108,13 @@ pub fn a_component_has_values()
 pub fn more_depth()
     ensures { (look : Contents Node) (forms : Forms Node) (n more : ℕ) (i : Instance Node) (o : Outcome Node)
         → HoldsAt look forms n i o → HoldsAt look forms (n + more) i o }
+{}
+
+/// The place of a fault is an instance that the question leads to, and whose own equation has the fault, each demand before that
+/// having a value.
+pub fn a_fault_is_where_its_equation_fails_by_formulas()
+    ensures { (look : Contents Node) (forms : Forms Node) (q i : Instance Node) (f : FaultKind) → Holds look forms q (Faults f i)
+        → Leads look forms q i × FailsItself look (HasValue look forms) (forms.formula i) f }
 {}
 
 /// Formulas that rules give are of instances with the start of their own.
@@ -244,4 +262,14 @@ pub fn formulas_keep_to_the_kinds()
     ensures value { (rules : Rules) → AreWellFormed rules → (t : Tree) → IsTreeSound rules.classes t
         → (i : Instance Node) (v : Value Node) → IsWellFormed rules t i → HasValue (content t) (forms rules) i v
         → IsOfItsKind rules (class_at t) i v }
+{}
+
+/// And each instance that it leads to has an equation: of its node's class or a class above that one, or of a node above its node.
+pub fn no_equation_is_missing_by_formulas()
+    ensures own { (rules : Rules) → AreWellFormed rules → (t : Tree) → IsTreeSound rules.classes t → (i j : Instance Node)
+        → IsWellFormed rules t i → Leads (content t) (forms rules) i j → is_inherited rules j.attribute ≡ false
+        → (u : Tree) → tree_at t j.node ≡ Some u → (e : Expr) × (own_equation rules (class_of u) j.attribute ≡ Some e) }
+    ensures inherited { (rules : Rules) → AreWellFormed rules → (t : Tree) → IsTreeSound rules.classes t → (i j : Instance Node)
+        → IsWellFormed rules t i → Leads (content t) (forms rules) i j → is_inherited rules j.attribute ≡ true
+        → (s : Source) × (source_of rules t (attribute_name rules j.attribute) j.node ≡ Some s) }
 {}

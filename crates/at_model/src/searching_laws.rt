@@ -1,14 +1,16 @@
 //! Laws of questions of circular attributes that are given turns: each is the contract of a function that does nothing.
 
-ghost use Rattle.std.specs.Prelude.{Bool, List, None, Some, length, true, [], ◌*◌, ◌++◌, ◌+◌, ◌∷◌, ◌≡◌, ◌≤◌, ◌⊎◌, ℕ};
+ghost use Rattle.std.specs.Prelude.{Bool, IfNone, List, None, Option, Some, length, true, [], ◌*◌, ◌++◌, ◌+◌, ◌∷◌, ◌≡◌, ◌≤◌, ◌⊎◌, ℕ};
 ghost use Rattle.at_model.specs.Asking.{IsWellFormed};
 ghost use Rattle.at_model.specs.Instances.{instances};
-ghost use Rattle.at_model.specs.Meaning.{Among, Answer, content};
+ghost use Rattle.at_model.specs.Meaning.{Among, Answer, Comes as ComesPlainly, Equations, Faults, Holds as HoldsPlainly, Right, content};
 ghost use Rattle.at_model.specs.Paths.{Node};
 ghost use Rattle.at_model.specs.Rules.{Rules};
-ghost use Rattle.at_model.specs.Run.{Contents, Instance, Known, Value};
+ghost use Rattle.at_model.specs.Run.{Contents, FaultKind, Instance, Known, Value};
 ghost use Rattle.at_model.specs.Trees.{Tree};
+ghost use Rattle.at_model.specs.Turning.{IsOn as ChainIsOn, Silent as ChainSilent, Turned as ChainTurned, UnderWay, posted as begin_chain};
 ghost use Rattle.at_model.specs.WellFormed.{AreWellFormed, IsTreeSound};
+ghost use Rattle.at_model.specs.of_fixpoints.Chains.{AreKept, IsOwn, IsSearchOf};
 ghost use Rattle.at_model.specs.of_fixpoints.Circles.{Answers, HasNone, IsOpen};
 ghost use Rattle.at_model.specs.of_fixpoints.Evaluations.{forms};
 ghost use Rattle.at_model.specs.of_fixpoints.Fixpoints.{End, EndsSo, HasValue};
@@ -16,7 +18,8 @@ ghost use Rattle.at_model.specs.of_fixpoints.Formulas.{Formula, Forms};
 ghost use Rattle.at_model.specs.of_fixpoints.Met.{HasLookedAt, HaveLookedAt, IsLookedAt, LooksAt};
 ghost use Rattle.at_model.specs.of_fixpoints.Resting.{Leads};
 ghost use Rattle.at_model.specs.of_fixpoints.Searched.{AreClosed, AreStacked, IsMade, IsOn};
-ghost use Rattle.at_model.specs.of_fixpoints.Searching.{Level, Search, Silent, Turned, asked_in, posted, root_of, under};
+ghost use Rattle.at_model.specs.of_fixpoints.Searching.{IsValued, Level, Search, Silent, Turned, asked_in, posted, root_of, under};
+ghost use Rattle.at_model.specs.of_fixpoints.Sets.{plain_forms};
 
 /// A question of circular attributes stands on its tree as it is posted, and, where what is kept is right, after each turn: each
 /// level is that of a demand of the one below, and its search, depth first, has come so far from its root.
@@ -76,4 +79,31 @@ pub fn what_a_search_looks_at()
         → (told x ≡ true) ⊎ (Among x (under levels) ⊎ LooksAt look forms (under levels) [] (root ∷ []) x) }
     ensures back { (look : Contents Node) (forms : Forms Node) (below seen todo : List (Instance Node)) (i x : Instance Node)
         → IsOpen look forms below i → LooksAt look forms below seen (i ∷ todo) x → x ≡ i }
+{}
+
+/// Where no attribute is circular, a question's chain is a search whose levels have one instance each: so it begins, and each turn of the
+/// chain is one of the search, which is then that of the new chain. A turn of the search is one of the chain, too, where the values that are
+/// kept hold, and a fault that it answers is that of the instance that is tried.
+pub fn a_chain_is_a_search()
+    ensures begun { (kept : Known Node) (q : Instance Node) → IsSearchOf kept (begin_chain q) (posted q) }
+    ensures chain { (look : Contents Node) (equation : Equations Node) (before kept : Known Node) (q : Instance Node) (u new : UnderWay Node)
+        (s : Search Node) (o : Option (Answer Node)) → ChainIsOn look equation q u → AreKept before kept → IsSearchOf before u s
+        → ChainTurned look equation kept u new o
+        → (t : Search Node) × Turned look (plain_forms equation) kept s t o × IsSearchOf before new t }
+    ensures search { (look : Contents Node) (equation : Equations Node) (before kept : Known Node) (q : Instance Node) (u : UnderWay Node)
+        (s t : Search Node) (o : Option (Answer Node)) → ChainIsOn look equation q u → AreKept before kept → IsSearchOf before u s
+        → Right look equation kept → Turned look (plain_forms equation) kept s t o → IsOwn u.last o
+        → (new : UnderWay Node) × ChainTurned look equation kept u new o × IfNone o (IsSearchOf before new t) }
+{}
+
+/// So each search that turns without an answer lead to is that of a chain, to which as many turns lead; and where all to which its last
+/// instance comes is known, or has ended, a fault of that one is its own.
+pub fn a_plain_search_is_a_chain()
+    ensures turns { (look : Contents Node) (equation : Equations Node) (n : ℕ) (q : Instance Node) (s : Search Node)
+        → Silent look (plain_forms equation) n (posted q) s
+        → (u : UnderWay Node) × ChainSilent look equation n (begin_chain q) u × ChainIsOn look equation q u × IsSearchOf (λ i. None) u s }
+    ensures own { (look : Contents Node) (equation : Equations Node) (before kept : Known Node) (q : Instance Node) (u : UnderWay Node)
+        (s : Search Node) (f : FaultKind) (at : Instance Node) → ChainIsOn look equation q u → AreKept before kept → IsSearchOf before u s
+        → Right look equation kept → HoldsPlainly look equation u.last (Faults f at)
+        → ((j : Instance Node) → ComesPlainly look equation u.last j → IsValued kept s.told j ⊎ Among j s.ended) → at ≡ u.last }
 {}

@@ -54,15 +54,15 @@ sees_off look Has Had off (Looks m k) l (inr x) = inr (sees_off look Has Had off
 sees_off look Has Had off (Demands i k) l (v, h, x) = (v, off i v h, sees_off look Has Had off (k v) l x)
 
 module _ {N : Type 0} (look : Contents N) (equation : Equations N) where
-  value_on : (i : Instance N) (v : Value N) → meaning.HasValue look equation i v →
+  pub value_on : (i : Instance N) (v : Value N) → meaning.HasValue look equation i v →
       HasValue look (plain_forms equation) i v
   value_on i v h = holds_on_all look equation i (Finds v) h
 
-  value_off : (i : Instance N) (v : Value N) → HasValue look (plain_forms equation) i v →
+  pub value_off : (i : Instance N) (v : Value N) → HasValue look (plain_forms equation) i v →
       meaning.HasValue look equation i v
   value_off i v h = holds_back_all look equation i (Finds v) h
 
-  comes_on : (i j : Instance N) → meaning.Comes look equation i j → Comes look (plain_forms equation) i j
+  pub comes_on : (i j : Instance N) → meaning.Comes look equation i j → Comes look (plain_forms equation) i j
   comes_on i j c = inl (reaches_on look (meaning.HasValue look equation) (HasValue look (plain_forms equation))
       value_on (equation i) j c)
 
@@ -77,7 +77,7 @@ module _ {N : Type 0} (look : Contents N) (equation : Equations N) where
   comes_plain i j (inl c) = c
   comes_plain i j (inr (f, has, m)) = absurd (no_atom i j f has m)
 
-  comes_off : (i j : Instance N) → Comes look (plain_forms equation) i j → meaning.Comes look equation i j
+  pub comes_off : (i j : Instance N) → Comes look (plain_forms equation) i j → meaning.Comes look equation i j
   comes_off i j (inl c) =
       reaches_off look (meaning.HasValue look equation) (HasValue look (plain_forms equation)) value_off
       (equation i) j c

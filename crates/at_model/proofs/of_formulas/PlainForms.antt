@@ -47,7 +47,7 @@ plain_value look G i (Looks l k) f e = plain_value look G i (k (look l)) f e
 plain_value look G i (Demands j k) f (inl (v, h, x)) = plain_value look G i (k v) f x
 plain_value look G i (Demands j k) f (inr (x, at, h, e)) = absurd cc
 
-plain_alone : {N : Type 0} (look : Contents N) (equation : Equations N) (n : ℕ) (i j : Instance N) →
+pub plain_alone : {N : Type 0} (look : Contents N) (equation : Equations N) (n : ℕ) (i j : Instance N) →
     LeadsOver (EndsAt look (plain_forms equation) n) i j → i ≡ j
 plain_alone look equation n _ _ (stays i) = refl
 plain_alone look equation n _ _ (goes i j k f h a l) =

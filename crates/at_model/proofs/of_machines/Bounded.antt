@@ -21,7 +21,7 @@ module _ {N : Type 0} where
   length_keys (f ∷ fs) = ap suc (length_keys fs)
 
   -- one more among those that were found
-  one_among : (x : Instance N × Value N) (old new : List (Instance N × Value N)) → IsOneMore x old new → (y : Instance N × Value N) → Among y new → Among y old ⊎ (y ≡ x)
+  pub one_among : (x : Instance N × Value N) (old new : List (Instance N × Value N)) → IsOneMore x old new → (y : Instance N × Value N) → Among y new → Among y old ⊎ (y ≡ x)
   one_among x _ _ (between front back) y h = elim (among_either front (x ∷ back) y h) [
     | inl a ↦ inl (among_left y front back a)
     | inr (inl e) ↦ inr e
