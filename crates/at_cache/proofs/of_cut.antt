@@ -8,8 +8,10 @@ pub mod Flushed
 pub mod Goes
 pub mod HeldSlots
 pub mod InTheWay
+pub mod InTurns
 pub mod Inexact
 pub mod LeftHeld
+pub mod LetGo
 pub mod Lifting
 pub mod Losing
 pub mod Ordered

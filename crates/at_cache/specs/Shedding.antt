@@ -1,5 +1,5 @@
 -- What leaves memory beyond a bound.
-use Rattle.std.specs.Prelude.{◌≡◌, ℕ, List, true, Some}
+use Rattle.std.specs.Prelude.{◌≡◌, ◌+◌, ◌/◌, ℕ, List, Bool, true, Some, nat_lt}
 use Rattle.at_model.specs.Run.{Location}
 use Rattle.at_cache.specs.declared.cut.Cut.{Cut}
 use Rattle.at_cache.specs.declared.cut.Pass.TheVariants as pass
@@ -7,7 +7,8 @@ use Rattle.at_cache.specs.declared.edge.Edge.{Edge}
 use Rattle.at_cache.specs.declared.standing.Standing.{Standing}
 use Rattle.at_cache.specs.declared.table.Table.{Table}
 use Rattle.at_cache.specs.Folding.{LeavesKept}
-use Rattle.at_cache.specs.Info.{Info, Memory, memory_of}
+use Rattle.at_cache.specs.Info.{Info, Memory, memory_of, table_len}
+use Rattle.at_cache.specs.Marking.{seen_among}
 use Rattle.at_cache.specs.Recorded.{IsIndexed}
 use Rattle.at_cache.specs.Standings.{but_for, held, kept_held, remembered, standing_of}
 use Rattle.at_cache.specs.Kept.{Entries}
@@ -27,6 +28,14 @@ pub record ShedsAt (standings : List Standing) (slot : ℕ) (old new : Memory) :
 pub record Sheds (standings : List Standing) (old new : Memory) : Type 0 where
   pub stays : (k : ℕ) → (standing_of standings k).holds ≡ true → new k ≡ old k
   pub only : AreHeld standings new
+
+-- how many entries may be in memory where so many are kept: an eighth of these beside them, and some
+abbrev pub most_beside : ℕ → ℕ
+most_beside kept = kept + kept / 8 + 64
+
+-- whether more are in memory: an edit lets go of what isn't kept
+abbrev pub is_crowded : Cut → Bool
+is_crowded c = nat_lt (most_beside (seen_among pass.Values c.standings.items)) (table_len c.entries)
 
 -- no entry is traced, and each stands as it did but for that
 abbrev pub LosesTraces : (old new : List Standing) → Type 0

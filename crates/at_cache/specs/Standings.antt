@@ -86,6 +86,7 @@ abbrev pub remembered : (lists : Location ℕ → List Edge) → Table → List 
 remembered lists t standings = record {
   traced = λ i. option_and_then (λ e. trace_at lists standings (memory_of t) e.slot) (lookup (same_instance i) t.entries.entries);
   last = λ i. last_of (lookup (same_instance i) t.entries.entries);
+  in_turns = false;
 }
 
 -- whether an entry is in the slot p, and has an edge to the one in s

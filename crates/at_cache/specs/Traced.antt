@@ -12,10 +12,12 @@ pub record Trace : Type 0 where
   pub reads : Location ℕ → Bool
   pub uses : List (Instance ℕ)
 
--- what can be kept again, each with its trace, and the last value that an instance was put with
+-- what can be kept again, each with its trace, and the last value that an instance was put with; and whether turns of posted questions keep
+-- again what can be, too
 pub record Memories : Type 0 where
   pub traced : Instance ℕ → Option Trace
   pub last : Instance ℕ → Option (Value ℕ)
+  pub in_turns : Bool
 
 -- nothing is traced
 abbrev pub TracesNothing : Memories → Type 0
@@ -72,16 +74,17 @@ pub record SparesOthers (i : Instance ℕ) (after : Entries) (old new : Memories
 
 -- what a keeper remembers that traces nothing
 abbrev pub untraced_by : Entries → Memories
-untraced_by entries = record { traced = λ _. None; last = λ i. value_at (entries i) }
+untraced_by entries = record { traced = λ _. None; last = λ i. value_at (entries i); in_turns = false }
 
 -- the trace of i is there still, if there is one
 abbrev pub KeepsTrace : Instance ℕ → (old new : Memories) → Type 0
 KeepsTrace i old new = (t : Trace) → old.traced i ≡ Some t → new.traced i ≡ Some t
 
--- An edit takes no trace but those for which a location with the answer `true` was looked at.
-abbrev pub SparesAtEdit : (says : Location ℕ → Bool → Type 0) (old new : Memories) → Type 0
-SparesAtEdit says old new = (i : Instance ℕ) (t : Trace) → old.traced i ≡ Some t
-    → (new.traced i ≡ Some t) ⊎ ((l : Location ℕ) × (t.reads l ≡ true) × says l true)
+-- An edit takes no trace but those for which a location with the answer `true` was looked at, and others where much more is in memory than is
+-- kept.
+abbrev pub SparesAtEdit : (says : Location ℕ → Bool → Type 0) (crowded : Bool) (old new : Memories) → Type 0
+SparesAtEdit says crowded old new = (i : Instance ℕ) (t : Trace) → old.traced i ≡ Some t
+    → (new.traced i ≡ Some t) ⊎ (((l : Location ℕ) × (t.reads l ≡ true) × says l true) ⊎ ((crowded ≡ true) × (new.traced i ≡ None)))
 
 -- the same traces, and the same last values
 pub record AreAlike (old new : Memories) : Type 0 where

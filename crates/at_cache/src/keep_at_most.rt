@@ -111,7 +111,11 @@ impl Keeper for KeepAtMost {
 
     ghost exact = { false };
 
-    ghost memories = { λ k. record { traced = λ _. None; last = λ i. value_at (kept_by k i) } };
+    ghost memories = { λ k. record { traced = λ _. None; last = λ i. value_at (kept_by k i); in_turns = false } };
+
+    ghost crowded = { λ _. false };
+
+    ghost always_in_turns = { λ k l. cc };
 
     ghost kept_last = { λ k i v kept. kept };
 
@@ -154,6 +158,10 @@ impl Keeper for KeepAtMost {
     }
 
     fn is_tracing(&self) -> bool {
+        false
+    }
+
+    fn keeps_in_turns(&self) -> bool {
         false
     }
 

@@ -1,15 +1,17 @@
 //! The keeper that takes what an edit may have changed as changed only where it did.
 
-ghost use Rattle.std.specs.Prelude.{◌≡◌, IfOk, IfSome, None, false, true};
+ghost use Rattle.std.specs.Prelude.{◌≡◌, ◌≤◌, ◌-◌, ◌^◌, IfOk, IfSome, None, OnOk, false, min, true};
 ghost use Rattle.at_cache.specs.Asking.{AreNoted};
 ghost use Rattle.at_cache.specs.Info.{memory_of, table_len};
 ghost use Rattle.at_cache.specs.Kept.{Answers, AreNamed, KeepsAll, LeavesUntouched, LosesTouched};
 ghost use Rattle.at_cache.specs.Finding.{edges_to};
 ghost use Rattle.at_cache.specs.Recorded.{IsIndexed};
-ghost use Rattle.at_cache.specs.Shedding.{AreHeld, Shrinks, kept_cut, remembered_cut};
+ghost use Rattle.at_cache.specs.Shedding.{AreHeld, Shrinks, is_crowded, kept_cut, most_beside as most, remembered_cut};
+ghost use Rattle.at_cache.specs.Marking.{seen_among};
+ghost use Rattle.at_cache.specs.declared.cut.Pass.TheVariants as pass_code;
 ghost use Rattle.at_cache.specs.Standings.{AreValued, IsTied, held, kept_held, last_is, remembered};
 ghost use Rattle.at_cache.specs.Theirs.{HasSlot};
-ghost use Rattle.at_cache.specs.Traced.{FlushesTraces, SparesAtEdit, TracesKept, TracesNothing};
+ghost use Rattle.at_cache.specs.Traced.{FlushesTraces, SparesAtEdit, StayTraced, TracesKept, TracesNothing};
 
 use crate::again::slot_by;
 use crate::blocking::blocking;
@@ -18,6 +20,7 @@ use crate::cut::{Cut, Pass};
 use crate::cutting::{take_away, take_away_at};
 use crate::edge::{Edge, Slot};
 use crate::entry::Links;
+use crate::facet::small;
 use crate::folding::fold;
 use crate::keeper::{Keeper, Order, Put};
 use crate::likely::Likely;
@@ -25,7 +28,7 @@ use crate::renewing::{enter_held, outdate, slot_for};
 use crate::run::AllReaders;
 use crate::settling::{Counts, LEVELS, settle_at};
 use crate::shedding::{lose_traces, shed};
-use crate::standing::standing_at;
+use crate::standing::{Standing, standing_at};
 use crate::table::Table;
 use at_body::{Inst, Value};
 use at_store::{Loc, Node, Places};
@@ -48,6 +51,8 @@ pub struct KeepCutOff {
     likely: Likely,
     // Whether there may be something to be kept again: not before the first edit, unless memory was wanting.
     doubtful: bool,
+    // Up to how many entries in memory an edit doesn't look how many of them are kept.
+    limit: usize,
     ghost indexed: { IsIndexed (edges_to readers) puts (held cut.standings.items (memory_of cut.entries)) },
     ghost tied: { IsTied (edges_to readers) puts (memory_of cut.entries) },
     ghost valued: { AreValued cut.standings.items (memory_of cut.entries) },
@@ -67,9 +72,13 @@ impl Drop for KeepCutOff {
             puts: _,
             likely: _,
             doubtful: _,
+            limit: _,
         } = self;
     }
 }
+
+// How many entries are in memory at least before an edit lets go of some.
+const FEW: usize = 64;
 
 impl KeepCutOff {
     /// A keeper that keeps nothing yet.
@@ -94,6 +103,7 @@ impl KeepCutOff {
             puts: 0,
             likely: Likely::new(alloc),
             doubtful: false,
+            limit: FEW,
         }
     }
 
@@ -120,37 +130,45 @@ impl KeepCutOff {
     ) -> Result<(KeepCutOff, u32), AllocError>
         ensures { IfOk result (λ r. Shrinks (edges_to self.readers) self.cut self.puts (edges_to r.0.readers) r.0.cut r.0.puts) }
     {
-        let keeper = self.shed()?;
+        let mut keeper = self;
+        keeper.shed()?;
         if keeper.len() <= most - most / 16 {
             return Ok((keeper, limit));
         }
         keeper.folded(most - most / 4, since, limit)
     }
 
-    // The same with nothing in memory but what is kept.
-    fn shed(self) -> Result<KeepCutOff, AllocError>
-        ensures held { IfOk result (λ k. AreHeld k.cut.standings.items (memory_of k.cut.entries)) }
-        ensures shrinks { IfOk result (λ k. Shrinks (edges_to self.readers) self.cut self.puts (edges_to k.readers) k.cut k.puts) }
+    // What isn't kept leaves memory. An error where there are too many slots, and then all stays.
+    fn shed(&mut self) -> Result<(), AllocError>
+        ensures held { OnOk result (AreHeld self.new.cut.standings.items (memory_of self.new.cut.entries)) }
+        ensures kept { KeepsAll (kept_cut (edges_to self.old.readers) self.old.cut self.old.puts)
+            (kept_cut (edges_to self.new.readers) self.new.cut self.new.puts) }
+        ensures stay { StayTraced (remembered_cut (edges_to self.old.readers) self.old.cut) (remembered_cut (edges_to self.new.readers) self.new.cut) }
+        ensures fewer { table_len self.new.cut.entries ≤ table_len self.old.cut.entries }
     {
-        let KeepCutOff {
-            alloc,
-            mut cut,
-            readers,
-            index_read,
-            puts,
-            likely,
-            doubtful: _,
-        } = self;
-        shed(&mut cut.entries, cut.standings.as_slice())?;
-        Ok(KeepCutOff {
-            alloc,
-            cut,
-            readers,
-            index_read,
-            puts,
-            likely,
-            doubtful: true,
-        })
+        let count = small(self.cut.entries.places.capacity())?;
+        self.doubtful = true;
+        shed(&mut self.cut.entries, self.cut.standings.as_slice(), count);
+        Ok(())
+    }
+
+    // Where much more is in memory than is kept, all that isn't kept leaves it.
+    fn let_go(&mut self)
+        ensures kept { KeepsAll (kept_cut (edges_to self.old.readers) self.old.cut self.old.puts)
+            (kept_cut (edges_to self.new.readers) self.new.cut self.new.puts) }
+        ensures stay { StayTraced (remembered_cut (edges_to self.old.readers) self.old.cut) (remembered_cut (edges_to self.new.readers) self.new.cut) }
+        ensures spares { is_crowded self.old.cut ≡ false → remembered_cut (edges_to self.new.readers) self.new.cut
+            ≡ remembered_cut (edges_to self.old.readers) self.old.cut }
+        ensures fewer { table_len self.new.cut.entries ≤ table_len self.old.cut.entries }
+    {
+        if self.len() <= self.limit {
+            return;
+        }
+        let kept = kept_among(self.cut.standings.as_slice());
+        self.limit = most_beside(kept);
+        if self.len() > self.limit {
+            let _ = self.shed();
+        }
     }
 
     // The same with entries folded into those that used them, all of which are kept. None is traced.
@@ -184,6 +202,7 @@ impl KeepCutOff {
             puts,
             likely,
             doubtful: _,
+            limit: many,
         } = self;
         fold(alloc, &mut cut.entries, &mut readers, plan)?;
         lose_traces(&mut cut.standings)?;
@@ -195,6 +214,7 @@ impl KeepCutOff {
             puts,
             likely,
             doubtful: true,
+            limit: many,
         })
     }
 
@@ -206,12 +226,36 @@ impl KeepCutOff {
     }
 }
 
+// How many entries may be in memory where so many are kept.
+fn most_beside(kept: usize) -> usize
+    ensures { result ≡ min (most kept) (2 ^ 64 - 1) }
+{
+    kept.saturating_add(kept / 8).saturating_add(FEW)
+}
+
+// How many entries are kept.
+fn kept_among(standings: &[Standing]) -> usize
+    ensures { result ≡ seen_among pass_code.Values standings.now }
+{
+    let mut kept = 0_usize;
+    for standing in standings {
+        if standing.holds {
+            kept += 1;
+        }
+    }
+    kept
+}
+
 impl Keeper for KeepCutOff {
     ghost contents = { λ k. kept_held (edges_to k.readers) k.cut.entries k.cut.standings.items k.puts };
 
     ghost exact = { true };
 
     ghost memories = { λ k. remembered (edges_to k.readers) k.cut.entries k.cut.standings.items };
+
+    ghost crowded = { λ k. is_crowded k.cut };
+
+    ghost always_in_turns = { λ k l. cc };
 
     ghost kept_last = { λ k i v kept. last_is (edges_to k.readers) k.cut.entries k.cut.standings.items k.puts i v kept };
 
@@ -312,6 +356,10 @@ impl Keeper for KeepCutOff {
         true
     }
 
+    fn keeps_in_turns(&self) -> bool {
+        false
+    }
+
     fn flush<F: Fn(Loc) -> bool>(&mut self, touched: &F)
         requires { F.IsAlwaysCallable touched.now }
         ensures leaves { LeavesUntouched (Answers (F.post touched.now)) (kept_cut (edges_to self.old.readers) self.old.cut self.old.puts)
@@ -320,10 +368,11 @@ impl Keeper for KeepCutOff {
             (kept_cut (edges_to self.new.readers) self.new.cut self.new.puts) }
         ensures traces { FlushesTraces (Answers (F.post touched.now)) (remembered_cut (edges_to self.old.readers) self.old.cut)
             (remembered_cut (edges_to self.new.readers) self.new.cut) }
-        ensures spares { SparesAtEdit (Answers (F.post touched.now)) (remembered_cut (edges_to self.old.readers) self.old.cut)
+        ensures spares { SparesAtEdit (Answers (F.post touched.now)) (is_crowded self.old.cut) (remembered_cut (edges_to self.old.readers) self.old.cut)
             (remembered_cut (edges_to self.new.readers) self.new.cut) }
-        ensures len { table_len self.new.cut.entries ≡ table_len self.old.cut.entries }
+        ensures fewer { table_len self.new.cut.entries ≤ table_len self.old.cut.entries }
     {
+        self.let_go();
         self.doubtful = true;
         let readers = &self.readers;
         take_away(&mut self.cut, Pass::Traces, readers, touched);
@@ -339,10 +388,11 @@ impl Keeper for KeepCutOff {
             (kept_cut (edges_to self.new.readers) self.new.cut self.new.puts) }
         ensures traces { FlushesTraces (Answers (F.post touched.now)) (remembered_cut (edges_to self.old.readers) self.old.cut)
             (remembered_cut (edges_to self.new.readers) self.new.cut) }
-        ensures spares { SparesAtEdit (Answers (F.post touched.now)) (remembered_cut (edges_to self.old.readers) self.old.cut)
+        ensures spares { SparesAtEdit (Answers (F.post touched.now)) (is_crowded self.old.cut) (remembered_cut (edges_to self.old.readers) self.old.cut)
             (remembered_cut (edges_to self.new.readers) self.new.cut) }
-        ensures len { table_len self.new.cut.entries ≡ table_len self.old.cut.entries }
+        ensures fewer { table_len self.new.cut.entries ≤ table_len self.old.cut.entries }
     {
+        self.let_go();
         self.doubtful = true;
         let readers = &self.readers;
         let index_read = self.index_read.as_slice();

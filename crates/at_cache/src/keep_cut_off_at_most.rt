@@ -4,6 +4,7 @@ ghost use Rattle.std.specs.Prelude.{◌≡◌, ◌≤◌, None, false};
 ghost use Rattle.at_cache.specs.Bound.{bounded_by, bounded_last, LosesOver, remembered_by};
 ghost use Rattle.at_cache.specs.Folding.{LeavesKept};
 ghost use Rattle.at_cache.specs.Info.{table_len};
+ghost use Rattle.at_cache.specs.Shedding.{is_crowded};
 ghost use Rattle.at_cache.specs.Kept.{Answers, AreNamed, KeepsAll, LeavesUntouched};
 ghost use Rattle.at_cache.specs.Traced.{FlushesTraces, StayTraced, TracesNothing};
 
@@ -93,6 +94,10 @@ impl Keeper for KeepCutOffAtMost {
 
     ghost memories = { remembered_by };
 
+    ghost crowded = { λ k. is_crowded k.keeper.cut };
+
+    ghost always_in_turns = { λ k l. cc };
+
     ghost kept_last = { bounded_last };
 
     fn get(&self, inst: &Inst) -> Option<&Value> {
@@ -128,6 +133,10 @@ impl Keeper for KeepCutOffAtMost {
 
     fn is_tracing(&self) -> bool {
         true
+    }
+
+    fn keeps_in_turns(&self) -> bool {
+        false
     }
 
     fn flush<F: Fn(Loc) -> bool>(&mut self, touched: &F)

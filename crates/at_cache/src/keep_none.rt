@@ -24,7 +24,11 @@ impl Keeper for KeepNone {
 
     ghost exact = { false };
 
-    ghost memories = { λ k. record { traced = λ _. None; last = λ i. value_at (None) } };
+    ghost memories = { λ k. record { traced = λ _. None; last = λ i. value_at (None); in_turns = false } };
+
+    ghost crowded = { λ _. false };
+
+    ghost always_in_turns = { λ k l. cc };
 
     ghost kept_last = { λ k i v kept. kept };
 
@@ -60,6 +64,10 @@ impl Keeper for KeepNone {
     }
 
     fn is_tracing(&self) -> bool {
+        false
+    }
+
+    fn keeps_in_turns(&self) -> bool {
         false
     }
 

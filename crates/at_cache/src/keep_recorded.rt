@@ -1,6 +1,6 @@
 //! The keeper that forgets at an edit what the edit touches.
 
-ghost use Rattle.std.specs.Prelude.{◌≡◌, ◌≤◌, ◌-◌, ◌^◌, min, IfOk, None, true};
+ghost use Rattle.std.specs.Prelude.{◌≡◌, ◌≤◌, ◌-◌, ◌^◌, min, IfOk, None, false, true};
 ghost use Rattle.at_cache.specs.Asking.{AreNoted};
 ghost use Rattle.at_cache.specs.Folding.{LeavesKept};
 ghost use Rattle.at_cache.specs.Info.{memory_of, table_len};
@@ -185,7 +185,11 @@ impl Keeper for KeepRecorded {
 
     ghost exact = { true };
 
-    ghost memories = { λ k. record { traced = λ _. None; last = λ i. value_at (kept_in (edges_to k.readers) k.entries k.puts i) } };
+    ghost memories = { λ k. record { traced = λ _. None; last = λ i. value_at (kept_in (edges_to k.readers) k.entries k.puts i); in_turns = false } };
+
+    ghost crowded = { λ _. false };
+
+    ghost always_in_turns = { λ k l. cc };
 
     ghost kept_last = { λ k i v kept. kept };
 
@@ -237,6 +241,10 @@ impl Keeper for KeepRecorded {
     }
 
     fn is_tracing(&self) -> bool {
+        false
+    }
+
+    fn keeps_in_turns(&self) -> bool {
         false
     }
 

@@ -32,7 +32,11 @@ impl Keeper for KeepUntilEdit {
 
     ghost exact = { false };
 
-    ghost memories = { λ k. record { traced = λ _. None; last = λ i. value_at (values_kept k.values.entries i) } };
+    ghost memories = { λ k. record { traced = λ _. None; last = λ i. value_at (values_kept k.values.entries i); in_turns = false } };
+
+    ghost crowded = { λ _. false };
+
+    ghost always_in_turns = { λ k l. cc };
 
     ghost kept_last = { λ k i v kept. kept };
 
@@ -72,6 +76,10 @@ impl Keeper for KeepUntilEdit {
     }
 
     fn is_tracing(&self) -> bool {
+        false
+    }
+
+    fn keeps_in_turns(&self) -> bool {
         false
     }
 

@@ -42,6 +42,12 @@ pub trait Keeper: Drop {
     /// What it remembers beside them; most keepers trace nothing.
     ghost memories: { Self → Memories };
 
+    /// Whether much more is in memory than is kept: then an edit may let go of what isn't.
+    ghost crowded: { Self → Bool };
+
+    /// Whether turns keep again what can be kept so is the same at any time.
+    ghost always_in_turns: { (k l : Self) → (memories l).in_turns ≡ (memories k).in_turns };
+
     /// The value that is kept is the last one.
     ghost kept_last: { (k : Self) (i : Instance ℕ) (v : Value ℕ) → value_at (contents k i) ≡ Some v → (memories k).last i ≡ Some v };
 
@@ -91,13 +97,17 @@ pub trait Keeper: Drop {
     /// Whether it traces what it is told in order. Nothing rests on it.
     fn is_tracing(&self) -> bool;
 
+    /// Whether turns of posted questions are to keep again what can be kept with no evaluation, too.
+    fn keeps_in_turns(&self) -> bool
+        ensures { result ≡ (memories self.now).in_turns };
+
     /// Forgets each entry that stands for a touched location.
     fn flush<F: Fn(Loc) -> bool>(&mut self, touched: &F)
         requires { F.IsAlwaysCallable touched.now }
         ensures leaves { LeavesUntouched (Answers (F.post touched.now)) (contents self.old) (contents self.new) }
         ensures loses { IsTrue exact → LosesTouched (Answers (F.post touched.now)) (contents self.old) (contents self.new) }
         ensures traces { FlushesTraces (Answers (F.post touched.now)) (memories self.old) (memories self.new) }
-        ensures spares { IsTrue exact → SparesAtEdit (Answers (F.post touched.now)) (memories self.old) (memories self.new) };
+        ensures spares { IsTrue exact → SparesAtEdit (Answers (F.post touched.now)) (crowded self.old) (memories self.old) (memories self.new) };
 
     /// Forgets each entry that stands for a touched location. The places name all that is touched.
     fn flush_at<F: Fn(Loc) -> bool>(&mut self, places: &Places<'_>, touched: &F)
@@ -106,5 +116,5 @@ pub trait Keeper: Drop {
         ensures leaves { LeavesUntouched (Answers (F.post touched.now)) (contents self.old) (contents self.new) }
         ensures loses { IsTrue exact → LosesTouched (Answers (F.post touched.now)) (contents self.old) (contents self.new) }
         ensures traces { FlushesTraces (Answers (F.post touched.now)) (memories self.old) (memories self.new) }
-        ensures spares { IsTrue exact → SparesAtEdit (Answers (F.post touched.now)) (memories self.old) (memories self.new) };
+        ensures spares { IsTrue exact → SparesAtEdit (Answers (F.post touched.now)) (crowded self.old) (memories self.old) (memories self.new) };
 }

@@ -1,7 +1,7 @@
 //! What isn't kept leaves memory.
 
-ghost use Rattle.std.specs.Prelude.{OnOk};
-ghost use Rattle.at_cache.specs.Info.{memory_of};
+ghost use Rattle.std.specs.Prelude.{◌≤◌, OnOk, length};
+ghost use Rattle.at_cache.specs.Info.{memory_of, table_len};
 ghost use Rattle.at_cache.specs.Shedding.{LosesTraces, Sheds, ShedsAt};
 
 use crate::cut::Pass;
@@ -14,7 +14,8 @@ use std::alloc::AllocError;
 
 // What is in the slot goes, if it isn't kept.
 fn shed_at(entries: &mut Table, standings: &[Standing], slot: Slot)
-    ensures { ShedsAt standings.now slot (memory_of entries.old) (memory_of entries.new) }
+    ensures sheds { ShedsAt standings.now slot (memory_of entries.old) (memory_of entries.new) }
+    ensures fewer { table_len entries.new ≤ table_len entries.old }
 {
     let standing = standing_at(standings, slot);
     if standing.holds {
@@ -26,15 +27,15 @@ fn shed_at(entries: &mut Table, standings: &[Standing], slot: Slot)
     let _ = entries.remove(slot);
 }
 
-/// What isn't kept goes. An error where there are too many slots.
-pub fn shed(entries: &mut Table, standings: &[Standing]) -> Result<(), AllocError>
-    ensures { OnOk result (Sheds standings.now (memory_of entries.old) (memory_of entries.new)) }
+/// What isn't kept of what is in the first so many slots goes, which are all.
+pub fn shed(entries: &mut Table, standings: &[Standing], count: Slot)
+    requires all { length entries.old.places.slots ≤ count }
+    ensures sheds { Sheds standings.now (memory_of entries.old) (memory_of entries.new) }
+    ensures fewer { table_len entries.new ≤ table_len entries.old }
 {
-    for number in 0..entries.places.capacity() {
-        let slot = small(number)?;
+    for slot in 0..count {
         shed_at(entries, standings, slot);
     }
-    Ok(())
 }
 
 /// No entry can be kept again. An error where there are too many slots.

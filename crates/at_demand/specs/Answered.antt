@@ -122,7 +122,7 @@ pub record HasTurnedOn {E : Type 0} (rules : Rules) (s : Shown) (exact : Bool) (
   pub gains : GainsAtMost rules s exact before after earlier later old (KeepsGroups rules r)
 
 -- It was given as many turns as it may be, which are counted, or fewer where one of them answered it; so it is then, too. What these memories
--- have may be kept again before each of them.
+-- have may be kept again before each of them, where they say that turns do.
 pub record HasTurnedOften {E : Type 0} (rules : Rules) (s : Shown) (exact : Bool) (m : Memories) (before after : Entries) (earlier later limit : ℕ)
     (old new : Question) (r : Result (ℕ × Option AnswerCode) E) : Type 0 where
   pub plainly : HasNoneCircular rules → HasGivenPlainly rules s m before after limit old new r
@@ -161,13 +161,13 @@ pub record TracesNothing (exact : Bool) (Turns : Type 0) (former latter : Memori
   pub traces : StayTraced former latter
   pub went : IsTrue exact → Went former first latter next
 
--- an edit leaves all that it doesn't touch, an exact keeper loses the rest, and traces for which it was looked at alone; the work stays as it was, and
--- nothing is made
-pub record Forgets (says : Location ℕ → Bool → Type 0) (exact : Bool) (before after : Entries) (former latter : Memories)
+-- An edit leaves all that it doesn't touch, an exact keeper loses the rest, and traces for which it was looked at alone, and others where much more is
+-- in memory than is kept. The work stays as it was, and nothing is made.
+pub record Forgets (says : Location ℕ → Bool → Type 0) (exact crowded : Bool) (before after : Entries) (former latter : Memories)
     (earlier later first next : ℕ) : Type 0 where
   pub leaves : LeavesUntouched says before after
   pub loses : IsTrue exact → LosesTouched says before after
   pub traces : FlushesTraces says former latter
-  pub spares : IsTrue exact → SparesAtEdit says former latter
+  pub spares : IsTrue exact → SparesAtEdit says crowded former latter
   pub work : later ≡ earlier
   pub made : next ≡ first

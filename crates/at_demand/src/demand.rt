@@ -228,8 +228,8 @@ impl<K: Keeper> Demand<K> {
     pub fn after_edit_at<F: Fn(Loc) -> bool>(&mut self, places: &Places<'_>, touched: &F)
         requires callable { F.IsAlwaysCallable touched.now }
         requires named { AreNamed places.now (F.post touched.now) }
-        ensures { Forgets (Says (F.post touched.now)) K.exact (K.contents self.old.keeper) (K.contents self.new.keeper)
-            (K.memories self.old.keeper) (K.memories self.new.keeper) self.old.work self.new.work self.old.made self.new.made }
+        ensures { Forgets (Says (F.post touched.now)) K.exact (K.crowded self.old.keeper) (K.contents self.old.keeper)
+            (K.contents self.new.keeper) (K.memories self.old.keeper) (K.memories self.new.keeper) self.old.work self.new.work self.old.made self.new.made }
     {
         self.keeper.flush_at(places, touched);
     }

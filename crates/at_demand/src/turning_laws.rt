@@ -1,6 +1,6 @@
 //! Laws of questions that are given turns: each is the contract of a function that does nothing.
 
-ghost use Rattle.std.specs.Prelude.{Bool, Option, [], ◌≡◌, ◌⊎◌, ◌≤◌, ◌+◌, ◌*◌, IsSome, None, Some, length, ℕ};
+ghost use Rattle.std.specs.Prelude.{Bool, Option, [], ◌≡◌, ◌⊎◌, ◌≤◌, ◌+◌, ◌*◌, IsSome, None, Some, false, length, ℕ};
 ghost use Rattle.at_model.specs.Alike.{InstanceLike, Names};
 ghost use Rattle.at_model.specs.Asking.{IsWellFormed};
 ghost use Rattle.at_model.specs.Instances.{instances};
@@ -27,7 +27,7 @@ ghost use Rattle.at_demand.specs.Known.{equations, kept_values, meaning};
 ghost use Rattle.at_demand.specs.Meant.{AreRightValues};
 ghost use Rattle.at_demand.specs.Reasons.{AddsDemanded, DemandsOn, HasReason, HasReasons};
 ghost use Rattle.at_demand.specs.Traces.{AreJustified};
-ghost use Rattle.at_demand.specs.Turns.{AreTurns, IsSparingTurns, IsStanding, MayComeIn};
+ghost use Rattle.at_demand.specs.Turns.{AreTurns, AreTurnsOfChain, IsSparingTurns, IsStanding, MayComeIn};
 
 /// Twice the number of all instances is two more than the turns that a question is given without an answer, whatever is kept
 /// at each of them; and all that is under way and was found are that many instances at most.
@@ -55,9 +55,14 @@ pub fn a_question_stands_while_more_is_kept()
         → IsStanding rules s entries q → IsSparingTurns rules (contents s) entries q → IsSparingTurns rules (contents s) more q }
 {}
 
-/// Where nothing is traced nothing is kept again before a turn.
+/// Where nothing is traced nothing is kept again before a turn; nor is it where turns don't keep again, whatever is traced: turns are then what they
+/// are over any memories, such as those that trace nothing.
 pub fn without_traces_nothing_is_kept_again()
-    ensures { (m : Memories) (old new : Entries) → TracesNothing m → KeepsAgain m old new → (i : Instance ℕ) → new i ≡ old i }
+    ensures untraced { (m : Memories) (old new : Entries) → TracesNothing m → KeepsAgain m old new → (i : Instance ℕ) → new i ≡ old i }
+    ensures searched { (rules : Rules) (s : Shown) (m any : Memories) → m.in_turns ≡ false → (n : ℕ) (before after : Entries) (u v : Search ℕ)
+        (o : Option (Answer ℕ)) → AreTurns rules s m n before u after v o → AreTurns rules s any n before u after v o }
+    ensures plainly { (rules : Rules) (s : Shown) (m any : Memories) → m.in_turns ≡ false → (n : ℕ) (before after : Entries) (u v : UnderWay ℕ)
+        (o : Option (Answer ℕ)) → AreTurnsOfChain rules s m n before u after v o → AreTurnsOfChain rules s any n before u after v o }
 {}
 
 /// Where a circle answers a question, each demand of an equation at which its search looks is decided: it has an outcome, or it has none, and

@@ -221,7 +221,7 @@ module _ (says : Location ℕ → Bool → Type 0) (lists : Location ℕ → Lis
       )
 
   -- a trace that is there no more looked at what was touched
-  pub spares_edit : SparesAtEdit says (remembered lists a.entries a.standings.items) (remembered lists c.entries c.standings.items)
+  pub spares_edit : SparesAtEdit says false (remembered lists a.entries a.standings.items) (remembered lists c.entries c.standings.items)
   spares_edit i tr h =
       let (e, j, there, alike, at_slot) = traced_by lists a.entries a.standings.items i tr h in
       let (f, found, on, (v, some, is)) = trace_is lists a.standings.items (memory_of a.entries) e.slot tr at_slot in
@@ -248,7 +248,8 @@ module _ (says : Location ℕ → Bool → Type 0) (lists : Location ℕ → Lis
           → f.value ≡ Some v → trace_of lists (memory_of a.entries) s f v ≡ tr → same_instance i f.instance ≡ true
           → (b : Bool) → (standing_of c.standings.items s).traced ≡ b
           → ((remembered lists c.entries c.standings.items).traced i ≡ Some tr)
-          ⊎ ((l : Location ℕ) × (tr.reads l ≡ true) × says l true)
+          ⊎ (((l : Location ℕ) × (tr.reads l ≡ true) × says l true)
+          ⊎ ((false ≡ true) × ((remembered lists c.entries c.standings.items).traced i ≡ None)))
       by s f v found on some is alike true still =
           inl (traced_of lists c.entries c.standings.items i s f tr (same_memory s ∙ found) alike
           (trace_there lists c.standings.items (memory_of c.entries) s f v (same_memory s ∙ found) still some
@@ -259,4 +260,4 @@ module _ (says : Location ℕ → Bool → Type 0) (lists : Location ℕ → Lis
           ∙ shown_is pass.Traces (standing_of a.standings.items s) f on in
           let (l, listed, said) = touched_by s f found (t.works.gone s (shape pass.Traces (standing_of a.standings.items s) f)
           before (not_seen pass.Traces (standing_of b.standings.items s) (memory_of b.entries s) off)) in
-          inr (l, ap (λ (x : Trace). x.reads l) (sym is) ∙ listed, said)
+          inr (inl (l, ap (λ (x : Trace). x.reads l) (sym is) ∙ listed, said))

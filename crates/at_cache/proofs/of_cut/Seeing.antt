@@ -1,5 +1,5 @@
 -- What a pass sees of entries, of which some are marked.
-use Rattle.std.proofs.Common.{◌≡◌, ◌<◌, ◌≤◌, ◌+◌, inl, inr, ◌&&◌, ℕ, zero, suc, List, [], ◌∷◌, length, slice_set, arith, Bool, true, false, Option, None, Some, IsSome, option_map, nat_eq, if◌then◌else◌, refl, sym, ap, ◌∙◌, subst, eqb-true}
+use Rattle.std.proofs.Common.{◌≡◌, ◌<◌, ◌≤◌, ◌+◌, inl, inr, ◌&&◌, ℕ, zero, suc, drop, List, [], ◌∷◌, length, slice_set, arith, Bool, true, false, Option, None, Some, IsSome, option_map, nat_eq, if◌then◌else◌, refl, sym, ap, ◌∙◌, subst, eqb-true}
 use Rattle.std.specs.Option.{option_and_then}
 use Rattle.std.proofs.lemmas.Bool.{cases_eq, eq-eqb, ne_eqb}
 use Rattle.at_cache.specs.declared.cut.Pass.{Pass}
@@ -126,6 +126,13 @@ module _ (p : Pass) where
           → (if b then suc (seen_among p (slice_set xs k (but_for p (standing_of xs k)))) else seen_among p (slice_set xs k (but_for p (standing_of xs k)))) + 1 ≡ (if b then suc (seen_among p xs) else seen_among p xs)
       by true rest = omega (arith, rest)
       by false rest = rest
+
+  -- behind the last one nothing is left
+  pub seen_none : (xs : List Standing) (k : ℕ) → length xs ≤ k → seen_among p (drop k xs) ≡ 0
+  seen_none [] zero over = refl
+  seen_none [] (suc k) over = refl
+  seen_none (x ∷ xs) zero over = absurd (omega arith)
+  seen_none (x ∷ xs) (suc k) over = seen_none xs k (omega (arith, over))
 
   -- what is taken from within, and from where nothing is
   pub taken_set : (xs ys : List Standing) (k : ℕ) (s : Standing) → k < length xs → s ≡ standing_of xs k → ys ≡ slice_set xs k (but_for p s) → IsTaken p k xs ys

@@ -1,5 +1,5 @@
 -- What turns that follow each other come to, none of which answers the question.
-use Rattle.std.proofs.Common.{◌≡◌, ◌+◌, ◌<◌, ◌^◌, ℕ, suc, Bool, [], Option, Some, None, Result, Ok, Err, refl, sym, ap, ◌∙◌, subst, arith}
+use Rattle.std.proofs.Common.{◌≡◌, ◌+◌, ◌<◌, ◌^◌, ℕ, suc, Bool, true, false, [], Option, Some, None, Result, Ok, Err, refl, sym, ap, ◌∙◌, subst, arith}
 use Rattle.std.specs.Prelude.{IsTrue}
 use Rattle.std.specs.declared.alloc.AllocError.{AllocError}
 use Rattle.at_model.specs.Rules.{Rules}
@@ -89,20 +89,20 @@ module _ (rules : Rules) (s : Shown) (exact : Bool) (m : Memories) (basis : IsBa
     sound_again : AreSound rules s new
     sound_again = sound_after rules s basis mid q inv.sound inv.standing new gains.known.right up.worthy
 
-    pub given_again : KeepsAgain m mid new → AreLed rules s q.inst mid new → So new y given q
-    given_again again on = record {
+    pub given_again : m.in_turns ≡ true → KeepsAgain m mid new → AreLed rules s q.inst mid new → So new y given q
+    given_again told again on = record {
       sound = sound_again;
       plain = gains.known.plain;
       standing = stands_grown rules s mid new gains.worthy.stays q inv.standing;
       same = inv.same;
       turns = inv.turns;
       plainly = λ none.
-          let (each, silent) = inv.plainly none in (turns.again given first mid new (under_way old) (under_way q) each again, silent);
+          let (each, silent) = inv.plainly none in (turns.again given first mid new (under_way old) (under_way q) each told again, silent);
       searched = λ u st.
           let (v, silent, each, stands) = inv.searched u st in
           let next_is : v.last.next ≡ q.inst = ap (λ (l : Level ℕ). l.next) stands.is.last in
           let led = subst (λ (i : Instance ℕ). AreLed rules s i mid new) (sym next_is) on in
-          (v, silent, turns.again given first mid new u v each again led gains.known.right, stands_more rules s mid new gains.worthy.stays q sound_again v stands);
+          (v, silent, turns.again given first mid new u v each told again led gains.known.right, stands_more rules s mid new gains.worthy.stays q sound_again v stands);
       worthy = worthy_both rules (contents s) (asked_by old) first mid new inv.worthy
           (subst (λ (i : Instance ℕ). AddsWorthy rules (contents s) i mid new) inv.same up.worthy);
       stays = λ there right. up.stays (subst (λ (i : Instance ℕ). IsThere s i) (sym inv.same) there) (inv.stays there right);
@@ -111,16 +111,27 @@ module _ (rules : Rules) (s : Shown) (exact : Bool) (m : Memories) (basis : IsBa
       counts = λ k. counts_more first mid new w x y (inv.counts k) (gains.counts k);
     }
 
-  -- by memories that were these at the beginning
+  -- by memories that were these at the beginning, where turns keep again
   pub given_settled : (mid : Entries) (x given : ℕ) (q : Question) → So mid x given q → (l n : Memories) (new : Entries) (y : ℕ) → x < 2 ^ 64
-      → StayTraced m l → AreJustified rules (contents s) m → LastKept l mid → HasKeptAgain exact l n mid new x y q.inst → So new y given q
-  given_settled mid x given q inv l n new y few stay justified last kept = given_again mid x given q inv new y
+      → StayTraced m l → AreJustified rules (contents s) m → LastKept l mid → m.in_turns ≡ true → HasKeptAgain exact l n mid new x y q.inst
+      → So new y given q
+  given_settled mid x given q inv l n new y few stay justified last told kept = given_again mid x given q inv new y
       (gains_again rules s basis.idle exact l n mid new x y q.inst few
       (known_none rules (contents s) mid basis.circular inv.sound.right inv.plain)
       (stay_justified rules (contents s) m l stay justified) last kept)
-      (again_before m l mid new stay (settled_again exact l q.inst kept.count mid new kept.settled))
+      told (again_before m l mid new stay (settled_again exact l q.inst kept.count mid new kept.settled))
       (settled_demanded rules s basis.idle exact l (stay_justified rules (contents s) m l stay justified) q.inst kept.count mid new []
       kept.settled (known_none rules (contents s) mid basis.circular inv.sound.right inv.plain) last)
+
+  -- so it is where that is asked, and where it isn't all stayed
+  pub given_asked : (mid : Entries) (x given : ℕ) (q : Question) → So mid x given q → (l n : Memories) (new : Entries) (y : ℕ) → x < 2 ^ 64
+      → StayTraced m l → AreJustified rules (contents s) m → LastKept l mid → (asks : Bool) → asks ≡ m.in_turns
+      → (asks ≡ false → (new ≡ mid) × (y ≡ x)) → HasKeptAgain exact l n mid new x y q.inst → So new y given q
+  given_asked mid x given q inv l n new y few stay justified last true is same kept =
+      given_settled mid x given q inv l n new y few stay justified last (sym is) kept
+  given_asked mid x given q inv l n new y few stay justified last false is same kept =
+      let (entries, work) = same refl in
+      subst (λ (e : Entries). So e y given q) (sym entries) (subst (λ (z : ℕ). So mid z given q) (sym work) inv)
 
   module _ (mid : Entries) (x given : ℕ) (q : Question) (inv : So mid x given q) (new : Entries) (y : ℕ) (p : Question) (t : Trials) where
     module _ (Whole : Type 0) (g : GainsAtMost rules s exact mid new x y q Whole) where

@@ -1,8 +1,11 @@
 -- What is kept again for the last instance of a question: it came with no evaluation, and is right and worthy.
-use Rattle.std.proofs.Common.{◌≡◌, ◌⊎◌, ◌<◌, ◌^◌, ℕ, Bool, true, false, [], None, Some, inl, inr, refl, sym, ap, ◌∙◌, subst, if◌then◌else◌}
+use Rattle.std.proofs.Common.{◌≡◌, ◌⊎◌, ◌<◌, ◌^◌, ℕ, Bool, true, false, [], Option, None, Some, inl, inr, refl, sym, ap, ◌∙◌, subst, if◌then◌else◌, arith, true≢false}
 use Rattle.std.proofs.lemmas.Option.{none-some}
 use Rattle.at_model.specs.Rules.{Rules}
+use Rattle.at_model.specs.Meaning.{Answer}
 use Rattle.at_model.specs.Run.{Instance}
+use Rattle.at_model.specs.Turning.{UnderWay}
+use Rattle.at_model.specs.of_fixpoints.Searching.{Search}
 use Rattle.at_store.specs.Shown.{IsIdle, Shown, contents}
 use Rattle.at_body.specs.Same.{same_instance}
 use Rattle.at_cache.specs.Kept.{Entries, PutsBy, value_at}
@@ -11,8 +14,11 @@ use Rattle.at_demand.specs.Again.{HasKeptAgain, KeepsAgain}
 use Rattle.at_demand.specs.Inner.{AreKnown, Gains}
 use Rattle.at_demand.specs.Known.{KeepsEntries, kept_values}
 use Rattle.at_demand.specs.Traces.{AreJustified}
+use Rattle.at_demand.specs.Turns.{AreTurns, AreTurnsOfChain}
+use Rattle.at_demand.specs.Turns as turns
 use Rattle.at_demand.proofs.Entered.{not_none}
 use Rattle.at_demand.proofs.Sameness.{same_true}
+use Rattle.at_demand.proofs.of_traces.Justified.{stay_same}
 use Rattle.at_demand.proofs.of_traces.Settled.{LastKept, settled_gains}
 
 -- nothing comes
@@ -62,6 +68,16 @@ settled_again exact m q _ e _ (nothing _) = again_none m e
 settled_again exact m q _ e f (one_more n _ mid _ i t before next traced absent all puts) = again_then m e mid f
     (settled_again exact m q n e mid before) (again_one exact m mid f i t traced absent puts)
 
+-- where nothing is done, too
+pub kept_nothing : (exact : Bool) (m : Memories) (e : Entries) (w : ℕ) (q : Instance ℕ) → w < 2 ^ 64 → HasKeptAgain exact m m e e w w q
+kept_nothing exact m e w q few = record {
+  count = 0;
+  settled = nothing e;
+  counts = omega (arith, few);
+  stay = stay_same m;
+  alike = record { traced = λ i. refl; last = λ i. refl };
+}
+
 -- and it is right, and worthy of the instance
 pub gains_again : (rules : Rules) (s : Shown) → IsIdle s → (exact : Bool) (m n : Memories) (e f : Entries) (w x : ℕ) (q : Instance ℕ)
     → w < 2 ^ 64 → AreKnown rules (contents s) e [] → AreJustified rules (contents s) m → LastKept m e
@@ -84,3 +100,21 @@ again_nothing m e f none again i = by (again i)
     by : Comes m i e f → f i ≡ e i
     by (inl same) = same
     by (inr (gone, (t, traced, value))) = absurd (none-some t (sym (none i) ∙ traced))
+
+-- turns over memories by which turns keep nothing again are turns over any
+module _ (rules : Rules) (s : Shown) (m l : Memories) (off : m.in_turns ≡ false) where
+  not_on : m.in_turns ≡ true → ⊥
+  not_on on = true≢false (sym on ∙ off)
+
+  pub search_over : (n : ℕ) (d e : Entries) (u v : Search ℕ) (o : Option (Answer ℕ)) → AreTurns rules s m n d u e v o → AreTurns rules s l n d u e v o
+  search_over _ d _ u _ _ (turns.none _ _) = turns.none d u
+  search_over n d e u v _ (turns.again _ _ x _ _ _ front on again led right) = absurd (not_on on)
+  search_over _ d e u v o (turns.more n _ x _ _ w _ _ front turned gains right) =
+      turns.more n d x e u w v o (search_over n d x u w None front) turned gains right
+
+  pub chain_over : (n : ℕ) (d e : Entries) (u v : UnderWay ℕ) (o : Option (Answer ℕ)) → AreTurnsOfChain rules s m n d u e v o
+      → AreTurnsOfChain rules s l n d u e v o
+  chain_over _ d _ u _ _ (turns.none _ _) = turns.none d u
+  chain_over n d e u v _ (turns.again _ _ x _ _ _ front on again) = absurd (not_on on)
+  chain_over _ d e u v o (turns.more n _ x _ _ w _ _ front turned gains) =
+      turns.more n d x e u w v o (chain_over n d x u w None front) turned gains

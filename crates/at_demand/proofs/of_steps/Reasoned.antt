@@ -91,7 +91,7 @@ module _ (rules : Rules) (s : Shown) (first : Known ℕ) (q c : Instance ℕ) (c
     pub turns_reasoned : (n : ℕ) (d e : Entries) (u v : Search ℕ) (o : Option (Answer ℕ)) → AreTurns rules s m n d u e v o →
         o ≡ None → SoReasoned d u → SoReasoned e v
     turns_reasoned _ d _ u _ _ (turns.none _ _) none r = r
-    turns_reasoned n d e u v _ (turns.again _ _ x _ _ _ front again led right) none r =
+    turns_reasoned n d e u v _ (turns.again _ _ x _ _ _ front on again led right) none r =
         let mid = turns_reasoned n d x u v None front refl r in
         record { on = mid.on; reasons = mid.reasons; kept = again_reasoned x e v mid led right; right = right }
     turns_reasoned _ d e u v o (turns.more n _ x _ _ w _ _ front turned gains right) none r =
@@ -102,7 +102,7 @@ module _ (rules : Rules) (s : Shown) (first : Known ℕ) (q c : Instance ℕ) (c
     pub kept_reasoned : (n : ℕ) (d e : Entries) (u v : Search ℕ) (o : Option (Answer ℕ)) → AreTurns rules s m n d u e v o →
         SoReasoned d u → AllReasoned e
     kept_reasoned _ d _ u _ _ (turns.none _ _) r = r.kept
-    kept_reasoned n d e u v _ (turns.again _ _ x _ _ _ front again led right) r =
+    kept_reasoned n d e u v _ (turns.again _ _ x _ _ _ front on again led right) r =
         let mid = turns_reasoned n d x u v None front refl r in again_reasoned x e v mid led right
     kept_reasoned _ d e u v o (turns.more n _ x _ _ w _ _ front turned gains right) r =
         let mid = turns_reasoned n d x u w None front refl r in more_reasoned x e w mid gains right

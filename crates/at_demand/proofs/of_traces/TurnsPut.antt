@@ -79,7 +79,7 @@ steps_then : (old : Memories) (j : ℕ) (mid : Memories) (k : ℕ) → Went old 
 steps_then old j mid k w _ _ begun = w
 steps_then old j mid k w _ _ (asked n o e f x y v h) = asked n o e f x y (steps_then old j mid k w n x v) h
 steps_then old j mid k w _ _ (turned n o e f x y v p c) = turned n o e f x y (steps_then old j mid k w n x v) p c
-steps_then old j mid k w _ _ (edited n o s x y v h) = edited n o s x y (steps_then old j mid k w n y v) h
+steps_then old j mid k w _ _ (edited n o s x b y v h) = edited n o s x b y (steps_then old j mid k w n y v) h
 
 pub went_then : (old mid new : Memories) (j k l : ℕ) → Went old j mid k → Went mid k new l → Went old j new l
 went_then old mid new j k l w v = steps_then old j mid k w new l v
@@ -92,8 +92,8 @@ pub went_again : (e : Entries) (m n : Memories) (k l : ℕ) → l ≡ k → AreA
 went_again e m n k l same alike = subst (λ x. Went m k n x) (sym same) (went_made e e m n k k (makes_alike e e m n k alike))
 
 -- an edit makes nothing
-pub went_edited : (m n : Memories) (s : Shown) (x : Edit) (k l : ℕ) → l ≡ k → SparesAtEdit (Touches s x) m n → Went m k n l
-went_edited m n s x k l same spares = subst (λ j. Went m k n j) (sym same) (edited m n s x k begun spares)
+pub went_edited : (m n : Memories) (s : Shown) (x : Edit) (b : Bool) (k l : ℕ) → l ≡ k → SparesAtEdit (Touches s x) b m n → Went m k n l
+went_edited m n s x b k l same spares = subst (λ j. Went m k n j) (sym same) (edited m n s x b k begun spares)
 
 -- a turn behind steps
 pub went_turned : (exact : Bool) (e f : Entries) (first m n o : Memories) (j k x l : ℕ) → Went first j m k → Went m k n x → PutsInTurns n o

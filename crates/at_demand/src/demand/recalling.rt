@@ -1,6 +1,6 @@
 //! What is known of instances while a question is answered, in the words of `at_search`.
 
-ghost use Rattle.std.specs.Prelude.{◌≡◌, ◌∷◌, [], ℕ, IfNone, IfOk, IfSome, is_some, option_map};
+ghost use Rattle.std.specs.Prelude.{◌≡◌, ◌∷◌, [], ℕ, IfNone, IfOk, IfSome, false, is_some, option_map};
 ghost use Rattle.std.specs.Map.{keys_of};
 ghost use Rattle.at_model.specs.Run.{Contents};
 ghost use Rattle.at_model.specs.of_fixpoints.Fixpoints.{EndsSo, Meets};
@@ -29,6 +29,20 @@ impl<K: Keeper> Demand<K> {
     {
         let count = self.keeper.settle(inst, 0);
         self.work = self.work.saturating_add(count);
+    }
+
+    // So it does before a turn, where turns are to keep again; else all stays as it is.
+    pub(super) fn keep_again_in_turns(&mut self, again: bool, inst: &Inst)
+        ensures kept { HasKeptAgain K.exact (K.memories self.old.keeper) (K.memories self.new.keeper) (K.contents self.old.keeper)
+            (K.contents self.new.keeper) self.old.work self.new.work inst.now }
+        ensures made { self.new.made ≡ self.old.made }
+        ensures stays { again ≡ false → (K.contents self.new.keeper ≡ K.contents self.old.keeper)
+            × (K.memories self.new.keeper ≡ K.memories self.old.keeper) × (self.new.work ≡ self.old.work) }
+    {
+        if !again {
+            return;
+        }
+        self.keep_again(inst);
     }
 
     // What is kept, and what the question found.

@@ -53,8 +53,8 @@ impl<K: Keeper> Demand<K> {
     }
 
     /// So many turns of a question that was posted on the tree as it is, or fewer where one of them answers it: how many they
-    /// were, from 0 up to the limit, and its answer, if there is one. In each, what can be kept again with no evaluation is kept first, of the
-    /// last instance, what it used, and so on. Then at most one equation is tried, once, and at most the values of the last instance and of
+    /// were, from 0 up to the limit, and its answer, if there is one. In each, where the keeper says that turns do so, what can be kept again with
+    /// no evaluation is kept first, of the last instance, what it used, and so on. Then at most one equation is tried, once, and at most the values of the last instance and of
     /// those that searches under way have seen come to what is kept. Where that doesn't answer it, its chain has one level more, or the
     /// equation of its last instance has ended. A trial that was begun is gone on with, and not begun anew. An error where memory is
     /// wanting, or where no turn more can be counted; then the question is of no use any more.
@@ -73,10 +73,11 @@ impl<K: Keeper> Demand<K> {
     {
         // Positions among the finds of one question say nothing of another one.
         self.sharing.clear();
+        let again = self.keeper.keeps_in_turns();
         let mut trials = Trials::new(self.alloc);
         let mut given = 0;
         while given < limit {
-            self.keep_again(&question.inst);
+            self.keep_again_in_turns(again, &question.inst);
             let told = self.turn_with(rules, store, question, &mut trials)?;
             given += 1;
             if let Some(answer) = told {

@@ -1,5 +1,5 @@
 -- Single turns that stand one behind the other, and how many they are.
-use Rattle.std.proofs.Common.{◌≡◌, ℕ, ◌+◌, ◌<◌, ◌≤◌, Option, Some, None, refl, sym, arith, subst, Bool, inl, inr}
+use Rattle.std.proofs.Common.{◌≡◌, ◌∙◌, ℕ, ◌+◌, ◌<◌, ◌≤◌, Option, Some, None, refl, sym, arith, subst, Bool, inl, inr}
 use Rattle.std.specs.Prelude.{IfNone, IfSome}
 use Rattle.at_model.specs.Meaning.{Answer}
 use Rattle.at_model.specs.Replies.{Form}
@@ -67,8 +67,8 @@ module _ (rules : Rules) (s : Shown) (memories : Memories) where
       → AreTurnsOfSearch rules s memories (m + n) d u f w o
   search_both m _ d e _ u v _ _ h (turns.none _ _) = let same : m ≡ m + 0 = omega arith in subst
       (λ k. AreTurnsOfSearch rules s memories k d u e v None) same h
-  search_both m _ d e _ u v _ _ h (turns.again n _ x f _ w front kept led right) =
-      turns.again (m + n) d x f u w (search_both m n d e x u v w None h front) kept led right
+  search_both m _ d e _ u v _ _ h (turns.again n _ x f _ w front asks kept led right) =
+      turns.again (m + n) d x f u w (search_both m n d e x u v w None h front) asks kept led right
   search_both m _ d e _ u v _ _ h (turns.more n _ x f _ y w o front turned last right) =
       let same : m + n + 1 ≡ m + (n + 1) = omega arith in
       subst (λ k. AreTurnsOfSearch rules s memories k d u f w o) same (turns.more (m + n) d x f u y w o
@@ -79,8 +79,8 @@ module _ (rules : Rules) (s : Shown) (memories : Memories) where
       → AreTurnsOfChain rules s memories (m + n) d u f w o
   chain_both m _ d e _ u v _ _ h (turns.none _ _) = let same : m ≡ m + 0 = omega arith in subst
       (λ k. AreTurnsOfChain rules s memories k d u e v None) same h
-  chain_both m _ d e _ u v _ _ h (turns.again n _ x f _ w front kept) =
-      turns.again (m + n) d x f u w (chain_both m n d e x u v w None h front) kept
+  chain_both m _ d e _ u v _ _ h (turns.again n _ x f _ w front asks kept) =
+      turns.again (m + n) d x f u w (chain_both m n d e x u v w None h front) asks kept
   chain_both m _ d e _ u v _ _ h (turns.more n _ x f _ y w o front turned last) =
       let same : m + n + 1 ≡ m + (n + 1) = omega arith in
       subst (λ k. AreTurnsOfChain rules s memories k d u f w o) same (turns.more (m + n) d x f u y w o
@@ -202,21 +202,22 @@ module _ (rules : Rules) (s : Shown) (memories : Memories) where
     breaks_from (Some p) came limit b =
         subst (λ (x : Question). BreaksOffIn rules s memories limit d (Some x) (asked_by q) f) came b
 
--- by memories that were more before
-module _ (rules : Rules) (s : Shown) (former latter : Memories) (stay : StayTraced former latter) where
+-- by memories that were more before, where turns keep again alike
+module _ (rules : Rules) (s : Shown) (former latter : Memories) (stay : StayTraced former latter)
+    (alike : latter.in_turns ≡ former.in_turns) where
   search_before : (n : ℕ) (d e : Entries) (u v : Search ℕ) (o : Option (Answer ℕ)) → AreTurnsOfSearch rules s latter n d u e v o
       → AreTurnsOfSearch rules s former n d u e v o
   search_before _ d _ u _ _ (turns.none _ _) = turns.none d u
-  search_before n d e u v _ (turns.again _ _ x _ _ _ front kept led right) =
-      turns.again n d x e u v (search_before n d x u v None front) (again_before former latter x e stay kept) led right
+  search_before n d e u v _ (turns.again _ _ x _ _ _ front asks kept led right) =
+      turns.again n d x e u v (search_before n d x u v None front) (sym alike ∙ asks) (again_before former latter x e stay kept) led right
   search_before _ d e u v o (turns.more n _ x _ _ w _ _ front turned last right) =
       turns.more n d x e u w v o (search_before n d x u w None front) turned last right
 
   chain_before : (n : ℕ) (d e : Entries) (u v : UnderWay ℕ) (o : Option (Answer ℕ)) → AreTurnsOfChain rules s latter n d u e v o
       → AreTurnsOfChain rules s former n d u e v o
   chain_before _ d _ u _ _ (turns.none _ _) = turns.none d u
-  chain_before n d e u v _ (turns.again _ _ x _ _ _ front kept) =
-      turns.again n d x e u v (chain_before n d x u v None front) (again_before former latter x e stay kept)
+  chain_before n d e u v _ (turns.again _ _ x _ _ _ front asks kept) =
+      turns.again n d x e u v (chain_before n d x u v None front) (sym alike ∙ asks) (again_before former latter x e stay kept)
   chain_before _ d e u v o (turns.more n _ x _ _ w _ _ front turned last) =
       turns.more n d x e u w v o (chain_before n d x u w None front) turned last
 

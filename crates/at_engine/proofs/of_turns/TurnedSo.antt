@@ -38,6 +38,7 @@ pub record HasTurnedSo (exact : Bool) (rules : Rules) (s : Shown) (first now : E
   pub spare : IsTrue exact → AreSpare rules (contents s) first → IsSparingTurns rules (contents s) first old
       → AreSpare rules (contents s) now × IsSparingTurns rules (contents s) now new
   pub traces : StayTraced former latter
+  pub alike : latter.in_turns ≡ former.in_turns
 
 -- so many, and that answer
 abbrev pub with_answer : ℕ → Option AnswerCode → ℕ × Option AnswerCode
@@ -61,6 +62,7 @@ module _ (E : Type 0) (exact : Bool) (rules : Rules) (s : Shown) (basis : IsBasi
         stays = λ there right. right;
         spare = λ ex spare sparing. (spare, sparing);
         traces = stay_same former;
+        alike = refl;
       }
 
   module _ (now : Entries) (latter : Memories) (mid : Question) (inv : So now latter mid) (limit : ℕ) (next : Entries) (last : Memories)
@@ -84,13 +86,13 @@ module _ (E : Type 0) (exact : Bool) (rules : Rules) (s : Shown) (basis : IsBasi
       traces_next = stay_then former latter last inv.traces h.traces
 
     -- none of those that follow answers it, either
-    pub so_more : (n : ℕ) → Turned (Ok (with_answer n None)) → So next last p
-    so_more n h =
+    pub so_more : (n : ℕ) → last.in_turns ≡ latter.in_turns → Turned (Ok (with_answer n None)) → So next last p
+    so_more n alike h =
         let r : Result (ℕ × Option AnswerCode) E = Ok (with_answer n None) in
         record {
           given = inv.given + h.each.0;
           each = turns_both rules s former inv.given first now (Some old) (asked_by old) mid inv.each next (asked_by mid) h.each.0 p None
-              (turns_before rules s former latter inv.traces h.each.0 now next (Some mid) (asked_by mid) p None h.each.2);
+              (turns_before rules s former latter inv.traces inv.alike h.each.0 now next (Some mid) (asked_by mid) p None h.each.2);
           standing = h.standing;
           sound = sound_after rules s basis now mid inv.sound inv.standing next h.right h.worthy;
           plain = h.plain;
@@ -101,6 +103,7 @@ module _ (E : Type 0) (exact : Bool) (rules : Rules) (s : Shown) (basis : IsBasi
               let both = inv.spare ex spare sparing in
               (h.spare tt ex both.0 both.1, h.sparing ex both.0 both.1);
           traces = traces_next r h;
+          alike = alike ∙ inv.alike;
         }
 
     -- and so fewer are left
@@ -123,7 +126,7 @@ module _ (E : Type 0) (exact : Bool) (rules : Rules) (s : Shown) (basis : IsBasi
             tt,
             turns_both rules s former inv.given first now (Some old) (asked_by old) mid inv.each next (asked_by mid) h.each.0 p
                 (Some (answer_view a))
-                (turns_before rules s former latter inv.traces h.each.0 now next (Some mid) (asked_by mid) p (Some (answer_view a)) h.each.2),
+                (turns_before rules s former latter inv.traces inv.alike h.each.0 now next (Some mid) (asked_by mid) p (Some (answer_view a)) h.each.2),
           );
           broke = tt;
           same = tt;
@@ -151,7 +154,7 @@ module _ (E : Type 0) (exact : Bool) (rules : Rules) (s : Shown) (basis : IsBasi
         broken h = record {
           each = tt;
           broke = breaks_later rules s former inv.given first now (Some old) (asked_by old) mid inv.each next (asked_by mid) h.broke.0
-              (breaks_before rules s former latter inv.traces h.broke.0 now next (Some mid) (asked_by mid) h.broke.2);
+              (breaks_before rules s former latter inv.traces inv.alike h.broke.0 now next (Some mid) (asked_by mid) h.broke.2);
           same = tt;
           answers = tt;
           all = λ ex spare sparing. tt;

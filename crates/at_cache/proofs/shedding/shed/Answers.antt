@@ -1,18 +1,19 @@
-use Rattle.std.proofs.Common.{arith, subst}
-use Rattle.at_cache.specs.Info.{memory_of}
-use Rattle.at_cache.specs.Shedding.{ShedsAt}
+use Rattle.std.proofs.Common.{arith}
 use Rattle.at_cache.proofs.of_cut.Shed.{sheds_end, sheds_more, sheds_start}
 use Rattle.at_cache.proofs.shedding.shed.Goals as goal
 
-pub loop-number-init : goal.loop-number-init
-loop-number-init c = sheds_start c.args.standings.now _
+pub loop-slot-init : goal.loop-slot-init
+loop-slot-init c = (sheds_start c.args.standings.now _, omega (arith))
 
-pub loop-number-preserved : goal.loop-number-preserved
-loop-number-preserved c =
-    sheds_more c.args.standings.now c.loop-number.number _ _ _ c.loop-number.invariant
-    (subst (λ s. ShedsAt c.args.standings.now s (memory_of c.loop-number.entries) (memory_of c.shed_at.new.entries)) c.in_ok-slot.ensures c.shed_at.ensures)
+pub loop-slot-preserved : goal.loop-slot-preserved
+loop-slot-preserved c = (
+  sheds_more c.args.standings.now c.loop-slot.slot _ _ _ c.loop-slot.invariant.0 c.shed_at.ensures.sheds,
+  omega (arith, c.loop-slot.invariant.1, c.shed_at.ensures.fewer),
+)
 
-pub returns : goal.returns
-returns c =
-    sheds_end c.args.standings.now c.args.entries.now c.loop-number.number c.capacity-number-end.result _ c.capacity-number-end.ensures.slots
-    (omega (arith, c.loop-number-test.false)) c.loop-number.invariant
+pub returns-clause-sheds : goal.returns-clause-sheds
+returns-clause-sheds c =
+    sheds_end c.args.standings.now c.args.entries.now c.loop-slot.slot c.args.count _ c.requires.all (omega (arith, c.loop-slot-test.false)) c.loop-slot.invariant.0
+
+pub returns-clause-fewer : goal.returns-clause-fewer
+returns-clause-fewer c = c.loop-slot.invariant.1

@@ -14,4 +14,4 @@ pub returns-clause-over : goal.returns-clause-over
 returns-clause-over g c less = loses_cut (Answers (goal.F-post g c.args.touched.now)) _ _ _ (c.shrink.ensures.within less) c.flush.ensures.loses
 
 pub returns-clause-few : goal.returns-clause-few
-returns-clause-few g c = omega (arith, c.shrink.ensures.few, c.flush.ensures.len)
+returns-clause-few g c = omega (arith, c.shrink.ensures.few, c.flush.ensures.fewer)

@@ -6,7 +6,7 @@ use Rattle.at_demand.specs.Answered.{HasTurnedWith}
 use Rattle.at_demand.specs.Went.{begun}
 use Rattle.at_store.specs.Shown.{contents}
 use Rattle.at_demand.proofs.Fitting.{fit_grown, none_fit, none_noted}
-use Rattle.at_demand.proofs.of_steps.Given.{given_all, given_answered, given_broken, given_more, given_none, given_settled}
+use Rattle.at_demand.proofs.of_steps.Given.{given_all, given_answered, given_asked, given_broken, given_more, given_none}
 use Rattle.at_demand.proofs.of_steps.KeptAgain.{again_stays, settled_again}
 use Rattle.at_demand.proofs.of_levels.Resolving.{keeps_groups}
 use Rattle.at_demand.proofs.of_traces.TurnsPut.{puts_stay, went_on}
@@ -29,91 +29,94 @@ loop-given-init g c = record {
 
 pub loop-given-preserved : goal.loop-given-preserved
 loop-given-preserved g c =
-    let so = given_settled c.args.rules.now c.args.store.now g.K.Keeper.exact (g.K.Keeper.memories c.args.self.now.keeper)
+    let so = given_asked c.args.rules.now c.args.store.now g.K.Keeper.exact (g.K.Keeper.memories c.args.self.now.keeper)
     c.requires.can.answerable.basis (g.K.Keeper.contents c.args.self.now.keeper) c.args.self.now.work c.args.question.now
     (g.K.Keeper.contents c.loop-given.self.keeper) c.loop-given.self.work c.loop-given.given c.loop-given.question c.loop-given.invariant.so
-    (g.K.Keeper.memories c.loop-given.self.keeper) (g.K.Keeper.memories c.keep_again.new.self.keeper)
-    (g.K.Keeper.contents c.keep_again.new.self.keeper) c.keep_again.new.self.work c.loop-given.self.few c.loop-given.invariant.traces
-    c.requires.justified (g.K.Keeper.kept_last c.loop-given.self.keeper) c.keep_again.ensures.kept in
+    (g.K.Keeper.memories c.loop-given.self.keeper) (g.K.Keeper.memories c.keep_again_in_turns.new.self.keeper)
+    (g.K.Keeper.contents c.keep_again_in_turns.new.self.keeper) c.keep_again_in_turns.new.self.work c.loop-given.self.few c.loop-given.invariant.traces
+    c.requires.justified (g.K.Keeper.kept_last c.loop-given.self.keeper) c.keeps_in_turns-again.result c.keeps_in_turns-again.ensures
+    (λ off. let (entries, memories, work) = c.keep_again_in_turns.ensures.stays off in (entries, work)) c.keep_again_in_turns.ensures.kept in
     let e = subst (λ (o : Option AnswerCode). HasTurnedWith {E = AllocError} c.args.rules.now c.args.store.now g.K.Keeper.exact
-    (g.K.Keeper.contents c.keep_again.new.self.keeper) (g.K.Keeper.contents c.turn_with.new.self.keeper) c.keep_again.new.self.work
+    (g.K.Keeper.contents c.keep_again_in_turns.new.self.keeper) (g.K.Keeper.contents c.turn_with.new.self.keeper) c.keep_again_in_turns.new.self.work
     c.turn_with.new.self.work c.loop-given.question c.turn_with.new.question c.turn_with.new.trials (Ok o)) c.in_default.is
     c.in_ok-told.ensures.turned in
     record {
       so = given_more c.args.rules.now c.args.store.now g.K.Keeper.exact (g.K.Keeper.memories c.args.self.now.keeper) c.requires.can.answerable.basis
-          (g.K.Keeper.contents c.args.self.now.keeper) c.args.self.now.work c.args.question.now (g.K.Keeper.contents c.keep_again.new.self.keeper)
-          c.keep_again.new.self.work c.loop-given.given c.loop-given.question so
+          (g.K.Keeper.contents c.args.self.now.keeper) c.args.self.now.work c.args.question.now (g.K.Keeper.contents c.keep_again_in_turns.new.self.keeper)
+          c.keep_again_in_turns.new.self.work c.loop-given.given c.loop-given.question so
           (g.K.Keeper.contents c.turn_with.new.self.keeper) c.turn_with.new.self.work c.turn_with.new.question c.turn_with.new.trials e;
       fit = e.fit;
       within = omega (arith, c.loop-given-test.true);
       traces = stay_then (g.K.Keeper.memories c.args.self.now.keeper) (g.K.Keeper.memories c.loop-given.self.keeper)
           (g.K.Keeper.memories c.turn_with.new.self.keeper) c.loop-given.invariant.traces
-          (stay_then (g.K.Keeper.memories c.loop-given.self.keeper) (g.K.Keeper.memories c.keep_again.new.self.keeper)
-          (g.K.Keeper.memories c.turn_with.new.self.keeper) c.keep_again.ensures.kept.stay
-          (puts_stay (g.K.Keeper.memories c.keep_again.new.self.keeper) (g.K.Keeper.memories c.turn_with.new.self.keeper) c.turn_with.ensures.traces));
-      went = λ exact. went_on g.K.Keeper.exact (g.K.Keeper.contents c.keep_again.new.self.keeper) (g.K.Keeper.contents c.turn_with.new.self.keeper)
+          (stay_then (g.K.Keeper.memories c.loop-given.self.keeper) (g.K.Keeper.memories c.keep_again_in_turns.new.self.keeper)
+          (g.K.Keeper.memories c.turn_with.new.self.keeper) c.keep_again_in_turns.ensures.kept.stay
+          (puts_stay (g.K.Keeper.memories c.keep_again_in_turns.new.self.keeper) (g.K.Keeper.memories c.turn_with.new.self.keeper) c.turn_with.ensures.traces));
+      went = λ exact. went_on g.K.Keeper.exact (g.K.Keeper.contents c.keep_again_in_turns.new.self.keeper) (g.K.Keeper.contents c.turn_with.new.self.keeper)
           (g.K.Keeper.memories c.args.self.now.keeper) (g.K.Keeper.memories c.loop-given.self.keeper)
-          (g.K.Keeper.memories c.keep_again.new.self.keeper) (g.K.Keeper.memories c.turn_with.new.self.keeper) c.args.self.now.made
-          c.loop-given.self.made c.keep_again.new.self.made c.turn_with.new.self.made (c.loop-given.invariant.went exact)
-          c.keep_again.ensures.made c.keep_again.ensures.kept.alike c.turn_with.ensures.traces c.turn_with.ensures.counts exact;
+          (g.K.Keeper.memories c.keep_again_in_turns.new.self.keeper) (g.K.Keeper.memories c.turn_with.new.self.keeper) c.args.self.now.made
+          c.loop-given.self.made c.keep_again_in_turns.new.self.made c.turn_with.new.self.made (c.loop-given.invariant.went exact)
+          c.keep_again_in_turns.ensures.made c.keep_again_in_turns.ensures.kept.alike c.turn_with.ensures.traces c.turn_with.ensures.counts exact;
     }
 
 pub returns-in_err-told : goal.returns-in_err-told
 returns-in_err-told g c =
-    let so = given_settled c.args.rules.now c.args.store.now g.K.Keeper.exact (g.K.Keeper.memories c.args.self.now.keeper)
+    let so = given_asked c.args.rules.now c.args.store.now g.K.Keeper.exact (g.K.Keeper.memories c.args.self.now.keeper)
     c.requires.can.answerable.basis (g.K.Keeper.contents c.args.self.now.keeper) c.args.self.now.work c.args.question.now
     (g.K.Keeper.contents c.loop-given.self.keeper) c.loop-given.self.work c.loop-given.given c.loop-given.question c.loop-given.invariant.so
-    (g.K.Keeper.memories c.loop-given.self.keeper) (g.K.Keeper.memories c.keep_again.new.self.keeper)
-    (g.K.Keeper.contents c.keep_again.new.self.keeper) c.keep_again.new.self.work c.loop-given.self.few c.loop-given.invariant.traces
-    c.requires.justified (g.K.Keeper.kept_last c.loop-given.self.keeper) c.keep_again.ensures.kept in
+    (g.K.Keeper.memories c.loop-given.self.keeper) (g.K.Keeper.memories c.keep_again_in_turns.new.self.keeper)
+    (g.K.Keeper.contents c.keep_again_in_turns.new.self.keeper) c.keep_again_in_turns.new.self.work c.loop-given.self.few c.loop-given.invariant.traces
+    c.requires.justified (g.K.Keeper.kept_last c.loop-given.self.keeper) c.keeps_in_turns-again.result c.keeps_in_turns-again.ensures
+    (λ off. let (entries, memories, work) = c.keep_again_in_turns.ensures.stays off in (entries, work)) c.keep_again_in_turns.ensures.kept in
     let is = (err_from_is_err_and c.from_residual.result c.from_residual.ensures.1).1 in
     record {
       turned = given_broken c.args.rules.now c.args.store.now g.K.Keeper.exact (g.K.Keeper.memories c.args.self.now.keeper) c.requires.can.answerable.basis
-          (g.K.Keeper.contents c.args.self.now.keeper) c.args.self.now.work c.args.question.now (g.K.Keeper.contents c.keep_again.new.self.keeper)
-          c.keep_again.new.self.work c.loop-given.given c.loop-given.question so
+          (g.K.Keeper.contents c.args.self.now.keeper) c.args.self.now.work c.args.question.now (g.K.Keeper.contents c.keep_again_in_turns.new.self.keeper)
+          c.keep_again_in_turns.new.self.work c.loop-given.given c.loop-given.question so
           (g.K.Keeper.contents c.turn_with.new.self.keeper) c.turn_with.new.self.work c.turn_with.new.question c.turn_with.new.trials
           c.args.limit _ _ is (omega (arith, c.loop-given-test.true))
           (keeps_groups c.args.rules.now c.turn_with.result) c.turn_with.ensures.turned.gains;
       traces = stay_then (g.K.Keeper.memories c.args.self.now.keeper) (g.K.Keeper.memories c.loop-given.self.keeper)
           (g.K.Keeper.memories c.turn_with.new.self.keeper) c.loop-given.invariant.traces
-          (stay_then (g.K.Keeper.memories c.loop-given.self.keeper) (g.K.Keeper.memories c.keep_again.new.self.keeper)
-          (g.K.Keeper.memories c.turn_with.new.self.keeper) c.keep_again.ensures.kept.stay
-          (puts_stay (g.K.Keeper.memories c.keep_again.new.self.keeper) (g.K.Keeper.memories c.turn_with.new.self.keeper) c.turn_with.ensures.traces));
-      went = λ exact. went_on g.K.Keeper.exact (g.K.Keeper.contents c.keep_again.new.self.keeper) (g.K.Keeper.contents c.turn_with.new.self.keeper)
+          (stay_then (g.K.Keeper.memories c.loop-given.self.keeper) (g.K.Keeper.memories c.keep_again_in_turns.new.self.keeper)
+          (g.K.Keeper.memories c.turn_with.new.self.keeper) c.keep_again_in_turns.ensures.kept.stay
+          (puts_stay (g.K.Keeper.memories c.keep_again_in_turns.new.self.keeper) (g.K.Keeper.memories c.turn_with.new.self.keeper) c.turn_with.ensures.traces));
+      went = λ exact. went_on g.K.Keeper.exact (g.K.Keeper.contents c.keep_again_in_turns.new.self.keeper) (g.K.Keeper.contents c.turn_with.new.self.keeper)
           (g.K.Keeper.memories c.args.self.now.keeper) (g.K.Keeper.memories c.loop-given.self.keeper)
-          (g.K.Keeper.memories c.keep_again.new.self.keeper) (g.K.Keeper.memories c.turn_with.new.self.keeper) c.args.self.now.made
-          c.loop-given.self.made c.keep_again.new.self.made c.turn_with.new.self.made (c.loop-given.invariant.went exact)
-          c.keep_again.ensures.made c.keep_again.ensures.kept.alike c.turn_with.ensures.traces c.turn_with.ensures.counts exact;
+          (g.K.Keeper.memories c.keep_again_in_turns.new.self.keeper) (g.K.Keeper.memories c.turn_with.new.self.keeper) c.args.self.now.made
+          c.loop-given.self.made c.keep_again_in_turns.new.self.made c.turn_with.new.self.made (c.loop-given.invariant.went exact)
+          c.keep_again_in_turns.ensures.made c.keep_again_in_turns.ensures.kept.alike c.turn_with.ensures.traces c.turn_with.ensures.counts exact;
     }
 
 pub returns-in-Some : goal.returns-in-Some
 returns-in-Some g c =
-    let so = given_settled c.args.rules.now c.args.store.now g.K.Keeper.exact (g.K.Keeper.memories c.args.self.now.keeper)
+    let so = given_asked c.args.rules.now c.args.store.now g.K.Keeper.exact (g.K.Keeper.memories c.args.self.now.keeper)
     c.requires.can.answerable.basis (g.K.Keeper.contents c.args.self.now.keeper) c.args.self.now.work c.args.question.now
     (g.K.Keeper.contents c.loop-given.self.keeper) c.loop-given.self.work c.loop-given.given c.loop-given.question c.loop-given.invariant.so
-    (g.K.Keeper.memories c.loop-given.self.keeper) (g.K.Keeper.memories c.keep_again.new.self.keeper)
-    (g.K.Keeper.contents c.keep_again.new.self.keeper) c.keep_again.new.self.work c.loop-given.self.few c.loop-given.invariant.traces
-    c.requires.justified (g.K.Keeper.kept_last c.loop-given.self.keeper) c.keep_again.ensures.kept in
+    (g.K.Keeper.memories c.loop-given.self.keeper) (g.K.Keeper.memories c.keep_again_in_turns.new.self.keeper)
+    (g.K.Keeper.contents c.keep_again_in_turns.new.self.keeper) c.keep_again_in_turns.new.self.work c.loop-given.self.few c.loop-given.invariant.traces
+    c.requires.justified (g.K.Keeper.kept_last c.loop-given.self.keeper) c.keeps_in_turns-again.result c.keeps_in_turns-again.ensures
+    (λ off. let (entries, memories, work) = c.keep_again_in_turns.ensures.stays off in (entries, work)) c.keep_again_in_turns.ensures.kept in
     let e = subst (λ (o : Option AnswerCode). HasTurnedWith {E = AllocError} c.args.rules.now c.args.store.now g.K.Keeper.exact
-    (g.K.Keeper.contents c.keep_again.new.self.keeper) (g.K.Keeper.contents c.turn_with.new.self.keeper) c.keep_again.new.self.work
+    (g.K.Keeper.contents c.keep_again_in_turns.new.self.keeper) (g.K.Keeper.contents c.turn_with.new.self.keeper) c.keep_again_in_turns.new.self.work
     c.turn_with.new.self.work c.loop-given.question c.turn_with.new.question c.turn_with.new.trials (Ok o)) c.in-Some.is
     c.in_ok-told.ensures.turned in
     record {
       turned = given_answered c.args.rules.now c.args.store.now g.K.Keeper.exact (g.K.Keeper.memories c.args.self.now.keeper) c.requires.can.answerable.basis
-          (g.K.Keeper.contents c.args.self.now.keeper) c.args.self.now.work c.args.question.now (g.K.Keeper.contents c.keep_again.new.self.keeper)
-          c.keep_again.new.self.work c.loop-given.given c.loop-given.question so
+          (g.K.Keeper.contents c.args.self.now.keeper) c.args.self.now.work c.args.question.now (g.K.Keeper.contents c.keep_again_in_turns.new.self.keeper)
+          c.keep_again_in_turns.new.self.work c.loop-given.given c.loop-given.question so
           (g.K.Keeper.contents c.turn_with.new.self.keeper) c.turn_with.new.self.work c.turn_with.new.question c.turn_with.new.trials
           c.args.limit c.in-Some.answer (omega (arith, c.loop-given-test.true)) e;
       traces = stay_then (g.K.Keeper.memories c.args.self.now.keeper) (g.K.Keeper.memories c.loop-given.self.keeper)
           (g.K.Keeper.memories c.turn_with.new.self.keeper) c.loop-given.invariant.traces
-          (stay_then (g.K.Keeper.memories c.loop-given.self.keeper) (g.K.Keeper.memories c.keep_again.new.self.keeper)
-          (g.K.Keeper.memories c.turn_with.new.self.keeper) c.keep_again.ensures.kept.stay
-          (puts_stay (g.K.Keeper.memories c.keep_again.new.self.keeper) (g.K.Keeper.memories c.turn_with.new.self.keeper) c.turn_with.ensures.traces));
-      went = λ exact. went_on g.K.Keeper.exact (g.K.Keeper.contents c.keep_again.new.self.keeper) (g.K.Keeper.contents c.turn_with.new.self.keeper)
+          (stay_then (g.K.Keeper.memories c.loop-given.self.keeper) (g.K.Keeper.memories c.keep_again_in_turns.new.self.keeper)
+          (g.K.Keeper.memories c.turn_with.new.self.keeper) c.keep_again_in_turns.ensures.kept.stay
+          (puts_stay (g.K.Keeper.memories c.keep_again_in_turns.new.self.keeper) (g.K.Keeper.memories c.turn_with.new.self.keeper) c.turn_with.ensures.traces));
+      went = λ exact. went_on g.K.Keeper.exact (g.K.Keeper.contents c.keep_again_in_turns.new.self.keeper) (g.K.Keeper.contents c.turn_with.new.self.keeper)
           (g.K.Keeper.memories c.args.self.now.keeper) (g.K.Keeper.memories c.loop-given.self.keeper)
-          (g.K.Keeper.memories c.keep_again.new.self.keeper) (g.K.Keeper.memories c.turn_with.new.self.keeper) c.args.self.now.made
-          c.loop-given.self.made c.keep_again.new.self.made c.turn_with.new.self.made (c.loop-given.invariant.went exact)
-          c.keep_again.ensures.made c.keep_again.ensures.kept.alike c.turn_with.ensures.traces c.turn_with.ensures.counts exact;
+          (g.K.Keeper.memories c.keep_again_in_turns.new.self.keeper) (g.K.Keeper.memories c.turn_with.new.self.keeper) c.args.self.now.made
+          c.loop-given.self.made c.keep_again_in_turns.new.self.made c.turn_with.new.self.made (c.loop-given.invariant.went exact)
+          c.keep_again_in_turns.ensures.made c.keep_again_in_turns.ensures.kept.alike c.turn_with.ensures.traces c.turn_with.ensures.counts exact;
     }
 
 pub returns : goal.returns
@@ -127,15 +130,16 @@ returns g c = record {
 
 pub turn_with-requires : goal.turn_with-requires
 turn_with-requires g c =
-    let so = given_settled c.args.rules.now c.args.store.now g.K.Keeper.exact (g.K.Keeper.memories c.args.self.now.keeper)
+    let so = given_asked c.args.rules.now c.args.store.now g.K.Keeper.exact (g.K.Keeper.memories c.args.self.now.keeper)
     c.requires.can.answerable.basis (g.K.Keeper.contents c.args.self.now.keeper) c.args.self.now.work c.args.question.now
     (g.K.Keeper.contents c.loop-given.self.keeper) c.loop-given.self.work c.loop-given.given c.loop-given.question c.loop-given.invariant.so
-    (g.K.Keeper.memories c.loop-given.self.keeper) (g.K.Keeper.memories c.keep_again.new.self.keeper)
-    (g.K.Keeper.contents c.keep_again.new.self.keeper) c.keep_again.new.self.work c.loop-given.self.few c.loop-given.invariant.traces
-    c.requires.justified (g.K.Keeper.kept_last c.loop-given.self.keeper) c.keep_again.ensures.kept in
+    (g.K.Keeper.memories c.loop-given.self.keeper) (g.K.Keeper.memories c.keep_again_in_turns.new.self.keeper)
+    (g.K.Keeper.contents c.keep_again_in_turns.new.self.keeper) c.keep_again_in_turns.new.self.work c.loop-given.self.few c.loop-given.invariant.traces
+    c.requires.justified (g.K.Keeper.kept_last c.loop-given.self.keeper) c.keeps_in_turns-again.result c.keeps_in_turns-again.ensures
+    (λ off. let (entries, memories, work) = c.keep_again_in_turns.ensures.stays off in (entries, work)) c.keep_again_in_turns.ensures.kept in
     let l = g.K.Keeper.memories c.loop-given.self.keeper in
     let old = g.K.Keeper.contents c.loop-given.self.keeper in
-    let mid = g.K.Keeper.contents c.keep_again.new.self.keeper in
+    let mid = g.K.Keeper.contents c.keep_again_in_turns.new.self.keeper in
     let q = c.loop-given.question in
     record {
       turns = record {
@@ -145,8 +149,8 @@ turn_with-requires g c =
       };
       fit = record {
         chain = fit_grown c.args.rules.now c.args.store.now old mid
-            (again_stays l old mid (settled_again g.K.Keeper.exact l q.inst c.keep_again.ensures.kept.count old mid
-            c.keep_again.ensures.kept.settled))
+            (again_stays l old mid (settled_again g.K.Keeper.exact l q.inst c.keep_again_in_turns.ensures.kept.count old mid
+            c.keep_again_in_turns.ensures.kept.settled))
             q c.loop-given.trials.frames.items c.loop-given.trials.awaited c.loop-given.invariant.fit.chain;
         noted = c.loop-given.invariant.fit.noted;
       };

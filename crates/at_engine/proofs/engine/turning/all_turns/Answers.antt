@@ -38,7 +38,7 @@ loop-turns-preserved g c =
     record {
       so = so_more AllocError g.K.Keeper.exact rules s c.requires.can.turns.answerable.basis (k c.args.demand.now.keeper)
           (m c.args.demand.now.keeper) c.args.question.now (k old.keeper) (m old.keeper) q so 18446744073709551615 (k new.keeper)
-          (m new.keeper) p n none;
+          (m new.keeper) p n (g.K.Keeper.always_in_turns old.keeper new.keeper) none;
       went = λ exact. went_then (m c.args.demand.now.keeper) (m old.keeper) (m new.keeper) c.args.demand.now.made old.made new.made
           (c.loop-turns.invariant.went exact) (c.turns.ensures.went exact);
     }
