@@ -27,6 +27,7 @@ TELLING = ("--cut-off", "--quarter")
 UNIT = re.compile(r"^(.*?), (?:in )?((?:millions of )?instructions(?: an? \w+)?|MiB(?: a second)?|MB|GB|KiB|bytes|seconds|microseconds"
                   r"|ms|us|s|%)$")
 NODES = re.compile(r"^(.*?), ([\d,]+) nodes(.*)$")
+RATIO = ", ratio"
 
 
 class Measured(NamedTuple):
@@ -116,9 +117,16 @@ def nodes_of(it: Measured) -> int:
     return int(found[2].replace(",", "")) if found else 0
 
 
-def line_of(same: List[Measured]) -> str:
+def as_unit(same: List[Measured]) -> List[Measured]:
+    """The same measurements, where a value stands beside its ratio with that as the ratio's unit."""
+    if len(same) < 2:
+        return same
+    return [it._replace(row=it.row[:-len(RATIO)], unit="as a ratio") if it.row.endswith(RATIO) else it for it in same]
+
+
+def line_of(script: str, same: List[Measured]) -> str:
     """A row of the table: one measurement, or several that differ in the number of nodes or in their units."""
-    same = sorted(same, key=nodes_of)
+    same = sorted(as_unit(same), key=nodes_of)
     first, parts = same[0], [NODES.match(it.row) for it in same]
     what = first.row
     if parts[0]:
@@ -129,7 +137,8 @@ def line_of(same: List[Measured]) -> str:
     bounds = [it.bound.split(" ")[1] for it in same]
     limits = "; ".join(map(grouped, bounds if len(set(bounds)) > 1 else bounds[:1]))
     relation = "at most" if first.bound.startswith("<=") else "at least"
-    return f"| {what} | {values} | {relation} {limits} | {first.version}{'' if first.proved == 'yes' else ', not proved'} |"
+    version = f"{first.version}{'' if first.proved == 'yes' else ', not proved'}"
+    return f"| `{script}` | {what} | {values} | {relation} {limits} | {version} |"
 
 
 def table(rows: Iterable[Measured]) -> str:
@@ -137,15 +146,11 @@ def table(rows: Iterable[Measured]) -> str:
     lines: Dict[str, Dict[Tuple[str, ...], List[Measured]]] = {}
     for it in bounded(rows):
         sizes = NODES.match(it.row)
-        named = (sizes[1], sizes[3], it.unit) if sizes else (it.row,)
+        named = (sizes[1], sizes[3], it.unit) if sizes else (it.row.removesuffix(RATIO),)
         same = (*named, it.version, it.proved, it.bound[:2])
         lines.setdefault(it.script, {}).setdefault(same, []).append(it)
-    found = ["| What | Measured | Bound | Version |", "|---|---|---|---|"]
-    for script in sorted(lines):
-        name, _, options = script.partition(" ")
-        found.append(f"| **`bench/{name}.py{' ' + options if options else ''}`** | | | |")
-        found += [line_of(same) for same in lines[script].values()]
-    return "\n".join(found)
+    found = ["| Script | What | Measured | Bound | Version |", "|---|---|---|---|---|"]
+    return "\n".join(found + [line_of(script, same) for script in sorted(lines) for same in lines[script].values()])
 
 
 def with_table(page: str, rows: Iterable[Measured]) -> str:

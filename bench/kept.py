@@ -19,7 +19,7 @@ from typing import Callable, Dict, List, NamedTuple, Sequence, Tuple
 
 from bounds import Bounds
 from full_flush import FullFlush
-from instructions import instructions
+from instructions import instructions, instructions_behind
 from served import Served
 from trees import ASPECTS, FILL, GRAMMAR, SIZES, ListTree, SumTree
 
@@ -28,6 +28,9 @@ TURNS, MARK_TURNS = 12, 12
 # The program before edits found entries by what they touch, on the same trees: the multiples of a `version` line, and the
 # instructions of an entry that is filled in.
 BEFORE = {"kept question": 8.0, "front": 11_000.0, "fill": 12_300.0}
+# The instructions of a round of new names by version 0.37 without an option, which forgot what an edit may have changed, by a program that isn't
+# proved; a proved one takes about a quarter less.
+FORGETTING = 84_135
 MARKED = 50
 
 
@@ -217,6 +220,53 @@ def keystrokes(bounds: Bounds, program: str, folder: str, options: Sequence[str]
           f"at most {peaks[3]:,} KiB, against the first ones: {memory}")
 
 
+PRINTS, ROUNDS, FIRST_ROUNDS, COUNTED = 200, 20_000, 2_000, 1_000
+
+
+def block_of_prints() -> str:
+    """A tree of the calculator: a declaration, and prints that use it."""
+    prints = ",".join(f'Print(Add(Use("x"),Num({k})))' for k in range(PRINTS))
+    return f'Program(Block([Decl("x",Num(1)),{prints}]))\n'
+
+
+def all_prints() -> str:
+    """Lines that ask for the value of each print."""
+    return "".join(f"0 ask /Block/Stmt:{k}/Expr value()\n" for k in range(1, PRINTS + 1))
+
+
+def new_names(begin: int, count: int) -> str:
+    """Rounds: the declaration gets a name that never came, a use asks for its own declaration, gets that name too, and its value is asked."""
+    def round_of(k: int) -> str:
+        use = f"/Block/Stmt:{k % PRINTS + 1}/Expr"
+        return (f'0 token /Block/Stmt:0 ID "x{k}"\n0 ask {use}/Left decl()\n'
+                f'0 token {use}/Left ID "x{k}"\n0 ask {use} value()\n')
+
+    return "".join(round_of(k) for k in range(begin, begin + count))
+
+
+def names(bounds: Bounds, program: str, folder: str, options: Sequence[str]) -> None:
+    """20,000 rounds of names that never come again: the time of a round and the memory stay level, and near those of a program that forgets."""
+    samples, told = ROOT / "samples" / "calculator", " ".join(options) or "no option"
+    (Path(folder) / "names.txt").write_text(block_of_prints())
+    words = [*options, str(samples / "calc.ast"), "names.txt", str(samples / "calc.jrag")]
+    run, half = Served(program, folder, words), ROUNDS // 2
+    run.spent(all_prints())
+    first = run.spent(new_names(0, FIRST_ROUNDS))
+    early = run.peak()
+    first += run.spent(new_names(FIRST_ROUNDS, half - FIRST_ROUNDS))
+    second = run.spent(new_names(half, half))
+    peak = run.peak()
+    run.end()
+    time = bounds.at_most(f"time of new names with {told}", second / first, 1.25)
+    memory = bounds.at_most(f"memory of new names with {told}", peak / early, 2.0)
+    print(f"{ROUNDS:,} rounds of names that never come again with {told}: {(first + second) / ROUNDS * 1e6:.1f} us each; the second {half:,} against the "
+          f"first ones: {time}; at most {peak:,} KiB, against {FIRST_ROUNDS:,} rounds: {memory}")
+    cost = instructions_behind([program, *words], folder, all_prints() + new_names(0, COUNTED), new_names(COUNTED, COUNTED))
+    if cost is not None:
+        ratio = bounds.at_most(f"instructions of new names with {told}", cost / COUNTED / FORGETTING, 1.3)
+        print(f"a round of these with {told}: {cost / COUNTED:,.0f} instructions, against those of a program that forgets what may have changed: {ratio}")
+
+
 def marks(bounds: Bounds, program: str, folder: str) -> None:
     """200 sessions with 50 marks each: making them takes as long for each as with 100 sessions."""
     def lines(sessions: int) -> str:
@@ -246,6 +296,8 @@ def main() -> None:
         marks(bounds, program, folder)
         keystrokes(bounds, program, folder, ["--keep", "10000"])
         keystrokes(bounds, program, folder, ["--cut-off", "--keep", "10000"])
+        for options in ([], ["--cut-off"], ["--cut-off", "--keep", "400000"]):
+            names(bounds, program, folder, options)
     if bounds.broken:
         sys.exit(bounds.told())
     print(bounds.told())

@@ -43,8 +43,9 @@ SECONDS = 0.7
 # How often the lines are sent in each round, at least and at most.
 REPEATED, MOST_REPEATED = 2, 200
 COLD = "all errors, nothing kept"
-# What is wanted: instructions of the cold question by the size of the program, and the most memory behind it, in megabytes.
-MOST_INSTRUCTIONS = {10_000: 0.36 * 456e6, 60_000: 0.36 * 2_489e6}
+# What is wanted: instructions of the cold question by the size of the program (those of version 0.37, which verified nothing, times 1.06), and
+# the most memory behind it, in megabytes.
+MOST_INSTRUCTIONS = {10_000: 1.06 * 136e6, 60_000: 1.06 * 804e6}
 MOST_MEMORY = {60_000: 55.0}
 # How much of what the first question evaluates is kept with --quarter, and how many times what it takes else a keystroke may take then.
 QUARTER = 4
@@ -67,8 +68,8 @@ BEFORE: Dict[str, Tuple[float, ...]] = {
     "a class in or out at the top": (45, 42, 51),
     "a class in or out at the end": (43, 45, 53),
 }
-# How many times Java's time a keystroke may take with --cut-off, for these sizes.
-CUT_OFF: Dict[str, Tuple[float, ...]] = {
+# How many times Java's time a keystroke may take, for these sizes.
+MOST_TIMES: Dict[str, Tuple[float, ...]] = {
     "a number that nothing rests on": (1, 1 / 20, 1 / 60),
     "a use mistyped and corrected": (1, 1 / 20, 1 / 60),
     "a statement in or out at the front of a method": (1, 1 / 20, 1 / 60),
@@ -277,8 +278,8 @@ def share_of(bench: Bench, name: str, before: Optional[float]) -> Optional[float
 
 
 def wanted_of(bench: Bench, bounds: Bounds, name: str, before: Optional[float]) -> str:
-    """What a row takes against what is wanted: with --cut-off beside Java, else beside version 0.23."""
-    most, ratio, share = known_of(CUT_OFF, bench, name) if bench.options else None, bench.figures.ratio(name), share_of(bench, name, before)
+    """What a row takes against what is wanted: beside Java, and with --before beside that program."""
+    most, ratio, share = None if bench.before else known_of(MOST_TIMES, bench, name), bench.figures.ratio(name), share_of(bench, name, before)
     if ratio and most:
         return bounds.at_most(f"{name}, {bench.size:,} nodes, against Java", ratio, most)
     if share and name != TWO_LINES:

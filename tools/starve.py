@@ -25,7 +25,7 @@ CRATES = Path(__file__).resolve().parent.parent / "crates"
 CALCULATOR = tuple(str(CRATES / "attrd/data" / it) for it in ("calc.ast", "tree.txt", "calc.jrag"))
 ROOMS = tuple(str(CRATES / "starve/data" / it) for it in ("rooms.ast", "rooms.txt", "rooms.jrag"))
 # How values are kept, as `starve` names it.
-KEEPERS = ("nothing", "until-edit", "over-edits", "few", "cut-off", "few-cut-off")
+KEEPERS = ("nothing", "until-edit", "over-edits", "few", "verified", "few-verified", "cut-off", "few-cut-off")
 
 
 class Session(NamedTuple):

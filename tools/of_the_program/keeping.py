@@ -7,10 +7,10 @@ from typing import Dict, List, Tuple
 from tools.of_the_program.runs import NOTHING, SECONDS, ProgramTest
 from tools.of_the_program.sessions import Sample
 
-# All that is kept over edits; so few entries that an edit folds some; what is kept again; and of so few entries.
-OPTIONS: Dict[str, List[str]] = {"over-edits": [], "few": ["--keep", "4"], "cut-off": ["--cut-off"], "few-cut-off": ["--cut-off", "--keep", "4"]}
-# Nothing is kept, and all until an edit.
-OTHERS = ("nothing", "until-edit")
+# What is kept until it is known that an edit changed it; of so few entries that an edit folds some; and both where turns keep again, too.
+OPTIONS: Dict[str, List[str]] = {"verified": [], "few-verified": ["--keep", "4"], "cut-off": ["--cut-off"], "few-cut-off": ["--cut-off", "--keep", "4"]}
+# Nothing is kept, and all until an edit; all that no edit touches, and of few entries.
+OTHERS = ("nothing", "until-edit", "over-edits", "few")
 
 
 class KeepingTest(ProgramTest):

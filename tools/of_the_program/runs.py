@@ -141,6 +141,6 @@ class ProgramTest(unittest.TestCase):
                 stream.sendall(line)
                 self.assertEqual(replies.readline(), reply)
 
-    def assert_no_start(self, path: Union[str, Path]) -> None:
-        """A start at that path ends by a fault of the socket."""
-        self.assertEqual(ended(self.begin(["--socket", path, *THREE])), (3, b"", b"socket fault\n"))
+    def assert_no_start(self, path: Union[str, Path], reason: str) -> None:
+        """A start at that path ends by a fault of the socket, with the system's reason behind it."""
+        self.assertEqual(ended(self.begin(["--socket", path, *THREE])), (3, b"", f"socket fault\n{reason}\n".encode()))

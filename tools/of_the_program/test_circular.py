@@ -85,7 +85,7 @@ class Circular(KeepingTest):
                 with self.subTest(session.name, keeper=keeper):
                     told, work = self.circular(keeper, 1, files, session.lines)
                     self.assertEqual(told, session.replies)
-                    self.assertTrue(keeper != "over-edits" or work == f"work {session.work}\n", work)
+                    self.assertTrue(keeper != "verified" or work == f"work {session.work}\n", work)
 
     def test_replies_are_by_meaning(self) -> None:
         for number in range(self.count):
@@ -100,7 +100,7 @@ class Circular(KeepingTest):
             with self.subTest(number):
                 if self.differs_in_work(case):
                     case = shorter(case, self.differs_in_work)
-                    told = self.told_of(case, "over-edits", 1)[1]
+                    told = self.told_of(case, "verified", 1)[1]
                     self.fail("\n".join([f"{told} in place of {Work(case).done}", case.aspects.text(), case.term, *case.lines]))
 
     @staticmethod
@@ -114,4 +114,4 @@ class Circular(KeepingTest):
             Expected(case)
         except Unfit:
             return False
-        return self.told_of(case, "over-edits", 1)[1] != f"work {Work(case).done}\n"
+        return self.told_of(case, "verified", 1)[1] != f"work {Work(case).done}\n"

@@ -12,7 +12,7 @@ from tools.of_the_program.runs import SECONDS, ProgramTest
 from tools.starve import refusing
 
 # How many lines a session has, and of which seed it is; and the keepers by which what is kept of a group differs.
-LINES, SEED, KEEPERS = 10, "memory2996", ("over-edits", "few-cut-off")
+LINES, SEED, KEEPERS = 10, "memory2996", ("verified", "few-cut-off")
 # More requests than a run makes.
 MOST = 20_000
 

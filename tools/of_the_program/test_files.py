@@ -1,5 +1,8 @@
 """Files that are refused: in which order they are looked at, what is no text, and each front of a tree. What their texts are refused
 for is shown by the examples of tests/pages/REFUSALS.md and EDGES.md."""
+import os
+import socket
+import unittest
 from pathlib import Path
 from typing import Sequence
 
@@ -51,3 +54,28 @@ class Files(ProgramTest):
         for length in range(len(tree)):
             with self.subTest(length=length):
                 self.assert_verdict(grammar, tree[:length], [aspects], "t.txt: F1 syntax")
+
+
+class Unreadable(ProgramTest):
+    """Files that can't be read: the system's reason stands on the next line."""
+
+    def assert_unread(self, name: str, reason: str) -> None:
+        """Where the tree has this name, nothing is served for this reason."""
+        told = f"{name}: read fault\n{reason}\n".encode()
+        self.assertEqual(ended(self.begin(["sum.ast", name, "sum.jrag"])), (3, b"", told))
+
+    def test_the_reasons_of_the_system(self) -> None:
+        (self.folder / "folder").mkdir()
+        (self.folder / "itself").symlink_to("itself")
+        with socket.socket(socket.AF_UNIX) as bound:
+            bound.bind(str(self.folder / "bound"))
+        for name, reason in (
+                ("nosuch", "No such file or directory"), ("folder", "Is a directory"), ("sum.txt/x", "Not a directory"),
+                ("itself", "Too many levels of symbolic links"), ("n" * 256, "File name too long"), ("bound", "No such device or address")):
+            with self.subTest(name):
+                self.assert_unread(name, reason)
+
+    @unittest.skipIf(os.geteuid() == 0, "root may read each file")
+    def test_a_file_that_this_user_may_not_read(self) -> None:
+        (self.folder / "closed").touch(0)
+        self.assert_unread("closed", "Permission denied")

@@ -76,7 +76,7 @@ class Keepers(KeepingTest):
     def assert_alike(self, files: List[str], lines: str, edits: int) -> None:
         """The lines have the same replies with each keeper and each bound. More edits than these are accepted; and with the two that keep
         all the work is the same."""
-        told, work = self.played("over-edits", 1, files, lines)
+        told, work = self.played("verified", 1, files, lines)
         accepted = VERSION.search(told)
         self.assertGreater(int(accepted[1]) if accepted else 0, edits)
         for keeper in self.keepers:

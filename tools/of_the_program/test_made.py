@@ -15,7 +15,7 @@ SESSIONS, LINES, NEW = 30, 150, 0.1
 SEED = 1989
 # So many turns answer each question behind its line.
 TURNS = 1_000_000
-COUNTING = ("over-edits", "cut-off")
+COUNTING = ("verified", "cut-off")
 
 
 class MadeTest(KeepingTest):

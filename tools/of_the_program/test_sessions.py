@@ -55,7 +55,7 @@ class Sessions(KeepingTest):
             with self.subTest(session.name):
                 told = {it: self.played(it, 1, files, session.lines) for it in self.keepers}
                 self.assertEqual({it: replies for it, (replies, _) in told.items()}, dict.fromkeys(self.keepers, session.replies))
-                kept, again = told["over-edits"][1], COUNTED.fullmatch(told["cut-off"][1])
+                kept, again = told["verified"][1], COUNTED.fullmatch(told["cut-off"][1])
                 assert again
                 self.assertEqual([kept, again[1]], [kept if session.work is None else f"work {session.work}\n"] * 2)
                 self.assertLessEqual(int(again[3]), int(again[2]))

@@ -7,6 +7,7 @@ from pathlib import Path
 from tools.of_the_program.runs import FILES, NOTHING, SECONDS, THREE, ProgramTest, Run, all_of, ended, is_listened_on, until
 
 WELL = (0, b"", b"")
+IN_USE = "Address already in use"
 VERSION = [(b"0 version\n", b"0 ok 0\n")]
 
 
@@ -27,7 +28,7 @@ class AtTheStart(ProgramTest):
         """The start that is refused has had a connection of its own, the first one."""
         run = self.serve("--connections", "2", *THREE)
         until(run, lambda: is_listened_on(self.path))
-        self.assert_no_start(self.path)
+        self.assert_no_start(self.path, IN_USE)
         self.assert_served(run, VERSION)
         self.assertEqual(ended(run), WELL)
         self.assertFalse(Path(self.path).exists(), "the socket's file is still there")
@@ -38,16 +39,21 @@ class AtTheStart(ProgramTest):
         (self.folder / "link").symlink_to("left")
         (self.folder / "folder").mkdir()
         for name in ("sum.txt", "link", "folder"):
-            self.assert_no_start(self.folder / name)
+            self.assert_no_start(self.folder / name, IN_USE)
         self.assertEqual((self.folder / "sum.txt").read_text(), FILES["sum.txt"])
         self.assertTrue((self.folder / "left").is_socket())
         self.assertTrue((self.folder / "link").is_symlink())
         self.assertTrue((self.folder / "folder").is_dir())
 
     def test_a_file_that_cannot_be_made_is_a_socket_fault(self) -> None:
-        for path in ("nosuch/s", "sum.txt/s", "/proc/s", "s" * 108):
+        missing = "No such file or directory"
+        for path, reason in (("nosuch/s", missing), ("sum.txt/s", "Not a directory"), ("/proc/s", missing), ("s" * 108, "File name too long")):
             with self.subTest(path):
-                self.assert_no_start(path)
+                self.assert_no_start(path, reason)
+
+    def test_a_path_of_107_bytes_is_short_enough(self) -> None:
+        self.path = str(self.folder / ("s" * (107 - len(str(self.folder)) - 1)))
+        self.assertEqual(self.served(THREE, [(b"0 version\n", False)]), ([b"0 ok 0\n"], WELL))
 
     def test_the_file_has_the_permissions_that_the_mask_leaves(self) -> None:
         for mask, wanted in ("077", 0o700), ("000", 0o777):

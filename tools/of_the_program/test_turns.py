@@ -8,7 +8,10 @@ from tools.of_the_program.runs import Run
 from tools.of_the_program.sessions import CALCULATOR
 
 # For each keeper that is given turns another one, with which the program is asked.
-ASKED = {"over-edits": "few", "few": "cut-off", "cut-off": "few-cut-off", "few-cut-off": "over-edits", "nothing": "over-edits", "until-edit": "few"}
+ASKED = {
+    "verified": "few-verified", "few-verified": "cut-off", "cut-off": "few-cut-off", "few-cut-off": "verified", "nothing": "verified",
+    "until-edit": "few-verified", "over-edits": "cut-off", "few": "few-cut-off",
+}
 SEED, SLICES, LINES = 2026, (1, 2, 7, 1_000), 1_500
 MARKS = ("u", "v")
 # The other server's session for the marks of the first question; the next question's are in the next session.

@@ -49,7 +49,7 @@ class TheTable(unittest.TestCase):
         rows = [Measured("0.9", "kept", "a row", "3", "", "yes", "<= 5"), Measured("0.10", "kept", "a row", "4", "", "yes", "<= 5"),
                 Measured("0.11", "kept", "a row", "1", "", "no", "<= 5"), Measured("0.12", "kept", "another", "7", "ms", "yes")]
         self.assertEqual(history.bounded(rows), [rows[1]])
-        self.assertEqual(history.table(rows).splitlines()[2:], ["| **`bench/kept.py`** | | | |", "| a row | 4 | at most 5 | 0.10 |"])
+        self.assertEqual(history.table(rows).splitlines()[2:], ["| `kept` | a row | 4 | at most 5 | 0.10 |"])
 
     def test_of_two_lines_of_one_version_the_later_one_counts(self) -> None:
         rows = [Measured("0.9", "kept", "a row", value, "", "yes", "<= 5") for value in ("3", "2")]
@@ -58,18 +58,24 @@ class TheTable(unittest.TestCase):
     def test_what_breaks_its_bound_is_bold(self) -> None:
         rows = [Measured("0.9", "kept", "a rate", "19", "", "no", ">= 20"),
                 Measured("0.9", "kept", "a time", "1500", "ms", "no", "<= 1500")]
-        self.assertEqual(history.table(rows).splitlines()[3:],
-                         ["| a rate | **19** | at least 20 | 0.9, not proved |", "| a time | 1,500 ms | at most 1,500 | 0.9, not proved |"])
+        self.assertEqual(history.table(rows).splitlines()[2:],
+                         ["| `kept` | a rate | **19** | at least 20 | 0.9, not proved |", "| `kept` | a time | 1,500 ms | at most 1,500 | 0.9, not proved |"])
 
     def test_rows_that_differ_in_their_nodes_are_one(self) -> None:
         rows = [Measured("0.9", "bounded", f"memory, {nodes} nodes", value, "", "yes", "<= 1.5")
                 for nodes, value in (("60,013", "1.4"), ("10,017", "1.1"))]
-        self.assertEqual(history.table(rows).splitlines()[3:], ["| memory (10,017; 60,013 nodes) | 1.1; 1.4 | at most 1.5 | 0.9 |"])
+        self.assertEqual(history.table(rows).splitlines()[2:], ["| `bounded` | memory (10,017; 60,013 nodes) | 1.1; 1.4 | at most 1.5 | 0.9 |"])
 
     def test_two_units_of_one_thing_are_one_row(self) -> None:
         rows = [Measured("0.9", "evaluation", "a chain", value, unit, "yes", bound)
                 for value, unit, bound in (("31.2", "MiB", "<= 40"), ("1.1", "seconds", "<= 8"))]
-        self.assertEqual(history.table(rows).splitlines()[3:], ["| a chain | 31.2 MiB; 1.1 seconds | at most 40; 8 | 0.9 |"])
+        self.assertEqual(history.table(rows).splitlines()[2:], ["| `evaluation` | a chain | 31.2 MiB; 1.1 seconds | at most 40; 8 | 0.9 |"])
+
+    def test_a_ratio_stands_beside_its_value(self) -> None:
+        rows = [Measured("0.9", "kept", row, value, "", "yes", bound)
+                for row, value, bound in (("an edit", "2.7", "<= 10"), ("an edit, ratio", "1.05", "<= 1.2"), ("a put, ratio", "1.1", "<= 2"))]
+        self.assertEqual(history.table(rows).splitlines()[2:],
+                         ["| `kept` | an edit | 2.7; 1.05 as a ratio | at most 10; 1.2 | 0.9 |", "| `kept` | a put, ratio | 1.1 | at most 2 | 0.9 |"])
 
 
 class Noting(unittest.TestCase):

@@ -46,7 +46,7 @@ class Check:
 
 @dataclass(frozen=True)
 class Diagnostic:
-    """A fault at a node. `has_value` is False where the attribute itself has no value: it met a fault, or a circle."""
+    """A fault at a node. `has_value` is False where the attribute itself has no value: it met a fault, or a cycle."""
 
     path: Path
     attribute: str
@@ -91,7 +91,7 @@ class Diagnostics:
 
         With `before`, the faults that were found last, their nodes are asked first, also where the last edits have left
         them: where they have all that the root counts, nothing else is asked. Else it goes down, a level after the
-        other, where the count of a node isn't 0, or where it has none: a fault or a circle below takes the counts above
+        other, where the count of a node isn't 0, or where it has none: a fault or a cycle below takes the counts above
         it away. It looks first where faults were or an edit was. A node's own attributes are asked only where its count
         isn't made up below. Raises Refused with Code.STALE where another session has edited the tree, and what
         `Session.ask` raises.

@@ -6,7 +6,7 @@ from dataclasses import dataclass
 from typing import Dict, Optional, Sequence, Tuple, Union
 
 from .errors import AttrdError, GrammarFault, StartFault
-from .file_faults import unreadable
+from .file_faults import in_words, unreadable
 from .grammar import Grammar, read_file
 from .lexical import TREE_NODES
 from .tree_faults import fault_of_tree
@@ -19,7 +19,7 @@ SENTENCES: Dict[str, Tuple[str, str]] = {
            "Give the class another name; ASTNode, List and Opt can't be declared."),
     "G3": ("This class names a superclass or a component whose class isn't declared.",
            "Declare that class, or correct its name; a token stands between < and >."),
-    "G4": ("This class is above itself.", "Take one superclass out of the circle."),
+    "G4": ("This class is above itself.", "Take one superclass out of the cycle."),
     "G5": ("Two components of this class have one name, or this name would make two accessors alike.",
            "Name the component, as in `Left:Expr`; inherited components count, and Child, Parent, NumChild can't be used."),
     "G6": ("A token has a kind that isn't one.", "A token's kind is String, int or boolean."),
@@ -99,8 +99,8 @@ def explain(fault: Union[StartFault, GrammarFault], files: Sequence[Union[str, "
     """The fault in words. `files` are those that the program was given: the grammar first, then the tree, then aspects; and `nodes` is
     how many nodes it takes.
 
-    Of a tree, for which the server tells no place, the place is found here; of a file that it can't read, why. Raises AttrdError where
-    the fault isn't one of a file.
+    Of a tree, for which the server tells no place, the place is found here; of a file that it can't read, why, where it doesn't tell that
+    itself. Raises AttrdError where the fault isn't one of a file.
     """
     names = [str(it) for it in files]
     unread = _unread(fault, names)
@@ -127,7 +127,8 @@ def _unread(fault: Union[StartFault, GrammarFault], names: Sequence[str]) -> Opt
     file = next((it for it in names if f"{it}{READ_FAULT}" in told), None)
     if file is None:
         return None
-    reason = unreadable(file) or "it can be read now"
+    behind = told[told.index(f"{file}{READ_FAULT}") + 1:]
+    reason = in_words(behind[0]) if behind else unreadable(file) or "it can be read now"
     return Explanation(file, "", "read fault", f"{reason[0].upper()}{reason[1:]}.", "Name a file that this user may read.")
 
 

@@ -28,13 +28,18 @@ class TextFault(NamedTuple):
     reason: str
 
 
+def in_words(reason: str) -> str:
+    """The reason of the system, as `No such file or directory`, in the words that are used here, where there are any."""
+    return next((words for number, words in REASONS.items() if os.strerror(number) == reason), f"the system says: {reason}")
+
+
 def unreadable(file: Union[str, "os.PathLike[str]"]) -> Optional[str]:
     """Why the file can't be read, in words; None where it can."""
     try:
         with open(file, "rb") as stream:
             stream.read(1)
     except OSError as fault:
-        return REASONS.get(fault.errno or 0, fault.strerror or str(fault))
+        return in_words(fault.strerror or str(fault))
     except ValueError as fault:
         return str(fault)
     return None

@@ -25,9 +25,9 @@ HELP_SECONDS = 30.0
 FORMS_HELP = "which forms of aspects are read that are left out else, as `circular`, with commas between them"
 _VERSION = re.compile(r"attrd (\S+)\s*\Z")
 _OPTION = re.compile(r"--[a-z]+(?:-[a-z]+)*")
-# Programs of before refuse one of these beside the other: the help says where they don't.
+# Programs of before 0.34 refuse one of these beside the other: the help of those up to 0.37 says where they don't, and that of later ones is another.
 TOGETHER = "--cut-off --keep"
-_TOGETHER = re.compile(r"^ *--cut-off .*--keep", re.MULTILINE)
+_TOGETHER = re.compile(r"^ *--cut-off .*(?:--keep|before each turn)", re.MULTILINE)
 _REFUSED = re.compile(r"(?P<file>.*): (?P<code>[GJF][0-9]+) (?P<name>.*?)(?: at (?P<line>[0-9]+):(?P<column>[0-9]+))?\Z")
 
 

@@ -133,7 +133,7 @@ class Session:
         raise ProtocolFault(f"{reply} is no answer")
 
     def value(self, place: Place, attribute: str, *arguments: Argument, at: Optional[int] = None) -> AskValue:
-        """The value of an attribute in Python. Raises NoValue too, where the answer is a fault or a circle."""
+        """The value of an attribute in Python. Raises NoValue too, where the answer is a fault or a cycle."""
         answer = self.ask(place, attribute, *arguments, at=at)
         if isinstance(answer, Value):
             return answer.value

@@ -24,7 +24,7 @@ Asking = Generator["Instance", Answer, "Reason"]
 
 # So many steps are written out.
 SHOWN = 100
-# So many attributes are gone through for a circle.
+# So many attributes are gone through for a cycle.
 LONGEST_CIRCLE = 1_000
 
 
@@ -76,7 +76,7 @@ class Circle:
     def __str__(self) -> str:
         shown = [*map(str, self.instances[:SHOWN])]
         more = [f"{len(self.instances) - SHOWN} more"] if len(self.instances) > SHOWN else []
-        return f"the circle: {' -> '.join([*shown, *more, str(self.instances[0])])}\n  {self._declared()}"
+        return f"the cycle: {' -> '.join([*shown, *more, str(self.instances[0])])}\n  {self._declared()}"
 
     def _declared(self) -> str:
         if not self.others:
@@ -94,7 +94,7 @@ class Reason:
     (`names.jrag:7`); `at` is the node for which it was evaluated: for an inherited attribute the one above that has the equation.
     `bound` are its parameters and index with their values. `steps` are the attributes that it asked, in order, and
     `looks` the components of nodes that it looked at. `stopped` tells where evaluation here met a fault or a bound, or
-    is empty. `circle` is that to which the answer `circular` comes back, where it was looked for and found.
+    is empty. `cycle` is that to which the answer `circular` comes back, where it was looked for and found.
     """
 
     instance: Instance
@@ -134,13 +134,13 @@ class Why:
         self.specification, self.tree = specification, tree
 
     def reason_with_circle(self, instance: Instance) -> Asking:
-        """The reason as `reason` has it; where the answer is `circular`, with the circle. Raises NoReason."""
+        """The reason as `reason` has it; where the answer is `circular`, with the cycle. Raises NoReason."""
         reason = yield from self.reason(instance)
         circle = (yield from self._circle(reason)) if isinstance(reason.answer, Circular) else None
         return replace(reason, circle=circle)
 
     def _circle(self, reason: Reason) -> Generator[Instance, Answer, Optional[Circle]]:
-        """The circle to which an attribute leads that has no value; None where it isn't found."""
+        """The cycle to which an attribute leads that has no value; None where it isn't found."""
         way: Dict[Instance, int] = {reason.instance: 0}
         while len(way) < LONGEST_CIRCLE:
             following = next((it.instance for it in reversed(reason.steps) if isinstance(it.answer, Circular)), None)

@@ -1,4 +1,4 @@
-"""What `check` tells of a tree file, of files that can't be read, and of circles that aren't declared throughout."""
+"""What `check` tells of a tree file, of files that can't be read, and of cycles that aren't declared throughout."""
 import contextlib
 import io
 import tempfile

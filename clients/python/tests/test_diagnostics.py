@@ -1,4 +1,4 @@
-"""Diagnostics: all faults of a tree, also where a circle takes a count away."""
+"""Diagnostics: all faults of a tree, also where a cycle takes a count away."""
 import unittest
 from random import Random
 

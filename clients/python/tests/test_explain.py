@@ -92,10 +92,18 @@ class Explained(unittest.TestCase):
         return attrd.explain(caught.exception, files)
 
     def test_files_that_cannot_be_read(self):
-        """The program tells one text for all of them; the reason is found here."""
+        """The reason of the system is put into words."""
         self.assertIn("tree.txt: read fault. There is no such file.", str(self.explained_as_it_is()))
         (self.folder / "tree.txt").mkdir()
         self.assertIn("tree.txt: read fault. It is a directory.", str(self.explained_as_it_is()))
+
+    def test_a_reason_of_the_system_is_taken_from_the_program(self):
+        for told, sentence in (("gone.txt: read fault\nInput/output error\n", "The system says: Input/output error."),
+                               ("gone.txt: read fault\nIs a directory\n", "It is a directory."),
+                               ("gone.txt: read fault\n", "There is no such file.")):
+            with self.subTest(told):
+                found = attrd.explain(attrd.StartFault(3, told), ["a.ast", "gone.txt", "a.jrag"])
+                self.assertEqual((found.file, found.name, found.sentence), ("gone.txt", "read fault", sentence))
 
     @unittest.skipIf(os.geteuid() == 0, "root may read each file")
     def test_a_file_that_this_user_may_not_read(self):

@@ -66,7 +66,7 @@ class Reasons(OverFiles):
 
 
 class Circles(OverFiles):
-    """To which circle the answer `circular` comes back, and which of its attributes isn't declared circular."""
+    """To which cycle the answer `circular` comes back, and which of its attributes isn't declared circular."""
 
     NET = "Net ::= Place*;\nPlace ::= <Name> Way*;\nWay ::= <To>;\n"
     TREE = 'Net([Place("a",[Way("b")]),Place("b",[Way("a"),Way("b")])])'
@@ -105,7 +105,7 @@ class Circles(OverFiles):
         self.assertTrue(str(reason).splitlines()[-2].endswith("-> /Place:0.opens() -> /Place:0.leads()"))
 
     def test_one_that_only_leads_to_it(self):
-        """An attribute that isn't on the circle isn't one of it, whether it is declared circular or not."""
+        """An attribute that isn't on the cycle isn't one of it, whether it is declared circular or not."""
         circle = self.told("/Place:0", "told").circle
         self.assertEqual(str(circle.instances[0]), "/Place:0.leads()")
         self.assertEqual(circle.others, ("Way.leads (net.jrag:5)",))

@@ -1,5 +1,6 @@
 //! The keeper that takes no more than a number of entries through an edit.
 
+ghost use Rattle.std.proofs.Common.{refl};
 ghost use Rattle.std.specs.Prelude.{◌≡◌, ◌≤◌, ◌-◌, ◌^◌, min, None, OnErr, IfOk, false, true, map, option_map};
 ghost use Rattle.at_body.specs.Values.{value_view};
 ghost use Rattle.at_store.specs.Located.{loc_view};
@@ -115,7 +116,7 @@ impl Keeper for KeepAtMost {
 
     ghost crowded = { λ _. false };
 
-    ghost always_in_turns = { λ k l. cc };
+    ghost always_in_turns = { λ k l. refl };
 
     ghost kept_last = { λ k i v kept. kept };
 

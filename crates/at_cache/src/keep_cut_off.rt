@@ -1,5 +1,6 @@
 //! The keeper that takes what an edit may have changed as changed only where it did.
 
+ghost use Rattle.std.proofs.Common.{refl};
 ghost use Rattle.std.specs.Prelude.{◌≡◌, ◌≤◌, ◌-◌, ◌^◌, IfOk, IfSome, None, OnOk, false, min, true};
 ghost use Rattle.at_cache.specs.Asking.{AreNoted};
 ghost use Rattle.at_cache.specs.Info.{memory_of, table_len};
@@ -255,7 +256,7 @@ impl Keeper for KeepCutOff {
 
     ghost crowded = { λ k. is_crowded k.cut };
 
-    ghost always_in_turns = { λ k l. cc };
+    ghost always_in_turns = { λ k l. refl };
 
     ghost kept_last = { λ k i v kept. last_is (edges_to k.readers) k.cut.entries k.cut.standings.items k.puts i v kept };
 

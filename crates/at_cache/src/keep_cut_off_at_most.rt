@@ -1,5 +1,6 @@
 //! The keeper with cut-off that takes no more than a number of entries through an edit.
 
+ghost use Rattle.std.proofs.Common.{refl};
 ghost use Rattle.std.specs.Prelude.{◌≡◌, ◌≤◌, None, false};
 ghost use Rattle.at_cache.specs.Bound.{bounded_by, bounded_last, LosesOver, remembered_by};
 ghost use Rattle.at_cache.specs.Folding.{LeavesKept};
@@ -96,7 +97,7 @@ impl Keeper for KeepCutOffAtMost {
 
     ghost crowded = { λ k. is_crowded k.keeper.cut };
 
-    ghost always_in_turns = { λ k l. cc };
+    ghost always_in_turns = { λ k l. refl };
 
     ghost kept_last = { bounded_last };
 

@@ -1,5 +1,6 @@
 //! A keeper whose values turns of posted questions keep again, too.
 
+ghost use Rattle.std.proofs.Common.{refl};
 ghost use Rattle.std.specs.Prelude.{true};
 
 use crate::keeper::{Keeper, Order, Put};
@@ -23,7 +24,7 @@ impl<K: Keeper> Keeper for KeepInTurns<K> {
 
     ghost crowded = { λ k. K.crowded k.keeper };
 
-    ghost always_in_turns = { λ k l. cc };
+    ghost always_in_turns = { λ k l. refl };
 
     ghost kept_last = { λ k i v kept. K.kept_last k.keeper i v kept };
 

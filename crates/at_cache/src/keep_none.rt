@@ -1,5 +1,6 @@
 //! The keeper that keeps nothing.
 
+ghost use Rattle.std.proofs.Common.{refl};
 ghost use Rattle.std.specs.Prelude.{None, false};
 ghost use Rattle.at_cache.specs.Kept.{value_at};
 
@@ -28,7 +29,7 @@ impl Keeper for KeepNone {
 
     ghost crowded = { λ _. false };
 
-    ghost always_in_turns = { λ k l. cc };
+    ghost always_in_turns = { λ k l. refl };
 
     ghost kept_last = { λ k i v kept. kept };
 

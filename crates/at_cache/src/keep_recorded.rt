@@ -1,5 +1,6 @@
 //! The keeper that forgets at an edit what the edit touches.
 
+ghost use Rattle.std.proofs.Common.{refl};
 ghost use Rattle.std.specs.Prelude.{◌≡◌, ◌≤◌, ◌-◌, ◌^◌, min, IfOk, None, false, true};
 ghost use Rattle.at_cache.specs.Asking.{AreNoted};
 ghost use Rattle.at_cache.specs.Folding.{LeavesKept};
@@ -189,7 +190,7 @@ impl Keeper for KeepRecorded {
 
     ghost crowded = { λ _. false };
 
-    ghost always_in_turns = { λ k l. cc };
+    ghost always_in_turns = { λ k l. refl };
 
     ghost kept_last = { λ k i v kept. kept };
 

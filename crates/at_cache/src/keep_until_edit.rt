@@ -1,5 +1,6 @@
 //! The keeper that forgets all at an edit.
 
+ghost use Rattle.std.proofs.Common.{refl};
 ghost use Rattle.std.specs.Prelude.{None, false};
 ghost use Rattle.at_cache.specs.Kept.{KeepsAll, value_at};
 ghost use Rattle.at_cache.specs.UntilEdit.{values_kept};
@@ -36,7 +37,7 @@ impl Keeper for KeepUntilEdit {
 
     ghost crowded = { λ _. false };
 
-    ghost always_in_turns = { λ k l. cc };
+    ghost always_in_turns = { λ k l. refl };
 
     ghost kept_last = { λ k i v kept. kept };
 

@@ -8,7 +8,8 @@ use Act::{Blocked, Look, Put, Refuse, See, Settle, Touch, Worked};
 use Of::{Class, Index, Parent, Slot, Token};
 use Sight::{Kept, Nothing, Stands};
 use at_cache::{
-    KeepAtMost, KeepCutOff, KeepCutOffAtMost, KeepNone, KeepRecorded, KeepUntilEdit, Keeper, Order,
+    KeepAtMost, KeepCutOff, KeepCutOffAtMost, KeepInTurns, KeepNone, KeepRecorded, KeepUntilEdit,
+    Keeper, Order,
 };
 use std::alloc::Global;
 use std::process::Abort;
@@ -30,6 +31,8 @@ enum Way {
     UntilEdit,
     KeepsNone,
     CutOff,
+    /// With cut-off, where turns keep again, too.
+    InTurns,
     CutOffAtMostMany,
     CutOffAtMostFew,
 }
@@ -49,7 +52,7 @@ const FEW_AT_MOST: &[Way] = &[Way::AtMostFew];
 
 const UNTIL_EDIT: &[Way] = &[Way::UntilEdit];
 
-const CUT_OFF: &[Way] = &[Way::CutOff, Way::CutOffAtMostMany];
+const CUT_OFF: &[Way] = &[Way::CutOff, Way::InTurns, Way::CutOffAtMostMany];
 
 /// Each but the first uses the one before it.
 const CHAIN: &[Act] = &[
@@ -492,6 +495,11 @@ fn goes_with(rt: &impl Abort, alloc: Global, way: Way, front: &[Act], end: &[Act
         Way::UntilEdit => goes(rt, alloc, &mut KeepUntilEdit::new(alloc), any, front, end),
         Way::KeepsNone => goes(rt, alloc, &mut KeepNone::new(alloc), any, front, end),
         Way::CutOff => goes(rt, alloc, &mut KeepCutOff::new(alloc), as_taken, front, end),
+        Way::InTurns => {
+            let keeper = KeepCutOff::new(alloc);
+            let mut keeper = KeepInTurns { keeper };
+            goes(rt, alloc, &mut keeper, as_taken, front, end)
+        }
         Way::CutOffAtMostMany => goes(
             rt,
             alloc,

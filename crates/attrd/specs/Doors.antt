@@ -18,7 +18,7 @@ ending (Ok report) = Ok report
 ending (Err fault) = Err (Run fault)
 
 -- One has come, all that a run promises holds of the one that has served it, and what that has written was sent to it; or the door
--- refused it, and nothing was done. Either is told.
+-- refused it, and nothing was done. Either is reported.
 pub data ServesNext {K R W : Type 0} (exact : Bool) (entries : K → Entries) (memories : K → Memories)
     (remaining : R → Option (List ℕ)) (misread ended : R → Option Bool) (count : R → Option ℕ) (contents : W → Option (List ℕ))
     (failure : W → Option Bool) (waiting : W → Bool) (gathers : Bool) (old new : Engine K) (door later : Seen)

@@ -1,3 +1,5 @@
+pub mod Reasons
+pub mod Failures
 pub mod Statuses
 pub mod CommandLine
 pub mod Forms

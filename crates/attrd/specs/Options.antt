@@ -21,7 +21,7 @@ max_connections = 1000
 abbrev pub max_slice : ℕ
 max_slice = 1000000
 
--- the greatest number of values to be kept that can be asked for
+-- the greatest bound of the cache that can be asked for
 abbrev pub max_keep : ℕ
 max_keep = 1000000000
 
@@ -33,7 +33,7 @@ max_nodes_asked = max_nodes
 abbrev pub IsUpTo : ℕ → ℕ → Type 0
 IsUpTo most n = (1 ≤ n) × (n ≤ most)
 
--- it can be served: there is an aspect file, and the numbers of connections, of turns and of values to be kept are in range
+-- it can be served: there is an aspect file, and the numbers of connections, of turns and of the cache's entries are in range
 abbrev pub IsUsable : Options → Type 0
 IsUsable o = (0 < length o.aspects.items) × IsUpTo max_connections o.connections × IsUpTo max_slice o.slice
     × IfSome o.keep (IsUpTo max_keep)

@@ -1,43 +1,70 @@
-//! Why the program ends before all is served, and how that is told.
-ghost use Rattle.std.specs.Prelude.{◌≡◌};
+//! Why the program ends before all is served, and what is printed then.
+ghost use Rattle.std.specs.Prelude.{◌≡◌, Some};
+ghost use Rattle.attrd.specs.Failures.{failure_text};
 ghost use Rattle.attrd.specs.Statuses.{status_of};
 ghost use Rattle.attrd.specs.declared.failure.Failure.TheVariants.{Memory};
 
 use crate::options::WordsFault;
+use crate::reason::{Behind, Reason};
 use crate::serving::Served;
 use at_engine::RunFault;
 use std::alloc::{AllocError, AllocFailed};
-use std::io;
-use thiserror::Error;
+use std::error::Error;
+use std::{fmt, io};
 
 /// Why the program ends before all is served. It is shown as its text, without a newline at the end.
-#[derive(Debug, Drop, Error)]
+#[derive(Debug, Drop)]
 pub enum Failure {
     /// The words of the command line ask for nothing that can be served, with the text that says why.
-    #[error("{text}")]
-    Words { text: String },
+    Words {
+        text: String,
+    },
     /// A word of the command line is no text.
-    #[error("error: a word of the command line is no UTF-8")]
     NoText,
-    /// The file of that name can't be read.
-    #[error("{name}: read fault")]
-    File { name: String },
+    /// The file of that name can't be read, for the system's reason where it is known.
+    File {
+        name: String,
+        reason: Option<Reason>,
+    },
     /// A file is refused, with the text that says why.
-    #[error("{text}")]
-    Refused { text: String },
-    /// The socket can't be bound.
-    #[error("socket fault")]
-    Socket,
+    Refused {
+        text: String,
+    },
+    /// The socket can't be bound, for the system's reason where it is known.
+    Socket {
+        reason: Option<Reason>,
+    },
     /// Standard input or output failed.
-    #[error(transparent)]
     Run(RunFault),
     /// Connections ended by faults.
-    #[error("{0}")]
     Connections(Served),
-    /// Want of memory.
-    #[error("memory")]
+    /// Memory ran out.
     Memory,
 }
+
+impl fmt::Display for Failure {
+    ghost output = { λ failure. Some (failure_text failure) };
+
+    fn fmt<W: fmt::Write>(&self, f: &mut fmt::Formatter<W>) -> fmt::Result {
+        match self {
+            Failure::Words { text } | Failure::Refused { text } => write!(f, "{text}"),
+            Failure::NoText => write!(f, "error: a word of the command line is no UTF-8"),
+            Failure::File { name, reason } => {
+                let behind = Behind(*reason);
+                write!(f, "{name}: read fault{behind}")
+            }
+            Failure::Socket { reason } => {
+                let behind = Behind(*reason);
+                write!(f, "socket fault{behind}")
+            }
+            Failure::Run(fault) => f.write_str(fault.text()),
+            Failure::Connections(served) => write!(f, "{served}"),
+            Failure::Memory => write!(f, "memory"),
+        }
+    }
+}
+
+impl Error for Failure {}
 
 impl From<AllocError> for Failure {
     ghost from_gives = { λ _ e. e ≡ Memory };
@@ -71,7 +98,9 @@ pub fn status(failure: &Failure) -> u8
     match failure {
         Failure::Refused { text: _ } => 1,
         Failure::Words { text: _ } | Failure::NoText => 2,
-        Failure::File { name: _ } | Failure::Socket | Failure::Connections(_) => 3,
+        Failure::File { name: _, reason: _ }
+        | Failure::Socket { reason: _ }
+        | Failure::Connections(_) => 3,
         Failure::Run(RunFault::Memory) | Failure::Memory => 4,
         Failure::Run(_) => 3,
     }

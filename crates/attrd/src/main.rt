@@ -2,19 +2,20 @@
 //! lines of standard input on standard output, or those of the connections of a socket.
 //!
 //! **Its specs:** `CommandLine` is which words are taken, `Forms` which forms they name, `Options` what they ask for, `Seen` what is known of those who connect,
-//! `Doors` what is done with their connections, `Connections` how these ended, `Statuses` with which status the program ends.
+//! `Doors` what is done with their connections, `Connections` how these ended, `Statuses` with which status the program ends,
+//! `Failures` what it says then, and `Reasons` the system's reasons.
 //!
 //! **Where to begin:** `main`, below; `options/words.rt` reads the words, `socket.rt` has the socket and its file,
-//! `door.rt` where connections come from, `serving.rt` serves them, `failure.rt` has what is printed, `stack.rt` takes the stack.
+//! `door.rt` where connections come from, `serving.rt` serves them, `failure.rt` and `reason.rt` have what is printed, `stack.rt` takes the stack.
 //!
 //! **What it keeps true:** standard input is answered by `at_start`'s `answer`, and connections one after the other by
 //! `at_engine`'s `run`, each in the state in which the one before it has left the engine. Nothing else is written.
 #![tactic(auto)]
 
-ghost use Rattle.std.specs.Prelude.{◌≡◌, None, IfOk, IfSome, is_none, option_map};
+ghost use Rattle.std.specs.Prelude.{◌≡◌, None, IfOk, IfSome, false, is_none, option_map};
 ghost use Rattle.std.specs.Option.{unwrap_or};
 ghost use Rattle.at_model.specs.Edits.{usual_nodes};
-ghost use Rattle.at_cache.specs.Bound.{bounded_by, kept_by, remembered_by};
+ghost use Rattle.at_cache.specs.Bound.{bounded_by, remembered_by};
 ghost use Rattle.at_cache.specs.Kept.{KeepsAll};
 ghost use Rattle.at_cache.specs.Traced.{TracesNothing};
 ghost use Rattle.at_engine.specs.Engines.{IsSound, KeepsNothing};
@@ -23,11 +24,12 @@ ghost use Rattle.at_start.specs.Starts.{IsFaultOf};
 mod door;
 mod failure;
 mod options;
+mod reason;
 mod serving;
 mod socket;
 mod stack;
 
-use at_cache::{KeepAtMost, KeepCutOff, KeepCutOffAtMost, KeepRecorded, Keeper};
+use at_cache::{KeepCutOff, KeepCutOffAtMost, KeepInTurns, Keeper};
 use at_engine::{Engine, Output, Watched};
 use at_start::{
     Answered, Files, MAX_FILE, Source, StartFault, USUAL_NODES, answer, start_with, tree_bytes,
@@ -35,6 +37,7 @@ use at_start::{
 use door::Gathering;
 use failure::{Failure, status, tell};
 use options::{Options, options};
+use reason::Reason;
 use serving::{Served, serve};
 use socket::Socket;
 use stack::take_stack;
@@ -46,7 +49,7 @@ use std::process::ExitCode;
 use std::{env, io, mem};
 
 /// Serves what the words of the command line ask for, and ends with status 0; 1 where a file is refused, 2 where the
-/// words are, 3 where a file, the socket or a stream fails, 4 for want of memory. The stack of the deepest question is taken
+/// words are, 3 where a file, the socket or a stream fails, 4 where memory ran out. The stack of the deepest question is taken
 /// before a file is read.
 fn main(rt: HostRuntime) -> ExitCode {
     let mut work = None;
@@ -58,15 +61,15 @@ fn main(rt: HostRuntime) -> ExitCode {
     ended(&rt, &served, work)
 }
 
-/// How many values an engine found, and how many of them were made, where others are kept again.
+/// How many values an engine has counted, and how many of them were evaluated, where others are reused.
 #[derive(Clone, Copy)]
 struct Work {
     found: u64,
     made: Option<u64>,
 }
 
-/// The end of what was served: its failure is told, and then the work, where there is one and memory didn't run out. A
-/// fault of standard error itself has no other place to be told.
+/// The end of what was served: its failure is printed, and then the work, where there is one and memory didn't run out. A
+/// fault of standard error itself has no other place to be reported.
 fn ended(rt: &HostRuntime, served: &Result<(), Failure>, work: Option<Work>) -> ExitCode {
     let mut code = 0;
     if let Err(failure) = served {
@@ -81,7 +84,7 @@ fn ended(rt: &HostRuntime, served: &Result<(), Failure>, work: Option<Work>) -> 
     ExitCode::from(code)
 }
 
-/// Tells the work.
+/// Prints the work.
 fn tell_work(rt: &HostRuntime, work: Work) {
     let _ = eprintln!(rt; "work {}", work.found);
     if let Some(made) = work.made {
@@ -105,48 +108,14 @@ fn work_of<K: Keeper>(options: &Options, engine: &Engine<K>) -> Work {
 fn serve_words(rt: &HostRuntime, work: &mut Option<Work>) -> Result<(), Failure> {
     let options = asked(rt)?;
     let mut files = read_files(rt, &options)?;
-    if options.cut_off {
-        return serve_cutting(rt, &options, &mut files, work);
-    }
     match bounded(rt.alloc(), &options) {
-        Some(keeper) => serve_over(rt, &options, &mut files, keeper, work),
-        None => serve_over(
-            rt,
-            &options,
-            &mut files,
-            KeepRecorded::new(rt.alloc()),
-            work,
-        ),
+        Some(keeper) => serve_kept(rt, &options, &mut files, keeper, work),
+        None => serve_kept(rt, &options, &mut files, KeepCutOff::new(rt.alloc()), work),
     }
 }
 
-/// Serves what is asked for over an empty keeper with cut-off, and notes the engine's work, where that is asked for, too.
-fn serve_cutting(
-    rt: &HostRuntime,
-    options: &Options,
-    files: &mut Files,
-    work: &mut Option<Work>,
-) -> Result<(), Failure> {
-    match bounded_cutting(rt.alloc(), options) {
-        Some(keeper) => serve_over(rt, options, files, keeper, work),
-        None => serve_over(rt, options, files, KeepCutOff::new(rt.alloc()), work),
-    }
-}
-
-/// An empty keeper with the bound that is asked for, where there is one.
-fn bounded(alloc: Global, options: &Options) -> Option<KeepAtMost>
-    ensures bound { option_map (λ k. k.most) result ≡ options.now.keep }
-    ensures none { is_none result ≡ is_none options.now.keep }
-    ensures empty { IfSome result (λ k. KeepsAll (λ _. None) (kept_by k)) }
-{
-    match options.keep {
-        Some(most) => Some(KeepAtMost::new(alloc, most as usize)),
-        None => None,
-    }
-}
-
-/// The same with cut-off.
-fn bounded_cutting(alloc: Global, options: &Options) -> Option<KeepCutOffAtMost>
+/// An empty cache with the bound that is asked for, where there is one.
+fn bounded(alloc: Global, options: &Options) -> Option<KeepCutOffAtMost>
     ensures bound { option_map (λ k. k.most) result ≡ options.now.keep }
     ensures none { is_none result ≡ is_none options.now.keep }
     ensures empty { IfSome result (λ k. KeepsAll (λ _. None) (bounded_by k)) }
@@ -158,8 +127,27 @@ fn bounded_cutting(alloc: Global, options: &Options) -> Option<KeepCutOffAtMost>
     }
 }
 
-/// Serves what is asked for over an empty keeper, which is exact just where no bound is asked for, and notes the engine's work, where
-/// that is asked for, too.
+/// Serves what is asked for over an empty cache with which turns reuse nothing, or over one in which it is, and with which they do: just
+/// where cut-off is asked for.
+fn serve_kept<K: Keeper>(
+    rt: &HostRuntime,
+    options: &Options,
+    files: &mut Files,
+    keeper: K,
+    work: &mut Option<Work>,
+) -> Result<(), Failure>
+    requires empty { KeepsNothing K.contents K.memories keeper }
+    requires unbounded { K.exact ≡ is_none options.now.keep }
+    requires plain { (K.memories keeper).in_turns ≡ false }
+{
+    if options.cut_off {
+        return serve_over(rt, options, files, KeepInTurns { keeper }, work);
+    }
+    serve_over(rt, options, files, keeper, work)
+}
+
+/// Serves what is asked for over an empty cache, which is exact just where no bound is asked for, and with which turns reuse just where
+/// cut-off is; and notes the engine's work, where that is asked for, too.
 fn serve_over<K: Keeper>(
     rt: &HostRuntime,
     options: &Options,
@@ -169,6 +157,7 @@ fn serve_over<K: Keeper>(
 ) -> Result<(), Failure>
     requires empty { KeepsNothing K.contents K.memories keeper }
     requires unbounded { K.exact ≡ is_none options.now.keep }
+    requires turning { (K.memories keeper).in_turns ≡ options.now.cut_off }
 {
     let mut done = None;
     let served = match &options.socket {
@@ -306,7 +295,11 @@ fn serve_socket<K: Keeper>(
     let mut socket = match Socket::bind(rt, path) {
         Ok(socket) => socket,
         Err(e) if e.kind() == ErrorKind::OutOfMemory => return Err(Failure::Memory),
-        Err(_) => return Err(Failure::Socket),
+        Err(e) => {
+            return Err(Failure::Socket {
+                reason: Reason::of(&e),
+            });
+        }
     };
     let served = if options.gather {
         serve_gathering(
@@ -374,7 +367,10 @@ fn read_file(rt: &HostRuntime, name: &str, most: usize) -> Result<Source, Failur
     match read_bytes(rt, name.as_str(), most, &mut bytes) {
         Ok(()) => Ok(Source { name, bytes }),
         Err(e) if e.kind() == ErrorKind::OutOfMemory => Err(Failure::Memory),
-        Err(_) => Err(Failure::File { name }),
+        Err(e) => Err(Failure::File {
+            name,
+            reason: Reason::of(&e),
+        }),
     }
 }
 

@@ -19,17 +19,17 @@ pub struct Options {
     pub connections: u16,
     /// How many turns are given to open questions behind each line.
     pub slice: u32,
-    /// How many entries an edit may find kept, or with `cut_off` in memory, without that some go; any number where there is none.
+    /// How many entries of the cache an edit may find in memory before some are evicted; any number where there is none.
     pub keep: Option<u32>,
     /// How many nodes the tree may have: 1 to 16,777,216.
     pub nodes: Option<u32>,
     /// Which forms of aspects are read that are left out else.
     pub forms: Forms,
-    /// Whether what an edit may have changed is kept until it is known that it did.
+    /// Whether values are verified before each turn of a posted question, too.
     pub cut_off: bool,
     /// Whether replies to lines that come together are sent on together.
     pub gather: bool,
-    /// Whether the engine's work is told at the end.
+    /// Whether the engine's work is printed at the end.
     pub work: bool,
     pub grammar: String,
     pub tree: String,
@@ -42,7 +42,7 @@ pub enum WordsFault {
     /// What is wrong with the words, or the help or the version that they ask for.
     #[error("{text}")]
     Words { text: String },
-    /// Want of memory.
+    /// Memory ran out.
     #[error("memory")]
     Memory,
 }

@@ -1,15 +1,15 @@
 //! The connections of a socket, served one after the other.
-ghost use Rattle.std.specs.Prelude.{◌≡◌, ◌≤◌, ◌+◌, ◌<◌, ◌^◌, ◌==◌, IsTrue};
+ghost use Rattle.std.specs.Prelude.{◌≡◌, ◌≤◌, ◌+◌, ◌<◌, ◌^◌, ◌==◌, IsTrue, Some};
 ghost use Rattle.at_engine.specs.Engines.{rules_of, slice_of, IsSound};
 ghost use Rattle.at_engine.specs.Keeping.{IsSpare, KeepsWhole};
 ghost use Rattle.attrd.specs.Connections.{counted, faults, lack, lacks, nobody};
+ghost use Rattle.attrd.specs.Failures.{connection_fault_text, fault_line, served_text};
 ghost use Rattle.attrd.specs.Doors.{ServesAll, ServesNext, ending};
 
 use crate::door::Door;
 use at_cache::Keeper;
 use at_engine::{Engine, Report, RunFault, run_gathering};
 use std::fmt;
-use thiserror::Error;
 
 /// How many connections ended, and how many of them by each fault.
 #[derive(Clone, Copy, Debug)]
@@ -31,34 +31,89 @@ pub struct Served {
 }
 
 /// Why a connection ended before its input.
-#[derive(Clone, Copy, Debug, Error)]
+#[derive(Clone, Copy, Debug)]
 pub enum ConnectionFault {
     /// It wasn't accepted.
-    #[error("socket fault")]
     Socket,
     /// Its run broke off.
-    #[error(transparent)]
     Run(RunFault),
+}
+
+impl ConnectionFault {
+    /// The fault as it is printed.
+    fn text(self) -> &'static str
+        ensures { result.now ≡ connection_fault_text self }
+    {
+        match self {
+            ConnectionFault::Socket => "socket fault",
+            ConnectionFault::Run(fault) => fault.text(),
+        }
+    }
+}
+
+/// The line of one kind of fault, with a newline in front of it behind other lines; nothing where no connection ended so.
+#[derive(Clone, Copy)]
+struct FaultLine {
+    /// How many connections ended by the kinds before.
+    before: u32,
+    ended: u16,
+    fault: ConnectionFault,
+}
+
+impl FaultLine {
+    fn new(before: u32, ended: u16, fault: ConnectionFault) -> FaultLine
+        ensures { (result.before ≡ before) × (result.ended ≡ ended) × (result.fault ≡ fault) }
+    {
+        FaultLine {
+            before,
+            ended,
+            fault,
+        }
+    }
+}
+
+impl fmt::Display for FaultLine {
+    ghost output = { λ line. Some (fault_line line.before line.ended line.fault) };
+
+    fn fmt<W: fmt::Write>(&self, f: &mut fmt::Formatter<W>) -> fmt::Result {
+        let text = self.fault.text();
+        if self.ended == 0 {
+            Ok(())
+        } else if self.before == 0 {
+            write!(f, "{text}")
+        } else {
+            write!(f, "\n{text}")
+        }
+    }
 }
 
 /// A line for each kind of fault by which connections ended, without a newline at the end.
 impl fmt::Display for Served {
+    ghost output = { λ served. Some (served_text served) };
+
     fn fmt<W: fmt::Write>(&self, f: &mut fmt::Formatter<W>) -> fmt::Result {
-        let kinds = [
-            (self.read, ConnectionFault::Run(RunFault::Read)),
-            (self.write, ConnectionFault::Run(RunFault::Write)),
-            (self.reads, ConnectionFault::Run(RunFault::TooManyReads)),
-            (self.socket, ConnectionFault::Socket),
-            (self.memory, ConnectionFault::Run(RunFault::Memory)),
-        ];
-        let mut newline = "";
-        for (connections, fault) in kinds {
-            if connections > 0 {
-                write!(f, "{newline}{fault}")?;
-                newline = "\n";
-            }
-        }
-        Ok(())
+        let before_write = u32::from(self.read);
+        let before_reads = before_write + u32::from(self.write);
+        let before_socket = before_reads + u32::from(self.reads);
+        let before_memory = before_socket + u32::from(self.socket);
+        let read = FaultLine::new(0, self.read, ConnectionFault::Run(RunFault::Read));
+        let write = FaultLine::new(
+            before_write,
+            self.write,
+            ConnectionFault::Run(RunFault::Write),
+        );
+        let reads = FaultLine::new(
+            before_reads,
+            self.reads,
+            ConnectionFault::Run(RunFault::TooManyReads),
+        );
+        let socket = FaultLine::new(before_socket, self.socket, ConnectionFault::Socket);
+        let memory = FaultLine::new(
+            before_memory,
+            self.memory,
+            ConnectionFault::Run(RunFault::Memory),
+        );
+        write!(f, "{read}{write}{reads}{socket}{memory}")
     }
 }
 

@@ -1,10 +1,14 @@
 //! The socket and its file, which is made at the start and removed at the end.
 
+use crate::reason::{ADDRESS_IN_USE, NAME_TOO_LONG};
 use std::fs::Metadata;
 use std::io::ErrorKind;
 use std::os::unix::fs::{FileTypeExt, MetadataExt};
 use std::os::unix::net::{UnixListener, UnixStream};
 use std::{fs, io};
+
+/// How many bytes the path of a socket may have.
+const MAX_PATH: usize = 107;
 
 /// A socket that is listened on, and its file.
 #[derive(Drop)]
@@ -27,8 +31,11 @@ impl Socket {
     ///
     /// # Errors
     ///
-    /// Where the file can't be made, or another one is there.
+    /// Where the path is too long, the file can't be made, or another one is there: with the system's number, which tells why.
     pub fn bind(rt: &HostRuntime, path: &str) -> io::Result<Socket> {
+        if path.len() > MAX_PATH {
+            return Err(io::Error::from_raw_os_error(NAME_TOO_LONG));
+        }
         let listener = match UnixListener::bind(rt, path) {
             Err(e) if e.kind() == ErrorKind::AddrInUse => {
                 remove_left(rt, path)?;
@@ -68,14 +75,14 @@ fn file_of(metadata: &Metadata) -> FileId {
 ///
 /// # Errors
 ///
-/// `AddrInUse` where it is another file, or somebody answers; else that of the removal.
+/// `ADDRESS_IN_USE` where it is another file, or somebody answers; else that of the removal.
 fn remove_left(rt: &HostRuntime, path: &str) -> io::Result<()> {
     let metadata = fs::symlink_metadata(rt, path)?;
     let is_left = metadata.file_type().is_socket() && is_refused(rt, path);
     if is_left && file_at(rt, path) == Some(file_of(&metadata)) {
         fs::remove_file(rt, path)
     } else {
-        Err(io::Error::from(ErrorKind::AddrInUse))
+        Err(io::Error::from_raw_os_error(ADDRESS_IN_USE))
     }
 }
 

@@ -8,7 +8,8 @@
 ghost use Rattle.at_engine.specs.Engines.{KeepsNothing};
 
 use at_cache::{
-    KeepAtMost, KeepCutOff, KeepCutOffAtMost, KeepNone, KeepRecorded, KeepUntilEdit, Keeper,
+    KeepAtMost, KeepCutOff, KeepCutOffAtMost, KeepInTurns, KeepNone, KeepRecorded, KeepUntilEdit,
+    Keeper,
 };
 use at_engine::{RunFault, Watched};
 use at_start::{Files, Forms, MAX_FILE, Source, StartFault, USUAL_NODES, answer};
@@ -72,13 +73,30 @@ fn serve(rt: &HostRuntime) -> Result<(), Stop> {
         "until-edit" => serve_with(rt, slice, &mut files, KeepUntilEdit::new(rt.alloc())),
         "over-edits" => serve_with(rt, slice, &mut files, KeepRecorded::new(rt.alloc())),
         "few" => serve_with(rt, slice, &mut files, KeepAtMost::new(rt.alloc(), FEW)),
-        "cut-off" => serve_with(rt, slice, &mut files, KeepCutOff::new(rt.alloc())),
-        "few-cut-off" => serve_with(
-            rt,
-            slice,
-            &mut files,
-            KeepCutOffAtMost::new(rt.alloc(), FEW),
-        ),
+        _ => serve_verified(rt, slice, &mut files, keeper.as_str()),
+    }
+}
+
+/// Answers the lines over a keeper that takes what an edit may have changed as changed only where it did: as `attrd` does, or as it does
+/// with cut-off.
+fn serve_verified(
+    rt: &HostRuntime,
+    slice: u32,
+    files: &mut Files,
+    keeper: &str,
+) -> Result<(), Stop> {
+    let alloc = rt.alloc();
+    match keeper {
+        "verified" => serve_with(rt, slice, files, KeepCutOff::new(alloc)),
+        "few-verified" => serve_with(rt, slice, files, KeepCutOffAtMost::new(alloc, FEW)),
+        "cut-off" => {
+            let keeper = KeepCutOff::new(alloc);
+            serve_with(rt, slice, files, KeepInTurns { keeper })
+        }
+        "few-cut-off" => {
+            let keeper = KeepCutOffAtMost::new(alloc, FEW);
+            serve_with(rt, slice, files, KeepInTurns { keeper })
+        }
         _ => Err(Stop::Fault),
     }
 }

@@ -73,7 +73,7 @@ def circles(grammar: Source, aspects: Sequence[Source], forms: str = "") -> List
 def _note(specification: Specification, placed: Placed, back: Placed) -> Note:
     it = placed.declaration
     line = specification.text(placed.file).count("\n", 0, it.start) + 1
-    way = f"declare {_head(it)} circular, too" if _is_boolean(placed) else f"{_head(it)}, which is no boolean, can't be on such a circle"
+    way = f"declare {_head(it)} circular, too" if _is_boolean(placed) else f"{_head(it)}, which is no boolean, can't be on such a cycle"
     return Note(placed.file, line, f"{_head(it)} asks {_head(back.declaration)}, which is declared circular, and that may lead back to it. "
                 f"Where it does, the reply is `circular`: {way}.")
 

@@ -1,5 +1,6 @@
 //! A keeper that is compared, entry by entry, with plain models of what it keeps.
 
+ghost use Rattle.std.proofs.Common.{refl};
 ghost use Rattle.std.specs.Prelude.{◌≡◌, None};
 ghost use Rattle.at_cache.specs.Kept.{KeepsAll};
 ghost use Rattle.at_cache.specs.Keeping.{recorded_by, remembered_by};
@@ -56,13 +57,17 @@ impl KeepCompared {
 }
 
 impl Keeper for KeepCompared {
-    ghost use Rattle.std.specs.Prelude.{true};
+    ghost use Rattle.std.specs.Prelude.{false, refl, true};
 
     ghost contents = { λ k. recorded_by k.keeper };
 
     ghost exact = { true };
 
     ghost memories = { λ k. remembered_by k.keeper };
+
+    ghost crowded = { λ _. false };
+
+    ghost always_in_turns = { λ k l. refl };
 
     ghost kept_last = { λ k i v kept. kept };
 
@@ -106,6 +111,10 @@ impl Keeper for KeepCompared {
 
     fn is_tracing(&self) -> bool {
         self.keeper.is_tracing()
+    }
+
+    fn keeps_in_turns(&self) -> bool {
+        self.keeper.keeps_in_turns()
     }
 
     fn flush<F: Fn(Loc) -> bool>(&mut self, touched: &F) {

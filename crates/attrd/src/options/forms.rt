@@ -14,7 +14,7 @@ use std::alloc::{AllocError, Global};
 ///
 /// # Errors
 ///
-/// `Words` where a word of the list is not the name of a form; `Memory` for want of memory.
+/// `Words` where a word of the list is not the name of a form; `Memory` where memory ran out.
 pub fn forms_of(alloc: Global, list: Option<&str>) -> Result<Forms, WordsFault>
     ensures named { IfOk result (λ f. f ≡ forms_in (option_map (λ t. t.now) list.entry)) }
     ensures known { OnOk result (name_forms (option_map (λ t. t.now) list.entry) ≡ true) }

@@ -30,7 +30,7 @@ const SLICE: u32 = 1;
 /// The most turns behind a line that can be asked for.
 const MAX_SLICE: u32 = 1_000_000;
 
-/// The greatest number of values to be kept that can be asked for.
+/// The greatest bound of the cache that can be asked for.
 const MAX_KEEP: u32 = 1_000_000_000;
 
 /// The most nodes of a tree that can be asked for.
@@ -109,7 +109,7 @@ const WORDS: &[Word] = &[
         most: 1,
         value: "N",
         parser: ValueParser::Signed(1, MAX_KEEP as i64),
-        help: "Lets some kept values go at an edit that finds more than N: 1 to 1000000000 [default: no bound]",
+        help: "Lets some values go at an edit that finds more than N in memory: 1 to 1000000000 [default: no bound]",
     },
     Word {
         name: "nodes",
@@ -133,7 +133,7 @@ const WORDS: &[Word] = &[
         most: 0,
         value: "",
         parser: ValueParser::Bool,
-        help: "Keeps what an edit may have changed until it is known that it did; with --keep that counts, too",
+        help: "Verifies values before each turn, too, so that questions that were posted may take fewer of them",
     },
     Word {
         name: "gather",
@@ -183,7 +183,7 @@ const WORDS: &[Word] = &[
 /// # Errors
 ///
 /// `Words` where they aren't words of the command line, where a form isn't one that they name, or where they ask for help or the
-/// version; `Memory` for want of memory.
+/// version; `Memory` where memory ran out.
 pub fn options<'a>(alloc: Global, words: &'a [&'a str]) -> Result<Options, WordsFault>
     ensures usable { IfOk result IsUsable }
     ensures sized { IfOk result IsSized }
@@ -299,7 +299,7 @@ fn slice_of(matches: &ArgMatches<'_>) -> u32
     matches.get_one::<u32>("slice").unwrap_or(SLICE)
 }
 
-/// How many values are to be kept at most, where that is asked for.
+/// The bound of the cache, where one is asked for.
 fn keep_of(matches: &ArgMatches<'_>) -> Option<u32>
     requires { IfSome (one_of (codes "keep") (rows_found matches.now)) (SpellsUpTo max_keep) }
     ensures { result ≡ option_map number (one_of (codes "keep") (rows_found matches.now)) }
