@@ -35,15 +35,18 @@ READ_ON = 8
 # So many sessions a client may have to itself: for marks and for questions in turns.
 OWN_SESSIONS = 100
 _F = ord("f")
-_SHOW_ALL, _SHOWS_ALL = b"show /\n", re.compile(rb"[0-9]+ show /\n")
+_SHOW_ALL, _SHOWS_ALL = b" show /\n", re.compile(rb"[0-9]+ show /\n")
 # Of so many sessions it is known at once where their questions go.
 ROUTES = 16
+# So are so many lines, each of so many bytes at most.
+KNOWN, KNOWN_BYTES = 64, 256
 
 
 class Client:
     """A connection. `service` is told when it has something to send, and when it has lines that wait.
 
-    `turn` is the one at which its last line was over, `slowness` how many turns its last lines took each (see `turns`).
+    `turn` is the one at which its last line was over, `paid` how many turns that line was expected to take, and `slowness` how many its
+    last lines took each (see `turns`).
     """
 
     def __init__(self, service: "Service", stream: socket.socket, token: Optional[bytes] = None, may_edit: bool = True) -> None:
@@ -64,12 +67,17 @@ class Client:
         self._lines = self._rest = b""
         # Of own sessions that have asked plain questions.
         self._routes: Dict[bytes, Route] = {}
+        # Of lines that were plain questions: most clients ask the same ones again.
+        self._known: Dict[bytes, Route] = {}
         self._is_last = self._is_gone = False
         self.turn: float = service.ready.now
+        self.paid: float = 1.0
         self.slowness: float = 0.0
         self.last_slowness: float = 0.0
         # How long a reply of its next line may be, and how many bytes of its replies the service counts as unread.
         self._expected = self._kept = 0
+        # Longer replies are noted: all of them behind a long one.
+        self._noted = LONG_REPLY
         # When bytes came last, and when the other side took some last.
         self._heard = time.monotonic()
         self.drained: float = self._heard
@@ -123,22 +131,32 @@ class Client:
 
     def _goes_at_once(self, data: bytes) -> bool:
         """Hands on what came, where it is one plain question, and nothing of this client waits. Whether it was."""
+        route = self._known.get(data) or self._know(data)
+        service = self.service
+        if route is None or service.at_once <= 0 or self._lines or self._rest or self.unread:
+            return False
+        if self.slowness >= LONG or route.member.unanswered >= FEW or (service.room.has_long_tree and data.endswith(_SHOW_ALL)):
+            return False
+        service.at_once -= 1
+        service.counts.lines += 1
+        service.hub.send_question(route, data)
+        return True
+
+    def _know(self, data: bytes) -> Optional[Route]:
+        """Where a line goes, if it is a whole one with a plain question of a session that has asked some: it is known from then on."""
         own, _, command = data.partition(b" ")
         route = self._routes.get(own)
         if route is None or data.find(b"\n") != len(data) - 1 or not command.startswith(QUESTIONS):
-            return False
-        service = self.service
-        hub = service.hub
-        # As `has_room`, of which a call for each line would take long.
-        if hub.in_flight >= service.pace.most or service.program.unsent or service.ready.waiting:
-            return False
-        if self._lines or self._rest or self.unread or self.member.unanswered >= FEW or self.slowness >= LONG:
-            return False
-        if service.room.has_long_tree and command == _SHOW_ALL:
-            return False
-        service.counts.lines += 1
-        hub.send_question(route, data)
-        return True
+            return None
+        if len(data) <= KNOWN_BYTES:
+            if len(self._known) >= KNOWN:
+                self._known.clear()
+            self._known[data] = route
+        return route
+
+    def _forget_routes(self) -> None:
+        self._routes.clear()
+        self._known.clear()
 
     def _lose(self) -> None:
         """The other side is gone: of what it has sent, `supply` reads the rest, and hands on what changes something."""
@@ -184,6 +202,7 @@ class Client:
     def _make_ready(self) -> None:
         if not self.is_ready and not self.is_ended:
             self.is_ready = True
+            self.service.at_once = 0
             self.service.ready.add(self)
 
     @property
@@ -255,7 +274,7 @@ class Client:
         session = b"%d" % self.member.sessions.get(int(own), SHARED)
         if own not in self._routes:
             if len(self._routes) >= ROUTES:
-                self._routes.clear()
+                self._forget_routes()
             self._routes[own] = Route(self.member, own, session, self._write)
         if session == own:
             self.member.send_block(lines, count, self._write)
@@ -294,7 +313,7 @@ class Client:
         if word in (b"mark", b"post") and own not in self.member.sessions:
             if len(self.member.sessions) >= OWN_SESSIONS:
                 raise NoSession("the client has as many sessions as it may have")
-            self._routes.clear()
+            self._forget_routes()
             return self.member.session(own)
         return self.member.sessions.get(own, SHARED)
 
@@ -329,7 +348,7 @@ class Client:
             self.service.counts.count_refused(data)
         if not self._is_gone:
             self.unread += data
-            if self._expected or len(data) > LONG_REPLY:
+            if len(data) > self._noted:
                 self._note(len(data))
         if not self.is_dirty:
             self.is_dirty = True
@@ -342,6 +361,7 @@ class Client:
             self.service.room.note(length)
         else:
             self._expected = self._expected // 2 if self._expected > LONG_REPLY else 0
+        self._noted = 0 if self._expected else LONG_REPLY
 
     def flush(self) -> None:
         """Sends what the other side takes; lines that waited for that go on."""
@@ -349,10 +369,12 @@ class Client:
         if self.is_ended:
             return
         unread = self.unread
-        before = len(unread)
         try:
             while unread:
                 del unread[:self.stream.send(unread)]
+                # What is drained is of interest where something is left.
+                if unread:
+                    self.drained = self.service.loop.now
         except BlockingIOError:
             pass
         except OSError:
@@ -360,20 +382,18 @@ class Client:
         if self._lines or self._is_last or self._is_gone:
             self._make_ready()
         if unread or self._events & WRITE:
-            if len(unread) < before:
-                self.drained = self.service.loop.now
             self._watch()
             self._count_unread()
 
     def _count_unread(self) -> None:
-        self.service.room.unread += len(self.unread) - self._kept
+        self.service.room.count(len(self.unread) - self._kept)
         self._kept = len(self.unread)
 
     def _lose_reader(self) -> None:
         """Nobody reads the replies any more."""
         self.unread.clear()
         self._count_unread()
-        self._routes.clear()
+        self._forget_routes()
         self._is_gone = True
 
     def _watch(self) -> None:

@@ -4,13 +4,14 @@ from __future__ import annotations
 import os
 import subprocess
 import tempfile
-import time
+from contextlib import suppress
 from typing import List, Optional, Sequence, Tuple
 
 from attrd import AttrdError
 from attrd.server import cannot_start, start_fault
 
 from .lines import LINE_BYTES
+from .meter import Times, clock
 
 CHUNK = 1 << 16
 # Most of what is there to be read is shorter: room for more is made only where it isn't, since that takes its time.
@@ -18,6 +19,8 @@ FIRST_CHUNK = 1 << 12
 ENDING_SECONDS = 10.0
 # So many lines are sent before their replies are read: these have room in a pipe.
 BATCH = 256
+# No longer than this are the three numbers that the system tells of a process and its processor.
+SCHEDULE_BYTES = 100
 _ROOM = 64
 
 
@@ -43,24 +46,19 @@ class Program:
         assert self._process.stdin is not None and self._process.stdout is not None
         self.input, self.output = self._process.stdin.fileno(), self._process.stdout.fileno()
         self.number = self._process.pid
-        # The clock of its processor time, by the number that the C library's clock_getcpuclockid gives it.
-        self._clock = ~self.number << 3 | 2
+        self._schedule: Optional[int] = None
+        with suppress(OSError):
+            self._schedule = os.open(f"/proc/{self.number}/schedstat", os.O_RDONLY | os.O_CLOEXEC)
         self.unsent = bytearray()
         self._rest = b""
-        self._counted = 0.0
 
-    def seconds(self) -> float:
-        """How many seconds of a processor it took so far; where the system doesn't tell that, those of the clock."""
-        try:
-            return time.clock_gettime(self._clock)
-        except OSError:
-            return time.monotonic()
-
-    def seconds_since(self) -> float:
-        """How many of them since this was asked last."""
-        seconds = self.seconds()
-        since, self._counted = seconds - self._counted, seconds
-        return since
+    def times(self) -> Times:
+        """How many seconds it ran so far, and how many it waited for a processor; where the system doesn't tell that, as what always runs."""
+        if self._schedule is not None:
+            with suppress(OSError, ValueError):
+                ran, waited, _ = os.pread(self._schedule, SCHEDULE_BYTES, 0).split()
+                return int(ran) * 1e-9, int(waited) * 1e-9
+        return clock()
 
     def replay(self, commands: Sequence[bytes]) -> None:
         """Has the edits made, each by the session 0. Raises Unfit where one is refused, and StartFault where the program ends."""
@@ -142,6 +140,9 @@ class Program:
         except subprocess.TimeoutExpired:
             self._process.kill()
             self._process.wait()
+        if self._schedule is not None:
+            os.close(self._schedule)
+            self._schedule = None
         if self._errors.closed:
             return ""
         self._errors.seek(0)

@@ -13,11 +13,18 @@ LONG_TREE = 1 << 16
 
 
 class Room:
-    """`unread` counts the bytes that clients have left unread, `tree_bytes` is how long a reply with the whole tree may be."""
+    """`unread` counts the bytes that clients have left unread, and `is_full` tells that these are too many; `tree_bytes` is how long a
+    reply with the whole tree may be."""
 
     def __init__(self) -> None:
         self.unread = self.tree_bytes = 0
-        self.has_long_tree = False
+        self.has_long_tree = self.is_full = False
+
+    def count(self, more: int) -> None:
+        """So many bytes more are unread, or fewer where it is negative."""
+        self.unread += more
+        if self.unread > UNREAD_IN_ALL:
+            self.is_full = True
 
     def expect(self, length: int) -> None:
         """The whole tree has so many bytes."""

@@ -6,9 +6,10 @@ import os
 import signal
 import socket
 import time
+from collections import Counter
 from contextlib import suppress
 from pathlib import Path
-from typing import Dict, List, Optional, Sequence, Set, Tuple
+from typing import Dict, List, NamedTuple, Optional, Set, Tuple
 
 from attrd import AttrdError, ProtocolFault, StartFault
 from attrd.server import program_version, start_fault
@@ -21,6 +22,7 @@ from .journal import Journal, JournalFault, State
 from .lines import Places
 from .loop import READ, WRITE, Loop
 from .member import Member
+from .meter import QUICK, Meter, clock
 from .pace import Pace
 from .peers import Peer
 from .program import Program
@@ -29,7 +31,7 @@ from .settings import Settings
 from .sockets import file_at, listen_at, listen_tcp
 from .status import Counts, Waits, figures_of, status_path
 from .telling import Level, log, notify, shown
-from .turns import CHARGED, SLOW, Turns
+from .turns import TURN_SECONDS, Turns
 
 TICK_SECONDS = 0.5
 ACCEPTED_AT_ONCE = 32
@@ -48,6 +50,13 @@ LAST_SECONDS = 5.0
 TOLD_AGAIN_SECONDS = 60.0
 
 
+class Slow(NamedTuple):
+    """Lines that took long: whose they are, and how many seconds the program took for all of them."""
+
+    members: List[Optional[Member]]
+    seconds: float
+
+
 class Service:
     """Serves from `run` on until a signal. `ready` are clients with lines that wait, `dirty` those with replies to be sent."""
 
@@ -64,7 +73,7 @@ class Service:
         self.hub = Hub()
         self.program: Program
         self.journal = Journal(Path(settings.state), settings.sync) if settings.state is not None else None
-        self.pace = Pace()
+        self.pace, self.meter = Pace(clock), Meter(clock, self.loop.now)
         self.waits = Waits()
         self.program_version: Optional[str] = None
         self._told_version: Optional[str] = None
@@ -74,11 +83,15 @@ class Service:
         self._made: Dict[str, Optional[Tuple[int, int]]] = {}
         self._is_paused = False
         self._told_again = 0.0
-        self._is_stopping = self._is_running = self._has_ended = self._is_renewing = self._is_busy = False
+        self._is_stopping = self._is_running = self._has_ended = self._is_renewing = False
         self.began = self._started = time.monotonic()
         self._told: Tuple[int, int] = (0, 0)
-        # When the last reply came, or the first line behind it went to the program.
+        # When the last reply came, or the first line behind it went to the program; and how many lines were under way then.
         self._answered = 0.0
+        self._in_flight = 0
+        self._waiting, self._long = self.ready.waiting, self.ready.long
+        # So many questions may go to the program as they come, before the next lines are handed on by turns: none where a client waits.
+        self.at_once = 0
 
     def run(self) -> int:
         """Serves; the status: 0 after a signal, 3 where the program has ended and there is no journal. Raises AttrdError."""
@@ -127,7 +140,7 @@ class Service:
         self._ask_version()
         self.room.expect(Path(files[1]).stat().st_size if os.path.exists(files[1]) else 0)
         self.program = Program(self.settings.program, files, self.settings.options)
-        self.pace = Pace(self.program.seconds)
+        self.pace = Pace(self.program.times)
         self._is_running = True
         try:
             self.program.replay(state.commands if state is not None else [])
@@ -136,6 +149,7 @@ class Service:
                 raise
             # It is the operator's file that is refused, and not the copy of it.
             raise start_fault(fault.status, fault.message.replace(files[1], self.settings.files[1])) from None
+        self.meter = Meter(self.program.times, time.monotonic())
 
     def _ask_version(self) -> None:
         """Asks the program for its version. Where it isn't the hub's, or none is told, that is told once."""
@@ -183,16 +197,18 @@ class Service:
 
     def _hand_on(self) -> None:
         """Sends what the turn has brought: lines to the program, edits to the journal, and then replies to clients."""
-        if self.ready.waiting:
+        if self._waiting:
             self._supply()
-        if self.hub.out:
-            if not self._is_busy:
-                self._is_busy, self._answered = True, self.loop.now
-            self.program.send(self.hub.lines())
+        hub = self.hub
+        if hub.out:
+            if not self._in_flight:
+                self._in_flight, self._answered = hub.in_flight, self.loop.now
+            self.program.send(hub.lines())
             if self.loop.now >= self.pace.next:
-                self.pace.begin(self.hub.answered, self.hub.in_flight, self.loop.now)
+                self.pace.begin(hub.answered, hub.in_flight, self.loop.now)
                 self._handed_on = self.loop.now
             if self.program.unsent:
+                self.at_once = 0
                 self._await_room()
         if self.journal is not None and self.journal.pending:
             self.journal.commit()
@@ -200,11 +216,12 @@ class Service:
             dirty, self.dirty = self.dirty, []
             for client in dirty:
                 client.flush()
-            if self.room.unread > UNREAD_IN_ALL:
+            if self.room.is_full:
                 self._make_room()
 
     def _make_room(self) -> None:
         """Ends clients that don't read, as long as all together leave too much unread."""
+        self.room.is_full = False
         while self.room.unread > UNREAD_IN_ALL:
             client = self.room.who_goes(self.clients)
             if client is None:
@@ -238,32 +255,39 @@ class Service:
             self._has_ended = True
             return
         hub, now = self.hub, self.loop.now
-        answered, since = hub.answered, now - self._answered
-        slow = hub.first(CHARGED) if since > SLOW else []
+        answered = hub.answered
+        slow = self._slow(data, now) if now - self._answered > QUICK or now > self.meter.next else None
         try:
             hub.feed(data)
         except ProtocolFault as fault:
             log(Level.ERROR, str(fault))
             self._has_ended = True
-        lines = hub.answered - answered
-        if lines:
-            self._answered, self._is_busy = now, hub.in_flight > 0
-            if slow:
-                self._charge(slow[:lines], since, lines)
-            if self.ready.long:
+        if hub.answered != answered:
+            self._answered, self._in_flight = now, hub.in_flight
+            if slow is not None:
+                self._charge(slow, hub.answered - answered)
+            if self._long:
                 self.ready.release(hub.answered)
+            self.at_once = 0 if self._waiting else self.pace.most - hub.in_flight
         if hub.answered >= self.pace.until:
             self.pace.end(now)
             self.waits.add(now - self._handed_on)
 
-    def _charge(self, slow: Sequence[Optional[Member]], seconds: float, lines: int) -> None:
-        """So many lines have replies behind so many seconds. Where that took long, the clients of the first ones pay for theirs."""
-        # By the program's own time: the machine may have had other work.
-        taken = min(seconds, self.program.seconds_since())
-        if taken > SLOW:
-            for it in slow:
-                if it is not None and it.client is not None:
-                    self.ready.charge(it.client, taken / lines)
+    def _slow(self, replies: bytes, now: float) -> Optional[Slow]:
+        """Whose lines these replies answer, where one of them took more than a turn."""
+        lines = replies.count(b"\n")
+        if not lines:
+            return None
+        seconds = self.meter.look(self._answered, now)
+        return Slow(self.hub.first(lines), seconds) if seconds > lines * TURN_SECONDS else None
+
+    def _charge(self, slow: Slow, lines: int) -> None:
+        """So many lines had replies: their clients pay for what these took, each its part, as far as it was expected."""
+        counts = Counter(it.client if it is not None else None for it in slow.members[:lines])
+        turns = sum(count * (it.paid if it is not None else 1.0) for it, count in counts.items())
+        for it, count in counts.items():
+            if it is not None:
+                self.ready.charge(it, slow.seconds * it.paid / turns, count)
 
     def accepted(self, places: Places, editor: Optional[Peer] = None) -> None:
         """An edit was accepted that this one made: it goes into the journal before its client is told."""
@@ -303,6 +327,7 @@ class Service:
         """The program has ended: all clients are told by the end of their connections, and it is started again. Whether it is."""
         self.hub.lose()
         self.ready.clear()
+        self.at_once = self._in_flight = 0
         self._forget_program()
         if self.journal is None or self._is_stopping:
             log(Level.ERROR, "the program has ended")
@@ -441,7 +466,7 @@ class Service:
         """Has the lines under way answered, and the term written, where that doesn't take long."""
         notify("STOPPING=1")
         # No line of a client goes any more.
-        self.pace.most = 0
+        self.pace.most = self.at_once = 0
         self._close_listening()
         if self.journal is not None and self.journal.edits and not self._is_renewing:
             self._ask_term()

@@ -1,9 +1,10 @@
 """Whose lines go next: clients are served by turns, one line each, and a line that takes long counts as several.
 
 It is weighted fair queueing. A line has a price in turns: 1, or more where its client's last lines took longer. `now` is the turn at
-which everybody is who waits; it goes on by each line's price, shared by those who wait. A client's next line is due at the turn at
-which its last one was over, but not before the turn at which it came, and the line that would be over first goes first. So among
-equal lines each client has one in a turn, and one with a quick line needn't wait for all long lines of the others.
+which everybody is; it goes on by each line's price, shared by all who wait or have lines under way, and isn't before the turn at which
+a line began that is handed on. A client's next line begins at the turn at which its last one was over, but not before `now` as it came,
+and is due when it would be over: what is due first goes first. So among equal lines each client has one in a turn, and one with a quick
+line needn't wait for all long lines of the others.
 """
 from __future__ import annotations
 
@@ -19,23 +20,21 @@ if TYPE_CHECKING:
 
 # So many seconds, or so many bytes of a reply, are one turn.
 TURN_SECONDS, TURN_BYTES = 1e-4, 1 << 14
-# Replies that took no longer, in seconds, aren't looked at: their lines had one turn each.
-SLOW = 1e-3
-# Of lines that have their replies together, so many are looked at.
-CHARGED = 16
 # A line that takes so many turns is a long one, of which so many are under way at once: one with the program, and the next one.
 LONG, LONG_AT_ONCE = 20.0, 2
 # Lines that take more than one turn are handed on together up to so many turns.
 TOGETHER = 20.0
 # What a line of a client counts at most, however long it took.
 SLOWEST = 100.0
+# By what a line counts more than the one before, at most: where the machine has other work a line may seem much slower than it is.
+GROWTH = 4.0
 # Of what a client's lines took so much is expected of the next one.
 DECAY = 0.75
 Entry = Tuple[float, int, "Client"]
 
 
 class Turns:
-    """The clients with lines that wait. `now` is the turn at which they are, `waiting` who could hand on a line now,
+    """The clients with lines that wait. `now` is the turn at which everybody is, `waiting` who could hand on a line now,
     and `long` at which counts of replies the long lines that are under way have theirs."""
 
     def __init__(self, room: "Room") -> None:
@@ -49,9 +48,10 @@ class Turns:
 
     def add(self, client: "Client") -> None:
         """The client has lines."""
-        turn, now = client.turn, self.now
         price = client.price if client.last_slowness > 1.0 or self._room.has_long_tree else 1.0
-        heappush(self.waiting, ((turn if turn > now else now) + price, next(self._number), client))
+        if client.turn < self.now:
+            client.turn = self.now
+        heappush(self.waiting, (client.turn + price, next(self._number), client))
 
     def clear(self) -> None:
         """Nobody waits, and no line is under way."""
@@ -68,11 +68,11 @@ class Turns:
             return
         # Each of its lines has the price 1: as below, with less to be done for it.
         before = hub.in_flight
+        client.paid = 1.0
         is_ready = client.is_ready = client.supply(share)
         paid = hub.in_flight - before or 1
-        now, turn = self.now, client.turn
-        turn = client.turn = (turn if turn > now else now) + paid
-        self.now = now + paid / (1 + len(self.waiting) + len(self._held))
+        self._go_on(paid, entry, hub)
+        turn = client.turn = client.turn + paid
         if is_ready:
             heappush(self.waiting, (turn + 1.0, next(self._number), client))
         if self._held:
@@ -86,31 +86,35 @@ class Turns:
             heappush(self._held, entry)
             return
         before = hub.in_flight
+        client.paid = price
         client.is_ready = client.supply(share if price <= 1.0 else min(share, max(1, int(TOGETHER / price))))
         handed_on = hub.in_flight - before
         paid = price * max(1, handed_on)
-        client.turn = max(client.turn, self.now) + paid
+        self._go_on(paid, entry, hub)
+        client.turn += paid
         client.slowness *= DECAY
         client.last_slowness *= DECAY
-        self._pay(paid)
         if price >= LONG and handed_on:
             self.long.append(hub.answered + hub.in_flight)
         if client.is_ready:
             self.add(client)
         self._bring_back()
 
-    def charge(self, client: "Client", seconds: float) -> None:
-        """A line of the client took so long."""
-        turns = min(SLOWEST, seconds / TURN_SECONDS)
-        # Once alone a line may have seemed slow, since the machine had other work.
-        price = client.price
-        client.slowness, client.last_slowness = min(turns, client.last_slowness), turns
-        more = max(0.0, client.slowness - price)
-        client.turn += more
-        self._pay(more)
+    def _go_on(self, paid: float, entry: Entry, hub: "Hub") -> None:
+        """So many turns are paid for lines of a client that was due."""
+        now = self.now + paid / (hub.in_flight + len(self.waiting) + len(self._held) + 1)
+        # Who comes now with a quick line isn't due behind those that are due with this one, even if its client paid more since it came.
+        began, latest = entry[2].turn, entry[0] - 1.0
+        began = began if began < latest else latest
+        self.now = began if began > now else now
 
-    def _pay(self, turns: float) -> None:
-        self.now += turns / (1 + len(self.waiting) + len(self._held))
+    def charge(self, client: "Client", seconds: float, lines: int = 1) -> None:
+        """So many lines of the client, whose replies came together, took so long each: it pays that, or has back what it paid too much."""
+        turns = min(SLOWEST, seconds / TURN_SECONDS)
+        # Once alone a line may have seemed slow, since the machine was.
+        found = max(1.0, min(turns, client.last_slowness, GROWTH * max(1.0, client.slowness)))
+        client.slowness, client.last_slowness = found, turns
+        client.turn += lines * (found - client.paid)
 
     def release(self, answered: int) -> None:
         """So many lines have replies: whoever waits for a long one's goes on."""

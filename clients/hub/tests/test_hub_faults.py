@@ -132,7 +132,7 @@ class Faults(unittest.TestCase):
 
     @classmethod
     def setUpClass(cls) -> None:
-        cls.hub = Hub("--sync", "second", "--half", "1")
+        cls.hub = Hub("--sync", "second", "--half", "5")
 
     @classmethod
     def tearDownClass(cls) -> None:

@@ -22,15 +22,15 @@ from hub_support import SECONDS, Hub, Lines, until
 from attrd_hub.status import asked
 
 MEGABYTE = 1 << 20
-# A question whose answer is found anew each time, since nothing is kept of it: it looks at each pair of declarations.
+# Questions whose answers are found anew each time, where each has a text of its own: they look at each pair of declarations.
 SLOW = """aspect Slow {
-  syn int Program.slow() = getBlock().pairs();
-  syn int Block.pairs() = sum (a : getStmtList()) { a.row() };
-  syn int Stmt.row() = all();
-  inh int Stmt.all();
-  eq Block.getStmt(int i).all() = sum (b : getStmtList()) { b.one() };
-  eq Program.getBlock().all() = 0;
-  syn int Stmt.one() = 1;
+  syn int Program.slow(String k) = getBlock().pairs(k);
+  syn int Block.pairs(String k) = sum (a : getStmtList()) { a.row(k) };
+  syn int Stmt.row(String k) = all(k);
+  inh int Stmt.all(String k);
+  eq Block.getStmt(int i).all(String k) = sum (b : getStmtList()) { b.one(k) };
+  eq Program.getBlock().all(String k) = 0;
+  syn int Stmt.one(String k) = 1;
 }
 """
 
@@ -60,6 +60,41 @@ def connected(path: str) -> socket.socket:
     stream.settimeout(SECONDS)
     stream.connect(path)
     return stream
+
+
+def state_of(process: int) -> str:
+    """Whether a process runs (R), sleeps (S) or stands still (T)."""
+    return Path(f"/proc/{process}/stat").read_text().rpartition(")")[2].split()[0]
+
+
+class Sender:
+    """Sends an edit and a question, again and again, so many of these pairs at once. `versions` are those that the edits made."""
+
+    EDIT = b'0 token /Block/Stmt:0 ID "y"\n'
+
+    def __init__(self, stream: socket.socket, questions: List[bytes], at_once: int) -> None:
+        self.stream, self.questions, self.at_once = stream, questions, at_once
+        self.versions: List[int] = []
+        self.replies = self.sent = 0
+        self.rest = b""
+
+    def send(self) -> None:
+        """Sends the next ones."""
+        questions = self.questions[self.sent:self.sent + self.at_once]
+        self.sent += len(questions)
+        self.stream.sendall(b"".join(self.EDIT + it + b"\n" for it in questions))
+
+    def goes_on(self) -> bool:
+        """Reads what is there, and sends the next lines when these have their replies. Whether replies are missing."""
+        data = self.stream.recv(1 << 18)
+        if not data:
+            raise EOFError(self.rest)
+        *replies, self.rest = (self.rest + data).split(b"\n")
+        self.replies += len(replies)
+        self.versions += [int(it[len(b"0 ok "):]) for it in replies if it.startswith(b"0 ok ")]
+        if self.replies == 2 * self.sent:
+            self.send()
+        return self.replies < 2 * self.sent
 
 
 class Case(unittest.TestCase):
@@ -163,68 +198,81 @@ class Fairness(Case):
         hub.start()
         return hub
 
-    def replies_of(self, hub: Hub, lines: bytes, most: int, answers: int) -> List[int]:
-        """How many replies each of 64 clients has when one has so many. Each sends these lines, and again when it has so many answers to
-        them. The hub stands still until all have sent theirs, so that none begins earlier than others."""
-        streams = [connected(hub.socket) for _ in range(64)]
-        counts = dict.fromkeys(streams, 0)
-        hub.process.send_signal(signal.SIGSTOP)
+    def versions(self, hub: Hub, questions: List[List[bytes]], at_once: int) -> List[List[int]]:
+        """The versions that each client's edits made, which tell in which order the lines of all were served.
+
+        Each client has a list of questions, and sends an edit in front of each: so many of these pairs at once, and the next ones when
+        it has all replies to them. The hub has taken all clients before, and stands still until all have sent their first lines.
+        """
+        streams = [connected(hub.socket) for _ in questions]
         for it in streams:
-            it.sendall(lines)
+            it.sendall(b"0 version\n")
+            self.assertEqual(it.recv(100), b"0 ok 0\n")
+        senders = {it: Sender(it, lines, at_once) for it, lines in zip(streams, questions)}
+        hub.process.send_signal(signal.SIGSTOP)
+        until(lambda: state_of(hub.process.pid) == "T", "that the hub stands still")
+        for sender in senders.values():
+            sender.send()
         hub.process.send_signal(signal.SIGCONT)
-        while max(counts.values()) < most:
-            ready, _, _ = select.select(streams, [], [], SECONDS)
+        waiting = set(streams)
+        while waiting:
+            ready, _, _ = select.select(list(waiting), [], [], SECONDS)
             self.assertTrue(ready)
-            for it in ready:
-                found = it.recv(1 << 18).count(b"\n")
-                counts[it] += found
-                if found and counts[it] % answers == 0:
-                    it.sendall(lines)
+            waiting -= {it for it in ready if not senders[it].goes_on()}
         for it in streams:
             it.close()
-        return sorted(counts.values())
+        return [it.versions for it in senders.values()]
+
+    def served(self, versions: List[List[int]]) -> List[int]:
+        """How many edits of each client were served when half of all were."""
+        half = sum(map(len, versions)) // 2
+        return sorted(sum(it <= half for it in own) for own in versions)
 
     def test_who_waits_for_each_reply(self) -> None:
         """Sixty-four clients, each with the same question that isn't quick: the slowest has at least half of the fastest one's replies."""
         hub = self.wide(MEGABYTE // 8)
-        counts = self.replies_of(hub, b"0 show /\n", 16, 1)
-        self.assertGreaterEqual(2 * counts[0], counts[-1], counts)
+        served = self.served(self.versions(hub, [[b"0 show /"] * 20] * 64, 1))
+        self.assertGreaterEqual(2 * served[0], served[-1], served)
 
     def test_who_waits_for_none(self) -> None:
         """Also of clients that send all their lines at once."""
         hub = self.slow_hub(40)
-        lines = b"0 token /Block/Stmt:0 ID \"y\"\n0 ask / slow()\n" * 15
-        counts = self.replies_of(hub, lines, 20, 1 << 30)
-        self.assertGreaterEqual(2 * counts[0], counts[-1], counts)
+        # The first questions of all take longer, which no client of the many shall pay for.
+        first = hub.client()
+        for it in range(5):
+            self.assertRegex(first.ask(f'0 ask / slow("first {it}")'), "^0 = ")
+        first.close()
+        questions = [[b'0 ask / slow("%d.%d")' % (client, it) for it in range(120)] for client in range(64)]
+        served = self.served(self.versions(hub, questions, 120))
+        self.assertGreaterEqual(2 * served[0], served[-1], served)
 
 
 class Unread(Case):
     def beside(self, length: int, others: int) -> None:
-        """What a quiet client waits for beside so many that ask for the whole tree and never read, from their first line on."""
+        """What a quiet client waits for beside so many that ask for the whole tree and never read, from their first line on: in seconds
+        of a processor, which the hub and the program take meanwhile."""
         hub = self.wide(length, "--nodes", "100000")
         quiet = Lines(hub.socket)
         self.addCleanup(quiet.close)
-        with_nobody = []
-        for _ in range(3):
-            start = time.perf_counter()
-            quiet.ask("0 show /")
-            with_nobody.append(time.perf_counter() - start)
+        processes = (hub.process.pid, hub.program_number())
+
+        def wait(line: str, reply: str) -> float:
+            before = sum(map(processor_seconds, processes))
+            self.assertTrue(quiet.ask(line).startswith(reply))
+            return sum(map(processor_seconds, processes)) - before
+        with_nobody = [wait("0 show /", "0 = Program(") for _ in range(3)]
         crowd = [connected(hub.socket) for _ in range(others)]
         for it in crowd:
             it.sendall(b"0 show /\n" * 50)
         waits = []
         for _ in range(40):
-            start = time.perf_counter()
-            self.assertEqual(quiet.ask("0 show /Block/Stmt:0"), '0 = Decl("x",-)')
-            waits.append(time.perf_counter() - start)
+            waits.append(wait("0 show /Block/Stmt:0", '0 = Decl("x",-)'))
             time.sleep(0.01)
         figures = asked(hub.socket)
         for it in crowd:
             it.close()
         told = f"one question {max(with_nobody):.4f} s; median {statistics.median(waits):.4f}, most {max(waits):.4f} s; {figures}"
-        # A wait that was longer by the machine's other work is allowed for one in ten.
-        late = sum(it > max(0.1, 5 * max(with_nobody)) for it in waits)
-        self.assertLessEqual(late, 4, told)
+        self.assertLess(max(waits), max(0.1, 5 * max(with_nobody)), told)
         # A megabyte for each, or one reply, and what is under way.
         self.assertLess(int(figures["unread"] or 0), min(300 * MEGABYTE, others * (MEGABYTE + 2 * length)), told)
 
@@ -318,12 +366,12 @@ class Gone(Case):
 
     def test_a_place_is_free_at_once(self) -> None:
         """Where the one that had it sent many bytes without a newline."""
-        hub = self.hub("--clients", "20")
+        hub = self.hub("--clients", "20", "--half", "600")
         for _ in range(5):
             for _ in range(10):
                 self.leave(hub, b"x" * 150_000)
-            # The time for half a line is 30 seconds, and this is much less, on any machine.
-            until(lambda: asked(hub.socket)["clients"] == 0, "free places", 15.0)
+            # The time for half a line is ten minutes, and this is much less, on any machine.
+            until(lambda: asked(hub.socket)["clients"] == 0, "free places")
         self.assertEqual(hub.client().ask("0 version"), "0 ok 0")
 
 

@@ -56,6 +56,7 @@ class Looking(unittest.TestCase):
 
     def test_what_is_found_at_once_needs_no_sleep(self) -> None:
         loop, streams = self.loop()
+        self.steady(loop)
         streams.ready = [(99, READ)]
         for is_due in (True, False, True):
             loop.turn(0.5, is_due)
@@ -93,7 +94,14 @@ class Looking(unittest.TestCase):
         start = time.monotonic()
         loop.turn(0.5)
         self.assertGreaterEqual(time.monotonic() - start, LOOK)
-        self.assertGreater(len(streams.asked), 2)
+        self.assertEqual((streams.asked[0], streams.asked[-1]), (0.0, 0.5))
+
+    def test_it_looks_more_than_once(self) -> None:
+        loop, streams = self.loop()
+        self.steady(loop)
+        loop.turn(0.5)
+        self.assertEqual((set(streams.asked[:-1]), streams.asked[-1]), ({0.0}, 0.5))
+        self.assertGreaterEqual(len(streams.asked), 3)
 
     def test_who_was_put_aside_while_looking_rests(self) -> None:
         loop, streams = self.loop()

@@ -8,21 +8,23 @@ from pathlib import Path
 
 from hub_support import calculator, program
 
+from attrd_hub.meter import TICK
 from attrd_hub.pace import FIRST, LEAST, LONG, MOST, PAUSE, SHORT, Pace
 from attrd_hub.program import Program
 
 
 class Paces(unittest.TestCase):
     def setUp(self) -> None:
-        self.taken = 0.0
-        self.now = 0.0
-        self.pace = Pace(lambda: self.taken)
+        self.taken = self.stood = self.now = 0.0
+        self.pace = Pace(lambda: (self.taken, self.stood))
 
-    def batch(self, lines: int, taken: float, waited: float) -> None:
-        """So many lines have their replies: the program took so many seconds of a processor for them, and they waited so many."""
+    def batch(self, lines: int, taken: float, waited: float, stood: float = 0.0) -> None:
+        """So many lines have their replies: the program took so many seconds of a processor for them, and they waited so many, for so
+        many of which it waited for a processor."""
         self.now = max(self.now, self.pace.next)
         self.pace.begin(0, lines, self.now)
         self.taken += taken
+        self.stood += stood
         self.now += waited
         self.pace.end(self.now)
 
@@ -39,8 +41,31 @@ class Paces(unittest.TestCase):
         """Lines wait a second, nearly all of which others have the processor."""
         self.grow()
         for _ in range(10):
+            self.batch(MOST, SHORT / 10, 1.0, 0.999)
+        self.assertEqual(self.pace.most, MOST)
+
+    def test_a_program_that_stands_still_makes_them_no_fewer(self) -> None:
+        """The system doesn't tell that it waited, but that it ran for little."""
+        self.grow()
+        for _ in range(10):
             self.batch(MOST, SHORT / 10, 1.0)
         self.assertEqual(self.pace.most, MOST)
+
+    def test_lines_for_which_the_system_has_counted_nothing_yet(self) -> None:
+        """Their time is known by the clock, up to a tick."""
+        self.batch(FIRST, 0.0, TICK / 2)
+        self.assertEqual(self.pace.most, 4 * FIRST)
+        self.batch(4 * FIRST, 0.0, TICK + LONG)
+        self.assertGreater(self.pace.most, FIRST)
+
+    def test_lines_of_the_same_time_come_to_rest(self) -> None:
+        """Each takes a bit less than two milliseconds: about as many are under way as take the longer time, and not four times as many."""
+        found = []
+        for _ in range(50):
+            lines = max(1, self.pace.most * 3 // 4)
+            self.batch(lines, lines * 1.6e-3, lines * 1.6e-3)
+            found.append(self.pace.most)
+        self.assertLessEqual(max(found[2:]) * 1.6e-3, 1.5 * LONG, found)
 
     def test_lines_that_take_long_are_fewer_at_once(self) -> None:
         """Forty milliseconds for each, one at a time."""
@@ -49,7 +74,7 @@ class Paces(unittest.TestCase):
         self.assertEqual(self.pace.most, LEAST)
 
     def test_a_program_whose_time_is_not_told_goes_by_the_clock(self) -> None:
-        self.pace = Pace(lambda: self.now)
+        self.pace = Pace(lambda: (self.now, 0.0))
         self.grow()
         self.batch(MOST, 0.0, 4 * LONG)
         self.assertLessEqual(self.pace.most, MOST // 2)
@@ -65,9 +90,9 @@ class Times(unittest.TestCase):
             start = time.monotonic()
             started = Program(program(), calculator(Path(folder)), [])
             started.replay([])
-            taken = started.seconds()
+            taken, waited = started.times()
             # One thread takes no more than the clock, whatever else the machine does.
-            self.assertTrue(0.0 < taken <= time.monotonic() - start, taken)
+            self.assertTrue(0.0 < taken + waited <= time.monotonic() - start, (taken, waited))
             started.end()
 
 

@@ -25,7 +25,7 @@ class Sessions(unittest.TestCase):
 
     @classmethod
     def setUpClass(cls) -> None:
-        cls.hub = Hub("--half", "0.5", "--clients", "80")
+        cls.hub = Hub("--clients", "80")
 
     @classmethod
     def tearDownClass(cls) -> None:
@@ -111,13 +111,17 @@ class Sessions(unittest.TestCase):
         self.assertEqual(faults, [])
 
     def test_who_is_silent_within_a_line_is_ended_and_no_other(self) -> None:
-        quiet, half = self.client(), self.client()
+        hub = Hub("--half", "0.5")
+        self.addCleanup(hub.close)
+        quiet, half = hub.client(), hub.client()
         self.assertRegex(quiet.ask("0 version"), " ok ")
         half.send("0 version")
         half.stream.sendall(b"0 ver")
         self.assertRegex(half.reply(), " ok ")
         self.assertEqual(half.stream.recv(10), b"")
         self.assertRegex(quiet.ask("0 version"), " ok ")
+        for it in (quiet, half):
+            it.close()
 
     def test_no_more_clients_than_wanted(self) -> None:
         clients = [self.client() for _ in range(80)]
@@ -279,7 +283,7 @@ class Ports(unittest.TestCase):
             free.bind(("127.0.0.1", 0))
             port = free.getsockname()[1]
             free.close()
-            hub = Hub("--tcp", str(port), "--token", str(token), "--half", "0.5")
+            hub = Hub("--tcp", str(port), "--token", str(token), "--half", "3")
             self.addCleanup(hub.close)
             for first, told in ((b"0123456789abcdef\n0 version\n", b"0 ok 0\n"), (b"0123456789abcdeg\n0 version\n", b""), (b"", b"")):
                 with socket.create_connection(("127.0.0.1", port), timeout=SECONDS) as client:

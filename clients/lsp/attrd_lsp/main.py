@@ -21,7 +21,7 @@ from .workspace import Workspace
 
 # Expressions and blocks nest as deep as a tree may be, with a few calls for each level.
 CALLS = 20_000
-# How many objects come before the collector looks at them: a key makes some thousands, of which few are in circles.
+# How many objects come before the collector looks at them: a key makes some thousands, of which few are in cycles.
 OBJECTS = 20_000
 
 

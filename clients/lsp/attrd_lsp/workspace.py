@@ -81,7 +81,7 @@ class Workspace:
         project.versions[name] = version
         project.put(name, uri, text)
         self.refresh(tree, uri)
-        # The trees of a document have no circles: they go without the collector, which would hold up a key to look at them all.
+        # The trees of a document have no cycles: they go without the collector, which would hold up a key to look at them all.
         gc.freeze()
 
     def change(self, params: Any) -> None:

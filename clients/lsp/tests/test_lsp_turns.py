@@ -41,10 +41,12 @@ class InTurns(unittest.TestCase):
         temporary = tempfile.TemporaryDirectory(prefix="attrd-lsp-")
         self.addCleanup(temporary.cleanup)
         self.lines = Path(temporary.name) / "lines"
+        self.held = Path(temporary.name) / "held"
 
     def client(self, slow, turn):
-        """A client of a program in which `errors` takes so many turns, of so many seconds each."""
-        environment = {"ATTRD": program(), "SLOW": f"faultCount={slow}", "TURN": str(turn), "LINES": str(self.lines)}
+        """A client of a program in which `faultCount` takes so many turns, of so many seconds each, and isn't over while there is a file
+        `held`."""
+        environment = {"ATTRD": program(), "SLOW": f"faultCount={slow}", "TURN": str(turn), "LINES": str(self.lines), "HELD": str(self.held)}
         client = Client(attrd=TURNS, environment=environment).__enter__()
         self.addCleanup(client.close)
         return client
@@ -71,25 +73,28 @@ class InTurns(unittest.TestCase):
         self.assertEqual(self.noted("post /Kind:[0-9]+ faultCount")[1:], ["post /Kind:22 faultCount()"])
 
     def test_an_edit_waits_for_no_question_and_the_question_isnt_posted_again(self):
-        client = self.client(2000, 0.0005)
+        self.held.touch()
+        client = self.client(20, 0.0005)
         document = Editing(client, SMALL)
         self.until("post / faultCount")
         client.ask("textDocument/documentSymbol", {"textDocument": {"uri": document.uri}})
         for old, new in (("x + r", "a + r"), ("a + r", "b + r"), ("b + r", "c + r")):
-            began = time.monotonic()
             document.change(old, new)
             client.ask("textDocument/documentSymbol", {"textDocument": {"uri": document.uri}})
-            self.assertLess(time.monotonic() - began, 0.9)
+            # The edit comes to the program, and the question is open still.
             self.until(f"token .* ID \"{new[0]}\"")
         self.assertEqual(self.noted("post / faultCount"), ["post / faultCount()"])
+        self.held.unlink()
         self.assertEqual(document.settled(), ["7:11 no declaration of c"])
 
     def test_a_request_is_answered_beside_a_check(self):
-        client = self.client(3000, 0.0005)
+        self.held.touch()
+        client = self.client(20, 0.0005)
         document = Editing(client, SMALL)
         self.until("post / faultCount")
         self.assertIn("near: boolean\n", client.ask("textDocument/hover", document.at("near"))["contents"]["value"])
         self.assertEqual(client.notes, [])
+        self.held.unlink()
         self.assertEqual(document.settled(), [])
 
     def test_colours_wait_for_the_check(self):

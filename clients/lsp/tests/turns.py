@@ -5,7 +5,8 @@
 
 ATTRD names the program behind it. A question of an attribute that is named in SLOW (`errors=1000`) takes so many turns, and each other
 one a single turn; a turn takes TURN seconds. Behind each line so many turns are given as `--slice` says, to the open question
-with the least number; an accepted edit has each open question begin anew. LINES is a file that notes each line."""
+with the least number; an accepted edit has each open question begin anew. LINES is a file that notes each line. While there is a file
+at the path HELD, no question in SLOW is answered."""
 from __future__ import annotations
 
 import os
@@ -36,6 +37,7 @@ class Turns:
         self.behind, self.slice, self.replies = behind, slice_of, replies
         self.slow = {name: int(count) for name, count in (it.split("=") for it in os.environ.get("SLOW", "").split())}
         self.turn = float(os.environ.get("TURN", "0"))
+        self.held = os.environ.get("HELD", "")
         self.open: List[Posted] = []
         self.number = self.version = 0
 
@@ -72,6 +74,10 @@ class Turns:
                     it.turns = 0
         self.tell(reply)
 
+    def is_held(self, posted: Posted) -> bool:
+        """Whether the question isn't answered yet, however many turns it had."""
+        return posted.needs(self.slow) > 1 and os.path.exists(self.held)
+
     def give(self, limit: int) -> None:
         """Gives so many turns."""
         for _ in range(limit):
@@ -80,7 +86,7 @@ class Turns:
             first = self.open[0]
             first.turns += 1
             time.sleep(self.turn)
-            if first.turns >= first.needs(self.slow):
+            if first.turns >= first.needs(self.slow) and not self.is_held(first):
                 answer = self.ask(f"{first.session} ask {first.words}").partition(" ")[2]
                 self.tell(f"{first.session} done {first.number} {self.version} {answer}")
                 self.open.pop(0)

@@ -239,7 +239,7 @@ class Probes:
 
 
 def _ended(shown: Json, attribute: str) -> Json:
-    """What is shown where a result is no node, so that nothing can be asked of it. A fault and a circle tell that by themselves."""
+    """What is shown where a result is no node, so that nothing can be asked of it. A fault and a cycle tell that by themselves."""
     return {"value": f"{shown['value']}, so there is no {attribute}()"} if shown["kind"] == "value" else {}
 
 

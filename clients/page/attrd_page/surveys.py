@@ -54,7 +54,7 @@ def nodes_of(mirror: Mirror, name: str) -> List[Item]:
 
 
 def is_empty(reply: Optional[Reply]) -> bool:
-    """Whether an answer is null, an empty text, 0 or false. A fault and a circle aren't."""
+    """Whether an answer is null, an empty text, 0 or false. A fault and a cycle aren't."""
     return isinstance(reply, Value) and reply.value in EMPTY
 
 

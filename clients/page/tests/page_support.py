@@ -35,7 +35,7 @@ def program() -> str:
 
 
 def write_files(folder: Path) -> List[str]:
-    """Writes the last state of the tutorial's files and an aspect with a circle and a fault; their paths."""
+    """Writes the last state of the tutorial's files and an aspect with a cycle and a fault; their paths."""
     paths = []
     for name in FILES:
         text = re.findall(rf"^```file {re.escape(name)}\n(.*?)^```$", TUTORIAL, re.M | re.S)[-1]

@@ -12,7 +12,7 @@ from page_support import Served
 # What a window of 1280 by 800 has for the page, in Chromium.
 INNER = {"width": 1280, "height": 713}
 # From an edit of another client to the value that a window shows.
-BOUND_SECONDS = 5.0
+BOUND_SECONDS = 30.0
 
 
 class Windows(unittest.TestCase):
