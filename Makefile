@@ -36,7 +36,7 @@ help:
 	@echo "  make clients [T=test_update]"
 	@echo "                     the tests of the clients alone, or of one client or module (2 minutes)"
 	@echo "                     These three take PROGRAM=..; else ./attrd where it stands, else the program of make quick (2 minutes more)"
-	@echo "  make starve        four sessions with each cache, with each request for memory refused in turn (a minute, behind its proof)"
+	@echo "  make starve        four sessions with each bound of the cache, with each request for memory refused in turn (a minute, behind its proof)"
 	@echo "  make tries         the examples of single tries of equations (a minute, behind its proof)"
 	@echo "  make bench [WRITE=1]"
 	@echo "                     measures ./attrd, and writes what it measured (25 minutes and five GB, behind make build)"
@@ -131,7 +131,7 @@ program: tested
 clients: tested
 	@python3 clients/run_tests.py --skip-missing $(TESTED) $(T)
 
-# Four sessions with each cache, by the proved program, with each request for memory refused in turn.
+# Four sessions with each bound of the cache, by the proved program, with each request for memory refused in turn.
 starve: tools python
 	cd crates/starve && rt run < stdin -- until-edit 1 data/sum.ast data/sum.txt data/sum.jrag
 	@python3 tools/starve.py crates/starve/out/starve

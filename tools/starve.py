@@ -24,8 +24,8 @@ from typing import Dict, NamedTuple, Optional, Sequence, Tuple
 CRATES = Path(__file__).resolve().parent.parent / "crates"
 CALCULATOR = tuple(str(CRATES / "attrd/data" / it) for it in ("calc.ast", "tree.txt", "calc.jrag"))
 ROOMS = tuple(str(CRATES / "starve/data" / it) for it in ("rooms.ast", "rooms.txt", "rooms.jrag"))
-# How values are kept, as `starve` names it.
-KEEPERS = ("nothing", "until-edit", "over-edits", "few", "verified", "few-verified", "cut-off", "few-cut-off")
+# How values are kept, as `starve` names it: without a bound, few of them over an edit, and none.
+KEEPERS = ("verified", "few-verified", "until-edit", "cut-off", "few-cut-off", "until-edit-cut-off")
 
 
 class Session(NamedTuple):

@@ -1,4 +1,4 @@
-"""Runs with each way to keep values. The program has options for some; with the others `starve` answers, where the variable STARVE
+"""Runs with each way to keep values. The program has options for most; with the others `starve` answers, where the variable STARVE
 names it."""
 import os
 import subprocess
@@ -9,8 +9,8 @@ from tools.of_the_program.sessions import Sample
 
 # What is kept until it is known that an edit changed it; of so few entries that an edit folds some; and both where turns keep again, too.
 OPTIONS: Dict[str, List[str]] = {"verified": [], "few-verified": ["--keep", "4"], "cut-off": ["--cut-off"], "few-cut-off": ["--cut-off", "--keep", "4"]}
-# Nothing is kept, and all until an edit; all that no edit touches, and of few entries.
-OTHERS = ("nothing", "until-edit", "over-edits", "few")
+# The same with nothing that is kept over an edit.
+OTHERS = ("until-edit", "until-edit-cut-off")
 
 
 class KeepingTest(ProgramTest):

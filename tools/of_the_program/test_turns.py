@@ -9,8 +9,8 @@ from tools.of_the_program.sessions import CALCULATOR
 
 # For each keeper that is given turns another one, with which the program is asked.
 ASKED = {
-    "verified": "few-verified", "few-verified": "cut-off", "cut-off": "few-cut-off", "few-cut-off": "verified", "nothing": "verified",
-    "until-edit": "few-verified", "over-edits": "cut-off", "few": "few-cut-off",
+    "verified": "few-verified", "few-verified": "cut-off", "cut-off": "few-cut-off", "few-cut-off": "verified",
+    "until-edit": "few-verified", "until-edit-cut-off": "cut-off",
 }
 SEED, SLICES, LINES = 2026, (1, 2, 7, 1_000), 1_500
 MARKS = ("u", "v")

@@ -35,9 +35,3 @@ LeavesSlots says old new = (s : ℕ) (x : Standing) → new s ≡ Some x → (ol
 -- what was kept is, or stands for a location with the answer `true`
 abbrev pub LosesSlots : (says : Location ℕ → Bool → Type 0) → (old new : ℕ → Option Standing) → Type 0
 LosesSlots says old new = (s : ℕ) (x : Standing) → old s ≡ Some x → (new s ≡ Some x) ⊎ ((l : Location ℕ) × (x.kept.covers l ≡ true) × says l true)
-
--- one entry more is kept, in a slot that was free
-pub record PutsSlot (old : ℕ → Option Standing) (slot : ℕ) (x : Standing) (new : ℕ → Option Standing) : Type 0 where
-  pub free : (y : Standing) → old slot ≡ Some y → ⊥
-  pub here : new slot ≡ Some x
-  pub others : (s : ℕ) → (s ≡ slot → ⊥) → new s ≡ old s

@@ -1,4 +1,3 @@
-pub mod Adding
 pub mod Lists
 pub mod Locations
 pub mod Looked
@@ -19,10 +18,8 @@ pub mod Entered
 pub mod Testing
 pub mod Showing
 pub mod Shown
-pub mod Done
 pub mod Naming
 pub mod Noted
-pub mod Forgotten
 pub mod RowEdges
 pub mod RowLists
 pub mod Replaced

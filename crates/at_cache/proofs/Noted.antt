@@ -1,5 +1,5 @@
 -- The nodes of which an entry read the index.
-use Rattle.std.proofs.Common.{◌≡◌, inl, inr, ℕ, ◌<◌, List, [], ◌∷◌, ◌++◌, Bool, true, false, true≢false, Some, Contains, IsTrue, not, cond, nat_eq, length, get_or, slice_get, refl, sym, ap, ◌∙◌, subst}
+use Rattle.std.proofs.Common.{◌≡◌, inl, inr, ℕ, ◌<◌, List, [], ◌∷◌, Bool, true, false, true≢false, Some, Contains, IsTrue, not, cond, nat_eq, length, get_or, slice_get, refl, sym, ap, ◌∙◌, subst}
 use Rattle.std.specs.List.{list_any}
 use Rattle.std.proofs.lemmas.List.Elements.{Contains-append_left, Contains-append_right}
 use Rattle.slab.proofs.SlabLemmas.{Contains-cons_cases}
@@ -18,7 +18,7 @@ use Rattle.at_cache.specs.Recorded.{is_listed}
 use Rattle.at_cache.proofs.Beginning.{edges_of}
 use Rattle.at_cache.proofs.Dooming.{head_of}
 use Rattle.at_cache.proofs.Listed.{edges_are}
-use Rattle.at_cache.proofs.Ending.{either, has, on_left, on_right}
+use Rattle.at_cache.proofs.Ending.{has}
 use Rattle.at_cache.proofs.Locations.{index_stands}
 use Rattle.at_cache.proofs.Taking.{none_in}
 
@@ -36,17 +36,6 @@ among_has n l (s ∷ rs) r x c on d = elim (Contains-cons_cases s r rs c) [
       (subst (λ b. Contains (cond b (edges_in r.edges) []) x) (sym on) d))
   | inr rest ↦ Contains-append_right (edges_of n s l) (edges_among n rs l) x (among_has n l rs r x rest on d)
 ]
-
-any_before : (p : ℕ → Bool) (ns more : List ℕ) → list_any p ns ≡ true → list_any p (ns ++ more) ≡ true
-any_before p [] more h = absurd (true≢false (sym h))
-any_before p (n ∷ ns) more h = elim (either (p n) (list_any p ns) h) [
-  | inl here ↦ on_left (p n) (list_any p (ns ++ more)) here
-  | inr there ↦ on_right (p n) (list_any p (ns ++ more)) (any_before p ns more there)
-]
-
--- one node more is noted
-pub noted_more : (lists : Location ℕ → List Edge) (old new : List ℕ) (node : ℕ) → new ≡ old ++ node ∷ [] → AreNoted lists old → AreNoted lists new
-noted_more lists old new node is noted n x h = subst (λ ns. list_any (nat_eq n) ns ≡ true) (sym is) (any_before (nat_eq n) old (node ∷ []) (noted n x h))
 
 pub noted_there : (lists : Location ℕ → List Edge) (nodes : List ℕ) (node : ℕ) → (x : Edge) × Contains (lists (Idx node)) x → AreNoted lists nodes → list_any (nat_eq node) nodes ≡ true
 noted_there lists nodes node (x, c) noted = noted node x (has (lists (Idx node)) x c)

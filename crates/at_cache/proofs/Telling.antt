@@ -9,9 +9,6 @@ use Rattle.at_cache.specs.Info.{Info, info, is_going}
 use Rattle.at_cache.specs.Flushing.{is_fresh}
 
 module _ (x : Edge) where
-  current_of : Option (Instance ℕ × Entry) → Bool
-  current_of o = elim (option_map info o) as (λ _. Bool) [ None ↦ false | Some e ↦ nat_eq e.stamp x.stamp ]
-
   pub current_some : (o : Option (Instance ℕ × Entry)) (e : Instance ℕ × Entry) → Some e ≡ o → nat_eq e.1.stamp x.stamp ≡ (elim (option_map info o) as (λ _. Bool) [ None ↦ false | Some e ↦ nat_eq e.stamp x.stamp ])
   current_some o e h = ap (λ (o : Option (Instance ℕ × Entry)). elim (option_map info o) as (λ _. Bool) [ None ↦ false | Some e ↦ nat_eq e.stamp x.stamp ]) h
 

@@ -9,7 +9,6 @@ pub mod Goes
 pub mod HeldSlots
 pub mod InTheWay
 pub mod InTurns
-pub mod Inexact
 pub mod LeftHeld
 pub mod LetGo
 pub mod Lifting
@@ -25,4 +24,3 @@ pub mod Shed
 pub mod Slotted
 pub mod Spared
 pub mod Tying
-pub mod Untraced

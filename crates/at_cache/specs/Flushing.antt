@@ -20,10 +20,6 @@ dooms x first m k = if nat_eq k x.slot && is_fresh x (m k) then option_map (doom
 abbrev pub first_after : Edge → Option ℕ → Memory → Option ℕ
 first_after x first m = if is_fresh x (m x.slot) then Some x.slot else first
 
--- no entry is in the slot any more
-abbrev pub without : ℕ → Memory → Memory
-without s m k = if nat_eq k s then None else m k
-
 -- those that are going, from the first one on
 abbrev pub IsChain : Memory → Option ℕ → List ℕ → Type 0
 IsChain m first [] = first ≡ None

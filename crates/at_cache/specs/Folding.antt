@@ -1,12 +1,11 @@
 -- Entries that are folded into those that used them.
 use Rattle.std.specs.Prelude.{◌≡◌, ◌⊎◌, ℕ, List, [], ◌∷◌, Bool, true, Option, None, Some, Contains, slice_get}
 use Rattle.smallvec.specs.SmallVec.{SmallVec}
-use Rattle.at_model.specs.Run.{Instance, Location}
+use Rattle.at_model.specs.Run.{Location}
 use Rattle.at_cache.specs.declared.edge.Edge.{Edge}
 use Rattle.at_cache.specs.declared.facet.Readers.{Readers}
 use Rattle.at_cache.specs.Edges.{edges_in}
 use Rattle.at_cache.specs.Info.{Info, Memory}
-use Rattle.at_cache.specs.Kept.{Entries, Kept}
 use Rattle.at_cache.specs.Putting.{is_current}
 use Rattle.at_cache.specs.Readers.{edges_among}
 use Rattle.at_cache.specs.Recorded.{edge_to}
@@ -192,7 +191,3 @@ pub record RemovesAt (into : ℕ → List ℕ) (slot : ℕ) (old new : Memory) :
 pub record Remains (into : ℕ → List ℕ) (old new : Memory) : Type 0 where
   pub stays : (k : ℕ) → Stays into k → new k ≡ old k
   pub only : (k : ℕ) (f : Info) → new k ≡ Some f → Stays into k
-
--- what is kept was kept just so
-abbrev pub LeavesKept : (old new : Entries) → Type 0
-LeavesKept old new = (i : Instance ℕ) (k : Kept) → new i ≡ Some k → old i ≡ Some k

@@ -7,8 +7,6 @@ use Rattle.at_body.specs.Same.{same_instance}
 use Rattle.at_store.specs.Located.{loc_view}
 use Rattle.at_store.specs.Places.{named}
 use Rattle.at_store.specs.declared.places.Places.{Places}
-use Rattle.at_cache.specs.declared.keeper.Put.{Put}
-use Rattle.at_cache.specs.declared.keeper.Put.TheVariants as put
 
 -- the form of a location, its node, and its component or 0
 abbrev pub form_of : Location ℕ → ℕ
@@ -76,26 +74,23 @@ covered entries reads uses l = covered_by entries (λ m. list_any (same_location
 abbrev pub KeepsAll : (old new : Entries) → Type 0
 KeepsAll old new = (i : Instance ℕ) → new i ≡ old i
 
--- `new` has one entry more: i with the value, or without one, standing for the reads and all that the uses stand for, and, where the keeper
--- is exact, for no other location
-pub record PutsBy (exact : Bool) (old : Entries) (i : Instance ℕ) (v : Option (Value ℕ)) (reads : Location ℕ → Bool) (uses : List (Instance ℕ))
+-- `new` has one entry more: i with the value, or without one, standing for just the reads and all that the uses stand for
+pub record PutsBy (old : Entries) (i : Instance ℕ) (v : Option (Value ℕ)) (reads : Location ℕ → Bool) (uses : List (Instance ℕ))
     (new : Entries) : Type 0 where
   pub entry : Kept
   pub value : entry.value ≡ v
   pub covers : (l : Location ℕ) → covered_by old reads uses l ≡ true → entry.covers l ≡ true
-  pub only : exact ≡ true → (l : Location ℕ) → entry.covers l ≡ true → covered_by old reads uses l ≡ true
+  pub only : (l : Location ℕ) → entry.covers l ≡ true → covered_by old reads uses l ≡ true
   pub adds : (j : Instance ℕ) → new j ≡ (if same_instance i j then Some entry else old j)
 
 -- the same with a list of reads
-abbrev pub Puts : (exact : Bool) (old : Entries) → Instance ℕ → Option (Value ℕ) → (reads : List (Location ℕ)) (uses : List (Instance ℕ))
+abbrev pub Puts : (old : Entries) → Instance ℕ → Option (Value ℕ) → (reads : List (Location ℕ)) (uses : List (Instance ℕ))
     → (new : Entries) → Type 0
-Puts exact old i v reads uses new = PutsBy exact old i v (λ l. list_any (same_location l) reads) uses new
+Puts old i v reads uses new = PutsBy old i v (λ l. list_any (same_location l) reads) uses new
 
--- the entry is there so; or a keeper that isn't exact has left all as it was
-abbrev pub HasPut : (exact : Bool) (old : Entries) → Instance ℕ → Option (Value ℕ) → (reads : List (Location ℕ)) (uses : List (Instance ℕ))
-    → (new : Entries) → Put → Type 0
-HasPut exact old i v reads uses new put.Kept = Puts exact old i v reads uses new
-HasPut exact old i v reads uses new put.Left = (exact ≡ false) × KeepsAll old new
+-- what is kept was kept just so
+abbrev pub LeavesKept : (old new : Entries) → Type 0
+LeavesKept old new = (i : Instance ℕ) (k : Kept) → new i ≡ Some k → old i ≡ Some k
 
 -- each of the instances has an entry
 abbrev pub AreKept : Entries → List (Instance ℕ) → Type 0

@@ -1,7 +1,6 @@
 pub mod Kept
 pub mod Rows
 pub mod Edges
-pub mod UntilEdit
 pub mod Readers
 pub mod Placed
 pub mod Info
@@ -13,8 +12,6 @@ pub mod Asking
 pub mod Runs
 pub mod Finding
 pub mod Keeping
-pub mod Stored
-pub mod Bound
 pub mod Folding
 pub mod Blocking
 pub mod Attributes

@@ -1,14 +1,9 @@
 -- What is kept with links to earlier entries, and how it is found from the locations.
-use Rattle.std.specs.Prelude.{◌≡◌, ◌<◌, ℕ, zero, suc, List, Bool, true, false, ◌&&◌, ◌||◌, None, Some, nat_eq, nat_lt, option_map}
+use Rattle.std.specs.Prelude.{◌≡◌, ◌<◌, ℕ, zero, suc, List, Bool, true, false, ◌&&◌, ◌||◌, None, Some, nat_eq, nat_lt}
 use Rattle.std.specs.List.{list_any}
-use Rattle.std.specs.Map.{lookup}
-use Rattle.at_model.specs.Run.{Instance, Location}
-use Rattle.at_body.specs.Same.{same_instance}
-use Rattle.at_body.specs.Values.{value_view}
+use Rattle.at_model.specs.Run.{Location}
 use Rattle.at_cache.specs.declared.edge.Edge.{Edge}
-use Rattle.at_cache.specs.declared.table.Table.{Table}
-use Rattle.at_cache.specs.Info.{Info, Memory, memory_of}
-use Rattle.at_cache.specs.Kept.{Entries, covers_at}
+use Rattle.at_cache.specs.Info.{Info, Memory}
 
 abbrev pub same_edge : Edge → Edge → Bool
 same_edge x y = nat_eq x.slot y.slot && nat_eq x.stamp y.stamp
@@ -25,17 +20,6 @@ is_listed x edges = list_any (same_edge x) edges
 abbrev pub covers : (lists : Location ℕ → List Edge) → Memory → (far : ℕ) → (slot : ℕ) → Location ℕ → Bool
 covers lists m zero s l = false
 covers lists m (suc far) s l = elim (m s) [ None ↦ false | Some e ↦ is_listed (edge_to s e) (lists l) || list_any (λ p. covers lists m far p l) e.links ]
-
--- what is kept of an instance, with these edges of locations, after so many calls of `put`
-abbrev pub kept_in : (lists : Location ℕ → List Edge) → Table → (puts : ℕ) → Entries
-kept_in lists t puts i =
-    option_map (λ e. record { value = option_map value_view e.value; covers = covers lists (memory_of t) puts e.slot })
-    (lookup (same_instance i) t.entries.entries)
-
--- the entries of the slots stand for the same locations as those of the instances
-abbrev pub AreOf : Table → List (Instance ℕ) → (slots : List ℕ) → Type 0
-AreOf t uses slots = (lists : Location ℕ → List Edge) (puts : ℕ) (l : Location ℕ)
-    → list_any (λ p. covers lists (memory_of t) puts p l) slots ≡ list_any (λ u. covers_at (kept_in lists t puts u) l) uses
 
 -- whether an earlier entry is in the slot p, and has an edge to the entry
 abbrev pub is_used : Memory → ℕ → Info → ℕ → Bool

@@ -1,5 +1,5 @@
 -- What a put takes away beside.
-use Rattle.std.specs.Prelude.{◌≡◌, ◌⊎◌, ◌+◌, ℕ, List, length, true, false, Option, None, Some, Contains, IfOk, OnErr, Result}
+use Rattle.std.specs.Prelude.{◌≡◌, ◌⊎◌, ◌+◌, ℕ, List, length, true, false, Option, None, Some, Contains, OnErr, OnOk, Result}
 use Rattle.std.specs.Map.{lookup}
 use Rattle.at_model.specs.Run.{Instance, Location, Value}
 use Rattle.at_body.specs.Same.{same_instance}
@@ -7,12 +7,11 @@ use Rattle.at_cache.specs.declared.cut.Cut.{Cut}
 use Rattle.at_cache.specs.declared.cut.Pass.TheVariants as pass
 use Rattle.at_cache.specs.declared.edge.Edge.{Edge}
 use Rattle.at_cache.specs.declared.keeper.Order.{Order}
-use Rattle.at_cache.specs.declared.keeper.Put.{Put}
 use Rattle.at_cache.specs.declared.standing.Standing.{Standing}
 use Rattle.at_cache.specs.declared.table.Table.{Table}
 use Rattle.at_cache.specs.Info.{Info, Memory, memory_of}
 use Rattle.at_cache.specs.Putting.{users_at}
-use Rattle.at_cache.specs.Kept.{HasPut, KeepsAll}
+use Rattle.at_cache.specs.Kept.{KeepsAll, Puts}
 use Rattle.at_cache.specs.Recorded.{IsIndexed}
 use Rattle.at_cache.specs.Shedding.{kept_cut, remembered_cut}
 use Rattle.at_cache.specs.Standings.{AreValued, IsTied, but_for, held, kept_held, remembered, standing_of}
@@ -94,11 +93,11 @@ pub record PutsIn (slot : ℕ) (instance : Instance ℕ) (value : Option (Value 
 -- The entry of i came to be kept, by that number, or all that is kept is what it was. It is found, and so is all that is in memory; of what is
 -- remembered no more is lost than by a put.
 pub record EntersHeld {E : Type 0} (i : Instance ℕ) (v : Option (Value ℕ)) (looked : List (Location ℕ)) (taken : List (Instance ℕ)) (o : Order)
-    (number : ℕ) (lists : Location ℕ → List Edge) (old : Cut) (later : Location ℕ → List Edge) (new : Cut) (r : Result Put E) : Type 0 where
+    (number : ℕ) (lists : Location ℕ → List Edge) (old : Cut) (later : Location ℕ → List Edge) (new : Cut) (r : Result (Unit {0}) E) : Type 0 where
   pub indexed : IsIndexed later (number + 1) (held new.standings.items (memory_of new.entries))
   pub tied : IsTied later (number + 1) (memory_of new.entries)
   pub valued : AreValued new.standings.items (memory_of new.entries)
-  pub puts : IfOk r (HasPut true (kept_cut lists old number) i v looked taken (kept_cut later new (number + 1)))
+  pub puts : OnOk r (Puts (kept_cut lists old number) i v looked taken (kept_cut later new (number + 1)))
   pub err : OnErr r (KeepsAll (kept_cut lists old number) (kept_cut later new (number + 1)))
   pub traces : PutsTrace i v looked taken o (remembered_cut lists old) (remembered_cut later new)
   pub spares : SparesOthers i (kept_cut later new (number + 1)) (remembered_cut lists old) (remembered_cut later new)

@@ -14,7 +14,7 @@ use Rattle.at_cache.specs.Traced.{AreAllKept, IsNext, Memories, Settled, Trace}
 -- from wherever i comes next, so many entries came as the work has grown by
 abbrev pub Settles : Memories → Instance ℕ → (old new : Entries) → (work done : ℕ) → Type 0
 Settles m i old new work done = (q : Instance ℕ) → IsNext m old q i
-    → (n : ℕ) × Settled true m q n old new × (done ≡ min (work + n) (2 ^ 64 - 1))
+    → (n : ℕ) × Settled m q n old new × (done ≡ min (work + n) (2 ^ 64 - 1))
 
 -- what is kept is found, and so is all that is in memory
 pub record IsWhole (lists : Location ℕ → List Edge) (t : Table) (standings : List Standing) (counts : Counts)

@@ -1,4 +1,4 @@
--- What leaves memory beyond a bound.
+-- What leaves memory: what isn't kept, and more beyond a bound.
 use Rattle.std.specs.Prelude.{◌≡◌, ◌+◌, ◌/◌, ℕ, List, Bool, true, Some, nat_lt}
 use Rattle.at_model.specs.Run.{Location}
 use Rattle.at_cache.specs.declared.cut.Cut.{Cut}
@@ -6,12 +6,11 @@ use Rattle.at_cache.specs.declared.cut.Pass.TheVariants as pass
 use Rattle.at_cache.specs.declared.edge.Edge.{Edge}
 use Rattle.at_cache.specs.declared.standing.Standing.{Standing}
 use Rattle.at_cache.specs.declared.table.Table.{Table}
-use Rattle.at_cache.specs.Folding.{LeavesKept}
 use Rattle.at_cache.specs.Info.{Info, Memory, memory_of, table_len}
 use Rattle.at_cache.specs.Marking.{seen_among}
 use Rattle.at_cache.specs.Recorded.{IsIndexed}
 use Rattle.at_cache.specs.Standings.{but_for, held, kept_held, remembered, standing_of}
-use Rattle.at_cache.specs.Kept.{Entries}
+use Rattle.at_cache.specs.Kept.{Entries, LeavesKept}
 use Rattle.at_cache.specs.Traced.{Memories, StayTraced}
 
 -- all that is in memory is kept

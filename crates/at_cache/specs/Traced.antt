@@ -72,10 +72,6 @@ pub record SparesOthers (i : Instance ℕ) (after : Entries) (old new : Memories
   pub spares : (j : Instance ℕ) (t : Trace) → (i ≡ j → ⊥) → old.traced j ≡ Some t → IsSpared old new j t
   pub last : (u : Instance ℕ) → (new.last u ≡ old.last u) ⊎ ((i ≡ u) × IsSome (after i))
 
--- what a keeper remembers that traces nothing
-abbrev pub untraced_by : Entries → Memories
-untraced_by entries = record { traced = λ _. None; last = λ i. value_at (entries i); in_turns = false }
-
 -- the trace of i is there still, if there is one
 abbrev pub KeepsTrace : Instance ℕ → (old new : Memories) → Type 0
 KeepsTrace i old new = (t : Trace) → old.traced i ≡ Some t → new.traced i ≡ Some t
@@ -103,7 +99,7 @@ pub data IsNext (m : Memories) (entries : Entries) (q : Instance ℕ) : Instance
 
 -- So many entries came, one behind the other: each of an instance that had none, with the value, the reads and the uses of its trace, once
 -- all that it used was kept.
-pub data Settled (exact : Bool) (m : Memories) (q : Instance ℕ) : ℕ → Entries → Entries → Type 0 where
-  nothing : (entries : Entries) → Settled exact m q zero entries entries
-  one_more : (n : ℕ) (old mid new : Entries) (i : Instance ℕ) (t : Trace) → Settled exact m q n old mid → IsNext m mid q i → m.traced i ≡ Some t
-      → mid i ≡ None → AreAllKept mid t.uses → PutsBy exact mid i (Some t.value) t.reads t.uses new → Settled exact m q (suc n) old new
+pub data Settled (m : Memories) (q : Instance ℕ) : ℕ → Entries → Entries → Type 0 where
+  nothing : (entries : Entries) → Settled m q zero entries entries
+  one_more : (n : ℕ) (old mid new : Entries) (i : Instance ℕ) (t : Trace) → Settled m q n old mid → IsNext m mid q i → m.traced i ≡ Some t
+      → mid i ≡ None → AreAllKept mid t.uses → PutsBy mid i (Some t.value) t.reads t.uses new → Settled m q (suc n) old new

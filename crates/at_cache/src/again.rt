@@ -5,7 +5,6 @@ ghost use Rattle.std.specs.Map.{lookup};
 ghost use Rattle.at_body.specs.Same.{same_instance};
 ghost use Rattle.at_cache.specs.Info.{memory_of};
 ghost use Rattle.at_cache.specs.Putting.{AreTaken};
-ghost use Rattle.at_cache.specs.Recorded.{AreOf};
 ghost use Rattle.at_cache.specs.Theirs.{AreTheirs, HasSlot};
 
 use crate::edge::Slot;
@@ -95,7 +94,6 @@ pub fn slots_again(
     known: &Option<Links>,
 ) -> Result<Links, AllocError>
     ensures taken { IfOk result (λ slots. AreTaken (memory_of entries.now) slots.items) }
-    ensures covers { IfOk result (λ slots. AreOf entries.now uses.now slots.items) }
     ensures theirs { IfOk result (λ slots. AreTheirs entries.now uses.now slots.items) }
 {
     match known {
@@ -113,7 +111,6 @@ fn slots_near(
     known: &[Slot],
 ) -> Result<Links, AllocError>
     ensures taken { IfOk result (λ slots. AreTaken (memory_of entries.now) slots.items) }
-    ensures covers { IfOk result (λ slots. AreOf entries.now uses.now slots.items) }
     ensures theirs { IfOk result (λ slots. AreTheirs entries.now uses.now slots.items) }
 {
     let mut slots = Links::with_capacity(alloc, uses.len())?;

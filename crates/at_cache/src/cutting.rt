@@ -13,7 +13,7 @@ ghost use Rattle.at_cache.specs.Standings.{IsTaken, is_shown, standing_of};
 
 use crate::cut::{Cut, Pass};
 use crate::edge::{Edge, Edges, Slot};
-use crate::forgetting::{begin, doom_listed, doom_row};
+use crate::forgetting::{doom_listed, doom_row};
 use crate::mark::Mark;
 use crate::marked::Marked;
 use crate::places::begin_named;
@@ -112,21 +112,9 @@ pub fn forget_all(cut: &mut Cut, first: Option<Slot>)
     }
 }
 
-/// What the pass takes away is taken from what reads a touched location, and where that are values from all that stands for one.
-pub fn take_away<F: Fn(Loc) -> bool>(cut: &mut Cut, pass: Pass, readers: &AllReaders, touched: &F)
-    requires callable { F.IsAlwaysCallable touched.now }
-    requires idle { IsIdle (memory_of cut.old.entries) }
-    ensures takes { TakesAway pass (Answers (F.post touched.now)) (edges_to readers.now) cut.old.standings.items (memory_of cut.old.entries)
-        cut.new.standings.items (memory_of cut.new.entries) }
-    ensures len { table_len cut.new.entries ≡ table_len cut.old.entries }
-{
-    cut.pass = pass;
-    let first = begin(cut, readers, touched);
-    forget_all(cut, first);
-}
-
-/// The same, where the places name all that is touched. The nodes are those of which an entry read the index.
-pub fn take_away_at<F: Fn(Loc) -> bool>(
+/// What the pass takes away is taken from what reads a touched location, and where that are values from all that stands for one. The places
+/// name all that is touched; the nodes are those of which an entry read the index.
+pub fn take_away<F: Fn(Loc) -> bool>(
     cut: &mut Cut,
     pass: Pass,
     readers: &AllReaders,

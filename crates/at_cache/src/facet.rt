@@ -6,7 +6,6 @@ ghost use Rattle.at_store.specs.Located.{loc_view};
 ghost use Rattle.at_cache.specs.declared.facet.Facet.TheVariants as facet;
 ghost use Rattle.at_cache.specs.Kept.{Answers, node_at, same_location};
 ghost use Rattle.at_cache.specs.Readers.{is_of_index, number_of, stands_for};
-ghost use Rattle.at_cache.specs.Stored.{width};
 
 use crate::edge::Edges;
 use at_store::{Loc, Node};
@@ -110,18 +109,6 @@ impl Facet {
         match (self, other) {
             (Facet::Near(some), Facet::Near(more)) => Some(Facet::Near(some | more)),
             _ => None,
-        }
-    }
-
-    /// How many locations it stands for.
-    pub fn width(self) -> usize
-        ensures { result ≡ width self }
-    {
-        match self {
-            Facet::Near(set) => set.count_ones() as usize,
-            Facet::Tok(_) => 1,
-            Facet::Slot(_) => 1,
-            Facet::Idx => 1,
         }
     }
 

@@ -8,9 +8,9 @@ ghost use Rattle.std.specs.List.{list_any};
 ghost use Rattle.slab.specs.Slab.{get};
 ghost use Rattle.at_cache.specs.Asking.{AreNoted};
 ghost use Rattle.at_cache.specs.Finding.{edges_to};
-ghost use Rattle.at_cache.specs.Folding.{AreOrdered, AreTaken, LeavesKept, slots_at};
+ghost use Rattle.at_cache.specs.Folding.{AreOrdered, AreTaken, slots_at};
 ghost use Rattle.at_cache.specs.Info.{memory_of};
-ghost use Rattle.at_cache.specs.Recorded.{IsIndexed, kept_in};
+ghost use Rattle.at_cache.specs.Recorded.{IsIndexed};
 ghost use Rattle.at_cache.specs.Shedding.{AreHeld, FoldsHeld};
 ghost use Rattle.at_cache.specs.Standings.{held};
 ghost use Rattle.at_cache.specs.declared.standing.Standing.{Standing};
@@ -97,10 +97,6 @@ pub fn fold(
     readers: &mut AllReaders,
     plan: &[Links],
 ) -> Result<(), AllocError>
-    ensures indexed { (puts : ℕ) → IsIndexed (edges_to readers.old) puts (memory_of entries.old)
-        → OnOk result (IsIndexed (edges_to readers.new) puts (memory_of entries.new)) }
-    ensures kept { (puts : ℕ) → IsIndexed (edges_to readers.old) puts (memory_of entries.old)
-        → OnOk result (LeavesKept (kept_in (edges_to readers.old) entries.old puts) (kept_in (edges_to readers.new) entries.new puts)) }
     ensures held { (standings : List Standing) (puts : ℕ) → AreHeld standings (memory_of entries.old)
         → IsIndexed (edges_to readers.old) puts (held standings (memory_of entries.old))
         → OnOk result (FoldsHeld standings puts (edges_to readers.old) entries.old (edges_to readers.new) entries.new) }

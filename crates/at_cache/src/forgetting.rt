@@ -1,18 +1,17 @@
-//! What stands for a touched location is taken out.
+//! A flush marks what reads a touched location.
 
-ghost use Rattle.std.specs.Prelude.{◌≡◌, ◌<◌, ◌≤◌, ◌⊎◌, ◌++◌, ◌^◌, ℕ, List, [], Option, None, Some, MatchBool, length, true, false};
+ghost use Rattle.std.specs.Prelude.{◌≡◌, ◌≤◌, ◌++◌, ◌^◌, ℕ, List, [], MatchBool, length, true, false};
 ghost use Rattle.at_model.specs.Run.{Location};
 ghost use Rattle.at_cache.specs.declared.edge.Edge.{Edge};
 ghost use Rattle.at_cache.specs.Edges.{edges_in};
 ghost use Rattle.at_cache.specs.Rows.{edges_along, edges_of};
-ghost use Rattle.at_cache.specs.Info.{Memory, memory_of, table_len};
-ghost use Rattle.at_cache.specs.Flushing.{Begins, IsIdle, Work, dooms, first_after};
+ghost use Rattle.at_cache.specs.Info.{Memory};
+ghost use Rattle.at_cache.specs.Flushing.{Work, dooms, first_after};
 ghost use Rattle.at_cache.specs.Asking.{GoesOn, looks_at, sees};
 ghost use Rattle.at_cache.specs.Readers.{edges_among, edges_at, stands_for};
 ghost use Rattle.at_cache.specs.Finding.{edges_to};
 ghost use Rattle.at_cache.specs.Runs.{edges_on, edges_over, edges_past};
-ghost use Rattle.at_cache.specs.Recorded.{IsIndexed, kept_in};
-ghost use Rattle.at_cache.specs.Kept.{Answers, LeavesUntouched, LosesTouched};
+ghost use Rattle.at_cache.specs.Kept.{Answers};
 
 use crate::edge::{Edge, Edges, Slot};
 use crate::facet::{Facet, Facets, Readers};
@@ -21,7 +20,6 @@ use crate::row::Row;
 use crate::run::{AllReaders, Reach, Run, Seat};
 use crate::scope::Scope;
 use crate::seating::seat_of;
-use crate::table::Table;
 use at_store::{Loc, Node};
 
 // The entry that the edge tells of, if it is there, goes too: the first one that goes from now on.
@@ -220,67 +218,4 @@ pub fn count_of(readers: &AllReaders) -> usize
 {
     let (own, seats) = (readers.own.len(), readers.seats.len());
     if own < seats { seats } else { own }
-}
-
-/// What reads a touched location goes: the first one that goes.
-pub fn begin<W: Marked, F: Fn(Loc) -> bool>(
-    entries: &mut W,
-    readers: &AllReaders,
-    touched: &F,
-) -> Option<Slot>
-    requires { F.IsAlwaysCallable touched.now }
-    ensures works { IsIdle (W.memory entries.old) → (start : List Edge) × Work (W.memory entries.old) start [] result (W.memory entries.new)
-        × Begins (Answers (F.post touched.now)) (edges_to readers.now) start }
-    ensures aside { W.aside entries.new ≡ W.aside entries.old }
-{
-    let mut first = None;
-    for number in 0..count_of(readers) {
-        first = begin_node(
-            entries,
-            first,
-            readers,
-            Node::new(number as u32),
-            Scope::All,
-            touched,
-        );
-    }
-    first
-}
-
-// The first entry that goes is taken out, and those that used it go, too.
-fn forget(entries: &mut Table, slot: Slot) -> Option<Slot>
-    ensures works { (old : Memory) (start : List Edge) → Work old start [] (Some slot) (memory_of entries.old)
-        → Work old start [] result (memory_of entries.new) }
-    ensures fewer { (table_len entries.new < table_len entries.old) ⊎ ((result ≡ None) × (table_len entries.new ≡ table_len entries.old)) }
-{
-    match entries.remove(slot) {
-        Some(entry) => doom_listed(entries, entry.mark.next(), &entry.users),
-        None => None,
-    }
-}
-
-/// All that go are taken out.
-pub fn forget_all(entries: &mut Table, first: Option<Slot>)
-    ensures works { (old : Memory) (start : List Edge) → Work old start [] first (memory_of entries.old) → Work old start [] None (memory_of entries.new) }
-    ensures fewer { table_len entries.new ≤ table_len entries.old }
-{
-    let mut first = first;
-    while let Some(slot) = first {
-        first = forget(entries, slot);
-    }
-}
-
-/// All that stands for a touched location is taken out.
-pub fn take_out<F: Fn(Loc) -> bool>(entries: &mut Table, readers: &AllReaders, touched: &F)
-    requires callable { F.IsAlwaysCallable touched.now }
-    ensures indexed { (puts : ℕ) → IsIndexed (edges_to readers.now) puts (memory_of entries.old)
-        → IsIndexed (edges_to readers.now) puts (memory_of entries.new) }
-    ensures leaves { (puts : ℕ) → IsIndexed (edges_to readers.now) puts (memory_of entries.old)
-        → LeavesUntouched (Answers (F.post touched.now)) (kept_in (edges_to readers.now) entries.old puts) (kept_in (edges_to readers.now) entries.new puts) }
-    ensures loses { (puts : ℕ) → IsIndexed (edges_to readers.now) puts (memory_of entries.old)
-        → LosesTouched (Answers (F.post touched.now)) (kept_in (edges_to readers.now) entries.old puts) (kept_in (edges_to readers.now) entries.new puts) }
-    ensures fewer { table_len entries.new ≤ table_len entries.old }
-{
-    let first = begin(entries, readers, touched);
-    forget_all(entries, first);
 }

@@ -3,7 +3,7 @@
 ghost use Rattle.std.proofs.Common.{refl};
 ghost use Rattle.std.specs.Prelude.{true};
 
-use crate::keeper::{Keeper, Order, Put};
+use crate::keeper::{Keeper, Order};
 use at_body::{Inst, Value};
 use at_store::{Loc, Places};
 use std::alloc::AllocError;
@@ -18,11 +18,11 @@ pub struct KeepInTurns<K> {
 impl<K: Keeper> Keeper for KeepInTurns<K> {
     ghost contents = { λ k. K.contents k.keeper };
 
-    ghost exact = { K.exact };
-
     ghost memories = { λ k. record (K.memories k.keeper) { in_turns = true } };
 
     ghost crowded = { λ k. K.crowded k.keeper };
+
+    ghost count = { λ k. K.count k.keeper };
 
     ghost always_in_turns = { λ k l. refl };
 
@@ -43,7 +43,7 @@ impl<K: Keeper> Keeper for KeepInTurns<K> {
         reads: &[Loc],
         uses: &[Inst],
         order: Order,
-    ) -> Result<Put, AllocError> {
+    ) -> Result<(), AllocError> {
         self.keeper.put(inst, value, reads, uses, order)
     }
 
@@ -59,19 +59,15 @@ impl<K: Keeper> Keeper for KeepInTurns<K> {
         self.keeper.blocker(inst)
     }
 
-    fn is_tracing(&self) -> bool {
-        self.keeper.is_tracing()
-    }
-
     fn keeps_in_turns(&self) -> bool {
         true
     }
 
-    fn flush<F: Fn(Loc) -> bool>(&mut self, touched: &F) {
-        self.keeper.flush(touched);
+    fn flush<F: Fn(Loc) -> bool>(&mut self, places: &Places<'_>, touched: &F) {
+        self.keeper.flush(places, touched);
     }
 
-    fn flush_at<F: Fn(Loc) -> bool>(&mut self, places: &Places<'_>, touched: &F) {
-        self.keeper.flush_at(places, touched);
+    fn fit(&mut self, most: usize) {
+        self.keeper.fit(most);
     }
 }

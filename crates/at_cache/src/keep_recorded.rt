@@ -1,43 +1,69 @@
-//! The keeper that forgets at an edit what the edit touches.
+//! What is kept until an edit is known to have changed it.
 
 ghost use Rattle.std.proofs.Common.{refl};
-ghost use Rattle.std.specs.Prelude.{◌≡◌, ◌≤◌, ◌-◌, ◌^◌, min, IfOk, None, false, true};
+ghost use Rattle.std.specs.Prelude.{◌≡◌, ◌≤◌, ◌-◌, ◌^◌, IfOk, IfSome, None, OnOk, false, min};
 ghost use Rattle.at_cache.specs.Asking.{AreNoted};
-ghost use Rattle.at_cache.specs.Folding.{LeavesKept};
 ghost use Rattle.at_cache.specs.Info.{memory_of, table_len};
-ghost use Rattle.at_cache.specs.Kept.{Answers, AreNamed, KeepsAll, LeavesUntouched, LosesTouched, value_at};
+ghost use Rattle.at_cache.specs.Kept.{Answers, AreNamed, KeepsAll, LeavesUntouched, LosesTouched};
 ghost use Rattle.at_cache.specs.Finding.{edges_to};
-ghost use Rattle.at_cache.specs.Recorded.{IsIndexed, kept_in};
-ghost use Rattle.at_cache.specs.Stored.{reads_held};
+ghost use Rattle.at_cache.specs.Recorded.{IsIndexed};
+ghost use Rattle.at_cache.specs.Shedding.{AreHeld, Shrinks, is_crowded, kept_cut, most_beside as most, remembered_cut};
+ghost use Rattle.at_cache.specs.Marking.{seen_among};
+ghost use Rattle.at_cache.specs.declared.cut.Pass.TheVariants as pass_code;
+ghost use Rattle.at_cache.specs.Standings.{AreValued, IsTied, held, kept_held, last_is, remembered};
+ghost use Rattle.at_cache.specs.Theirs.{HasSlot};
+ghost use Rattle.at_cache.specs.Traced.{FlushesTraces, SparesAtEdit, StayTraced, TracesKept, TracesNothing};
 
+use crate::again::slot_by;
+use crate::blocking::blocking;
 use crate::choosing::choose;
+use crate::cut::{Cut, Pass};
+use crate::cutting::take_away;
+use crate::edge::{Edge, Slot};
 use crate::entry::Links;
+use crate::facet::small;
 use crate::folding::fold;
-use crate::forgetting::take_out;
-use crate::keeper::{Keeper, Order, Put};
-use crate::places::take_out_at;
-use crate::putting::enter_with;
+use crate::keeper::{Keeper, Order};
+use crate::likely::Likely;
+use crate::renewing::{enter_held, outdate, slot_for};
 use crate::run::AllReaders;
-use crate::stored::reads_held;
+use crate::settling::{Counts, LEVELS, settle_at};
+use crate::shedding::{lose_traces, shed};
+use crate::standing::{Standing, standing_at};
 use crate::table::Table;
 use at_body::{Inst, Value};
 use at_store::{Loc, Node, Places};
 use indexmap::IndexMap;
 use slab::Slab;
 use std::alloc::{AllocError, Global};
+use std::mem;
 
-/// Keeps each value with links to the entries that it used, and finds from a location the entries that read it, and from an entry those
-/// that used it.
+/// Keeps each value with what was looked at and taken for it. What an edit takes from it stays in memory with its value; it is kept again
+/// without any evaluation once all that it used is, where it looked itself at nothing that was touched, and nothing that it used was put with
+/// another value since. What isn't kept leaves memory where an edit finds much more in it than is kept, and where there is a bound.
 pub struct KeepRecorded {
     alloc: Global,
-    entries: Table,
+    cut: Cut,
     readers: AllReaders,
     // The nodes of which the index was ever read.
     index_read: Vec<Node>,
-    // How often `put` was called.
+    // How many numbers were given: by `put` one, or two where the instance has an entry, and one where an entry was kept again.
     puts: u64,
-    ghost indexed: { IsIndexed (edges_to readers) puts (memory_of entries) },
+    likely: Likely,
+    // Whether there may be something to be kept again: not before the first edit, unless memory was wanting.
+    doubtful: bool,
+    // Up to how many entries in memory an edit doesn't look how many of them are kept.
+    limit: usize,
+    // How many numbers were given at the last edit.
+    since: u64,
+    // The last limit on what was folded into one.
+    folds: u32,
+    ghost indexed: { IsIndexed (edges_to readers) puts (held cut.standings.items (memory_of cut.entries)) },
+    ghost tied: { IsTied (edges_to readers) puts (memory_of cut.entries) },
+    ghost valued: { AreValued cut.standings.items (memory_of cut.entries) },
     ghost noted: { AreNoted (edges_to readers) index_read.items },
+    ghost sure: { doubtful ≡ false → TracesKept (kept_held (edges_to readers) cut.entries cut.standings.items puts)
+        (remembered (edges_to readers) cut.entries cut.standings.items) },
 }
 
 /// One call, where each exit that lets it go would else have a case for each field.
@@ -45,162 +71,203 @@ impl Drop for KeepRecorded {
     fn drop(self) {
         let KeepRecorded {
             alloc: _,
-            entries: _,
+            cut: _,
             readers: _,
             index_read: _,
             puts: _,
+            likely: _,
+            doubtful: _,
+            limit: _,
+            since: _,
+            folds: _,
         } = self;
     }
 }
+
+// How many entries are in memory at least before an edit lets go of some.
+const FEW: usize = 64;
 
 impl KeepRecorded {
     /// A keeper that keeps nothing yet.
     pub fn new(alloc: Global) -> KeepRecorded
-        ensures { KeepsAll (λ _. None) (kept_in (edges_to result.readers) result.entries result.puts) }
-    {
-        KeepRecorded::empty(alloc)
-    }
-
-    /// A keeper with no entries.
-    pub fn empty(alloc: Global) -> KeepRecorded
-        ensures nothing { KeepsAll (λ _. None) (kept_in (edges_to result.readers) result.entries result.puts) }
-        ensures len { table_len result.entries ≡ 0 }
+        ensures nothing { KeepsAll (λ _. None) (kept_held (edges_to result.readers) result.cut.entries result.cut.standings.items result.puts) }
+        ensures traces { TracesNothing (remembered (edges_to result.readers) result.cut.entries result.cut.standings.items) }
+        ensures len { table_len result.cut.entries ≡ 0 }
     {
         KeepRecorded {
             alloc,
-            entries: Table {
-                entries: IndexMap::new(alloc),
-                places: Slab::new(alloc),
-                attributes: Vec::new(alloc),
+            cut: Cut {
+                entries: Table {
+                    entries: IndexMap::new(alloc),
+                    places: Slab::new(alloc),
+                    attributes: Vec::new(alloc),
+                },
+                standings: Vec::new(alloc),
+                pass: Pass::Values,
             },
             readers: AllReaders::new(alloc),
             index_read: Vec::new(alloc),
             puts: 0,
+            likely: Likely::new(alloc),
+            doubtful: false,
+            limit: FEW,
+            since: 0,
+            folds: 0,
         }
     }
 
-    /// How many entries are kept.
-    pub fn len(&self) -> usize
-        ensures { result ≡ table_len self.now.entries }
+    // Where the entry of the instance is, if it has one.
+    fn slot_of(&self, inst: &Inst) -> Option<Slot>
+        ensures { IfSome result (HasSlot self.now.cut.entries inst.now) }
     {
-        self.entries.entries.len()
+        slot_by(&self.cut.entries, inst, self.likely.place_of(inst))
     }
 
-    /// How many numbers were given.
-    pub fn puts(&self) -> u64 {
-        self.puts
+    // The same with no more in memory than what is kept; and where that is hardly fewer than so many, with entries folded into those that used
+    // them, so that about three quarters of that number are left, or fewer, of which none is traced. What nothing uses goes whole, where it
+    // came to be kept before the last edit. An error where memory is wanting.
+    fn shrunk(self, most: usize) -> Result<KeepRecorded, AllocError>
+        ensures { IfOk result (λ k. Shrinks (edges_to self.readers) self.cut self.puts (edges_to k.readers) k.cut k.puts) }
+    {
+        let mut keeper = self;
+        keeper.shed()?;
+        if keeper.len() <= most - most / 16 {
+            return Ok(keeper);
+        }
+        keeper.folded(most - most / 4)
     }
 
-    /// The same with entries folded into those that used them, so that about so many are left, or fewer; with the limit on what is folded into
-    /// one. That is to be the last one. What nothing uses goes whole, where it was put before that number. An error where memory is wanting.
-    pub fn folded(
-        self,
-        target: usize,
-        since: u64,
-        limit: u32,
-    ) -> Result<(KeepRecorded, u32), AllocError>
-        ensures { IfOk result (λ r. LeavesKept (kept_in (edges_to self.readers) self.entries self.puts)
-            (kept_in (edges_to r.0.readers) r.0.entries r.0.puts)) }
+    // What isn't kept leaves memory. An error where there are too many slots, and then all stays.
+    fn shed(&mut self) -> Result<(), AllocError>
+        ensures held { OnOk result (AreHeld self.new.cut.standings.items (memory_of self.new.cut.entries)) }
+        ensures kept { KeepsAll (kept_cut (edges_to self.old.readers) self.old.cut self.old.puts)
+            (kept_cut (edges_to self.new.readers) self.new.cut self.new.puts) }
+        ensures stay { StayTraced (remembered_cut (edges_to self.old.readers) self.old.cut) (remembered_cut (edges_to self.new.readers) self.new.cut) }
+        ensures fewer { table_len self.new.cut.entries ≤ table_len self.old.cut.entries }
     {
-        let (plan, limit) = choose(
+        let count = small(self.cut.entries.places.capacity())?;
+        self.doubtful = true;
+        shed(&mut self.cut.entries, self.cut.standings.as_slice(), count);
+        Ok(())
+    }
+
+    // Where much more is in memory than is kept, all that isn't kept leaves it.
+    fn let_go(&mut self)
+        ensures kept { KeepsAll (kept_cut (edges_to self.old.readers) self.old.cut self.old.puts)
+            (kept_cut (edges_to self.new.readers) self.new.cut self.new.puts) }
+        ensures stay { StayTraced (remembered_cut (edges_to self.old.readers) self.old.cut) (remembered_cut (edges_to self.new.readers) self.new.cut) }
+        ensures spares { is_crowded self.old.cut ≡ false → remembered_cut (edges_to self.new.readers) self.new.cut
+            ≡ remembered_cut (edges_to self.old.readers) self.old.cut }
+        ensures fewer { table_len self.new.cut.entries ≤ table_len self.old.cut.entries }
+    {
+        if self.len() <= self.limit {
+            return;
+        }
+        let kept = kept_among(self.cut.standings.as_slice());
+        self.limit = most_beside(kept);
+        if self.len() > self.limit {
+            let _ = self.shed();
+        }
+    }
+
+    // The same with entries folded into those that used them, all of which are kept. None is traced.
+    fn folded(self, target: usize) -> Result<KeepRecorded, AllocError>
+        requires { AreHeld self.cut.standings.items (memory_of self.cut.entries) }
+        ensures { IfOk result (λ k. Shrinks (edges_to self.readers) self.cut self.puts (edges_to k.readers) k.cut k.puts) }
+    {
+        let (plan, folds) = choose(
             self.alloc,
-            &self.entries,
-            &[],
+            &self.cut.entries,
+            self.cut.standings.as_slice(),
             &self.readers,
             target,
-            since,
-            limit,
+            self.since,
+            self.folds,
         )?;
-        let keeper = self.folded_by(plan.as_slice())?;
-        Ok((keeper, limit))
+        self.folded_by(plan.as_slice(), folds)
     }
 
     // The same folded by that plan.
-    fn folded_by(self, plan: &[Links]) -> Result<KeepRecorded, AllocError>
-        ensures { IfOk result (λ k. LeavesKept (kept_in (edges_to self.readers) self.entries self.puts)
-            (kept_in (edges_to k.readers) k.entries k.puts)) }
+    fn folded_by(self, plan: &[Links], folds: u32) -> Result<KeepRecorded, AllocError>
+        requires { AreHeld self.cut.standings.items (memory_of self.cut.entries) }
+        ensures { IfOk result (λ k. Shrinks (edges_to self.readers) self.cut self.puts (edges_to k.readers) k.cut k.puts) }
     {
         let KeepRecorded {
             alloc,
-            mut entries,
+            mut cut,
             mut readers,
             index_read,
             puts,
+            likely,
+            doubtful: _,
+            limit,
+            since,
+            folds: _,
         } = self;
-        fold(alloc, &mut entries, &mut readers, plan)?;
+        fold(alloc, &mut cut.entries, &mut readers, plan)?;
+        lose_traces(&mut cut.standings)?;
         Ok(KeepRecorded {
             alloc,
-            entries,
+            cut,
             readers,
             index_read,
             puts,
+            likely,
+            doubtful: true,
+            limit,
+            since,
+            folds,
         })
     }
 
-    /// As `flush`: no more entries are left than there were.
-    pub fn forget<F: Fn(Loc) -> bool>(&mut self, touched: &F)
-        requires { F.IsAlwaysCallable touched.now }
-        ensures leaves { LeavesUntouched (Answers (F.post touched.now)) (kept_in (edges_to self.old.readers) self.old.entries self.old.puts)
-            (kept_in (edges_to self.new.readers) self.new.entries self.new.puts) }
-        ensures loses { LosesTouched (Answers (F.post touched.now)) (kept_in (edges_to self.old.readers) self.old.entries self.old.puts)
-            (kept_in (edges_to self.new.readers) self.new.entries self.new.puts) }
-        ensures fewer { table_len self.new.entries ≤ table_len self.old.entries }
+    /// How many entries are in memory, kept or not.
+    pub fn len(&self) -> usize
+        ensures { result ≡ table_len self.now.cut.entries }
     {
-        take_out(&mut self.entries, &self.readers, touched);
-    }
-
-    /// As `flush_at`: no more entries are left than there were.
-    pub fn forget_at<F: Fn(Loc) -> bool>(&mut self, places: &Places<'_>, touched: &F)
-        requires callable { F.IsAlwaysCallable touched.now }
-        requires named { AreNamed places.now (F.post touched.now) }
-        ensures leaves { LeavesUntouched (Answers (F.post touched.now)) (kept_in (edges_to self.old.readers) self.old.entries self.old.puts)
-            (kept_in (edges_to self.new.readers) self.new.entries self.new.puts) }
-        ensures loses { LosesTouched (Answers (F.post touched.now)) (kept_in (edges_to self.old.readers) self.old.entries self.old.puts)
-            (kept_in (edges_to self.new.readers) self.new.entries self.new.puts) }
-        ensures fewer { table_len self.new.entries ≤ table_len self.old.entries }
-    {
-        let before = self.entries.entries.len();
-        take_out_at(
-            &mut self.entries,
-            &self.readers,
-            self.index_read.as_slice(),
-            places,
-            touched,
-        );
-        self.entries.order_slots(before);
-    }
-
-    /// How many direct reads the entries have, each location as often as an edge tells of it: of an entry once, however
-    /// often it was put, but once for each of the entry's folds that go over it, and once for each set of a node's locations
-    /// in which it is, where the entry read several; or the greatest `usize` if they are more. It goes over all that was ever
-    /// read.
-    pub fn stored(&self) -> usize
-        ensures { result ≡ min (reads_held (memory_of self.now.entries) self.now.readers) (2 ^ 64 - 1) }
-    {
-        reads_held(&self.entries, &self.readers)
+        self.cut.entries.entries.len()
     }
 }
 
+// How many entries may be in memory where so many are kept.
+fn most_beside(kept: usize) -> usize
+    ensures { result ≡ min (most kept) (2 ^ 64 - 1) }
+{
+    kept.saturating_add(kept / 8).saturating_add(FEW)
+}
+
+// How many entries are kept.
+fn kept_among(standings: &[Standing]) -> usize
+    ensures { result ≡ seen_among pass_code.Values standings.now }
+{
+    let mut kept = 0_usize;
+    for standing in standings {
+        if standing.holds {
+            kept += 1;
+        }
+    }
+    kept
+}
+
 impl Keeper for KeepRecorded {
-    ghost contents = { λ k. kept_in (edges_to k.readers) k.entries k.puts };
+    ghost contents = { λ k. kept_held (edges_to k.readers) k.cut.entries k.cut.standings.items k.puts };
 
-    ghost exact = { true };
+    ghost memories = { λ k. remembered (edges_to k.readers) k.cut.entries k.cut.standings.items };
 
-    ghost memories = { λ k. record { traced = λ _. None; last = λ i. value_at (kept_in (edges_to k.readers) k.entries k.puts i); in_turns = false } };
+    ghost crowded = { λ k. is_crowded k.cut };
 
-    ghost crowded = { λ _. false };
+    ghost count = { λ k. table_len k.cut.entries };
 
     ghost always_in_turns = { λ k l. refl };
 
-    ghost kept_last = { λ k i v kept. kept };
+    ghost kept_last = { λ k i v kept. last_is (edges_to k.readers) k.cut.entries k.cut.standings.items k.puts i v kept };
 
     fn get(&self, inst: &Inst) -> Option<&Value> {
-        let entry = self.entries.get(inst)?;
+        let entry = self.cut.held(inst, self.likely.place_of(inst))?;
         entry.value.as_ref()
     }
 
     fn stands(&self, inst: &Inst) -> bool {
-        self.entries.get(inst).is_some()
+        self.cut.is_held(inst, self.likely.place_of(inst))
     }
 
     fn put(
@@ -209,51 +276,135 @@ impl Keeper for KeepRecorded {
         value: Option<Value>,
         reads: &[Loc],
         uses: &[Inst],
-        _order: Order,
-    ) -> Result<Put, AllocError> {
+        order: Order,
+    ) -> Result<(), AllocError> {
+        let place = self.likely.place_of(&inst);
+        let slot = slot_for(&self.cut.entries, &inst, place)?;
+        self.likely.note(&inst, slot);
+        // Where memory is wanting on the way, that isn't sure any more.
+        let doubtful = self.doubtful;
+        self.doubtful = true;
+        let known = outdate(self.alloc, &mut self.cut, &mut self.puts, slot);
         let stamp = self.puts;
         if stamp == u64::MAX {
             return Err(AllocError);
         }
         self.puts = stamp + 1;
-        enter_with(
+        enter_held(
             self.alloc,
-            &mut self.entries,
+            &mut self.cut,
             &mut self.readers,
             &mut self.index_read,
-            stamp,
+            Edge { slot, stamp },
+            &self.likely,
+            &known,
             inst,
             value,
             reads,
             uses,
-        )
+            order,
+        )?;
+        self.doubtful = doubtful;
+        Ok(())
     }
 
-    fn has_trace(&self, _inst: &Inst) -> bool {
-        false
+    fn has_trace(&self, inst: &Inst) -> bool {
+        if !self.doubtful {
+            return false;
+        }
+        self.cut.has_trace(inst, self.likely.place_of(inst))
     }
 
-    fn settle(&mut self, _inst: &Inst, work: u64) -> u64 {
-        work
+    fn settle(&mut self, inst: &Inst, work: u64) -> u64 {
+        if !self.doubtful {
+            return work;
+        }
+        let Some(slot) = self.slot_of(inst) else {
+            return work;
+        };
+        self.likely.note(inst, slot);
+        if !standing_at(self.cut.standings.as_slice(), slot).traced {
+            return work;
+        }
+        let mut counts = Counts {
+            puts: self.puts,
+            work,
+        };
+        settle_at(
+            &self.cut.entries,
+            &mut self.cut.standings,
+            &mut counts,
+            slot,
+            LEVELS,
+        );
+        self.puts = counts.puts;
+        counts.work
     }
 
-    fn blocker(&self, _inst: &Inst) -> Option<&Inst> {
-        None
-    }
-
-    fn is_tracing(&self) -> bool {
-        false
+    fn blocker(&self, inst: &Inst) -> Option<&Inst> {
+        if !self.doubtful {
+            return None;
+        }
+        let asked = self.slot_of(inst)?;
+        let slot = blocking(&self.cut.entries, self.cut.standings.as_slice(), asked);
+        if slot == asked {
+            return None;
+        }
+        let (instance, _) = self.cut.entries.pair(slot)?;
+        Some(instance)
     }
 
     fn keeps_in_turns(&self) -> bool {
         false
     }
 
-    fn flush<F: Fn(Loc) -> bool>(&mut self, touched: &F) {
-        self.forget(touched);
+    fn flush<F: Fn(Loc) -> bool>(&mut self, places: &Places<'_>, touched: &F)
+        requires callable { F.IsAlwaysCallable touched.now }
+        requires named { AreNamed places.now (F.post touched.now) }
+        ensures leaves { LeavesUntouched (Answers (F.post touched.now)) (kept_cut (edges_to self.old.readers) self.old.cut self.old.puts)
+            (kept_cut (edges_to self.new.readers) self.new.cut self.new.puts) }
+        ensures loses { LosesTouched (Answers (F.post touched.now)) (kept_cut (edges_to self.old.readers) self.old.cut self.old.puts)
+            (kept_cut (edges_to self.new.readers) self.new.cut self.new.puts) }
+        ensures traces { FlushesTraces (Answers (F.post touched.now)) (remembered_cut (edges_to self.old.readers) self.old.cut)
+            (remembered_cut (edges_to self.new.readers) self.new.cut) }
+        ensures spares { SparesAtEdit (Answers (F.post touched.now)) (is_crowded self.old.cut) (remembered_cut (edges_to self.old.readers) self.old.cut)
+            (remembered_cut (edges_to self.new.readers) self.new.cut) }
+        ensures fewer { table_len self.new.cut.entries ≤ table_len self.old.cut.entries }
+    {
+        self.let_go();
+        self.since = self.puts;
+        self.doubtful = true;
+        let readers = &self.readers;
+        let index_read = self.index_read.as_slice();
+        take_away(
+            &mut self.cut,
+            Pass::Traces,
+            readers,
+            index_read,
+            places,
+            touched,
+        );
+        take_away(
+            &mut self.cut,
+            Pass::Values,
+            readers,
+            index_read,
+            places,
+            touched,
+        );
     }
 
-    fn flush_at<F: Fn(Loc) -> bool>(&mut self, places: &Places<'_>, touched: &F) {
-        self.forget_at(places, touched);
+    fn fit(&mut self, most: usize) {
+        if self.len() <= most {
+            return;
+        }
+        let keeper = mem::replace(self, KeepRecorded::new(self.alloc));
+        let Ok(keeper) = keeper.shrunk(most) else {
+            return;
+        };
+        if keeper.len() > most {
+            return;
+        }
+        *self = keeper;
     }
 }

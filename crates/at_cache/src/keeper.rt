@@ -1,25 +1,16 @@
 //! What every keeper does.
 
-ghost use Rattle.std.specs.Prelude.{◌≡◌, ◌+◌, ◌-◌, ◌^◌, ℕ, Option, None, Some, Bool, IsTrue, IfOk, IfSome, OnErr, false, is_some, map, min};
+ghost use Rattle.std.specs.Prelude.{◌≡◌, ◌≤◌, ◌+◌, ◌-◌, ◌^◌, ℕ, Option, None, Some, Bool, IfSome, OnErr, OnOk, false, is_some, map, min};
 ghost use Rattle.std.specs.Option.{option_map};
 ghost use Rattle.at_model.specs.Run.{Instance, Value};
 ghost use Rattle.at_body.specs.Values.{value_view};
 ghost use Rattle.at_store.specs.Located.{loc_view};
-ghost use Rattle.at_cache.specs.Kept.{AreNamed, Kept, KeepsAll, HasPut, AreKept, Answers, LeavesUntouched, LosesTouched, value_at};
+ghost use Rattle.at_cache.specs.Kept.{AreNamed, Kept, KeepsAll, Puts, AreKept, Answers, LeavesKept, LeavesUntouched, LosesTouched, value_at};
 ghost use Rattle.at_cache.specs.Traced.{AreAlike, FlushesTraces, IsNext, Memories, PutsTrace, Settled, SparesAtEdit, SparesOthers, StayTraced};
 
 use at_body::{Inst, Value};
 use at_store::{Loc, Places};
 use std::alloc::AllocError;
-
-/// What became of an entry that was put.
-#[derive(Clone, Copy, PartialEq, Eq, Debug)]
-pub enum Put {
-    /// It is there.
-    Kept,
-    /// It isn't, as a keeper that isn't exact may choose.
-    Left,
-}
 
 /// How the instances stand that an entry used.
 #[derive(Clone, Copy, PartialEq, Eq, Debug)]
@@ -36,14 +27,14 @@ pub trait Keeper: Drop {
     /// The entries, as a finite map.
     ghost contents: { Self → Instance ℕ → Option Kept };
 
-    /// Whether `put` adds at each Ok just the locations that it is told, and `flush` leaves each entry that isn't touched.
-    ghost exact: { Bool };
-
-    /// What it remembers beside them; most keepers trace nothing.
+    /// What it remembers beside them.
     ghost memories: { Self → Memories };
 
     /// Whether much more is in memory than is kept: then an edit may let go of what isn't.
     ghost crowded: { Self → Bool };
+
+    /// How many entries are in memory, kept or not.
+    ghost count: { Self → ℕ };
 
     /// Whether turns keep again what can be kept so is the same at any time.
     ghost always_in_turns: { (k l : Self) → (memories l).in_turns ≡ (memories k).in_turns };
@@ -60,7 +51,7 @@ pub trait Keeper: Drop {
         ensures { result ≡ is_some (contents self.now inst.now) };
 
     /// Makes the entry of an instance that has none, with its value where that is kept, for the locations in `reads` and those of the
-    /// entries of `uses`; or leaves all as it is. An error where memory is wanting: what is kept is then as it was. What used it can be kept
+    /// entries of `uses`. An error where memory is wanting: what is kept is then as it was. What used it can be kept
     /// again still where it has the value that it had. A trace of its own goes.
     fn put(
         &mut self,
@@ -69,10 +60,10 @@ pub trait Keeper: Drop {
         reads: &[Loc],
         uses: &[Inst],
         order: Order,
-    ) -> Result<Put, AllocError>
+    ) -> Result<(), AllocError>
         requires absent { contents self.old inst ≡ None }
         requires present { AreKept (contents self.old) uses.now }
-        ensures puts { IfOk result (HasPut exact (contents self.old) inst (option_map value_view value) (map loc_view reads.now) uses.now (contents self.new)) }
+        ensures puts { OnOk result (Puts (contents self.old) inst (option_map value_view value) (map loc_view reads.now) uses.now (contents self.new)) }
         ensures err { OnErr result (KeepsAll (contents self.old) (contents self.new)) }
         ensures traces { PutsTrace inst (option_map value_view value) (map loc_view reads.now) uses.now order (memories self.old) (memories self.new) }
         ensures spares { SparesOthers inst (contents self.new) (memories self.old) (memories self.new) };
@@ -84,7 +75,7 @@ pub trait Keeper: Drop {
     /// Keeps again what can be kept with no evaluation, of the instance, what it used, and so on, and counts it: how much work was done
     /// then, where so much was done before. It stays at the greatest number.
     fn settle(&mut self, inst: &Inst, work: u64) -> u64
-        ensures settled { (n : ℕ) × Settled exact (memories self.old) inst.now n (contents self.old) (contents self.new)
+        ensures settled { (n : ℕ) × Settled (memories self.old) inst.now n (contents self.old) (contents self.new)
             × (result ≡ min (work + n) (2 ^ 64 - 1)) }
         ensures stay { StayTraced (memories self.old) (memories self.new) }
         ensures alike { AreAlike (memories self.old) (memories self.new) };
@@ -94,27 +85,24 @@ pub trait Keeper: Drop {
     fn blocker(&self, inst: &Inst) -> Option<&Inst>
         ensures { IfSome result (λ b. IsNext (memories self.now) (contents self.now) inst.now b.now) };
 
-    /// Whether it traces what it is told in order. Nothing rests on it.
-    fn is_tracing(&self) -> bool;
-
     /// Whether turns of posted questions are to keep again what can be kept with no evaluation, too.
     fn keeps_in_turns(&self) -> bool
         ensures { result ≡ (memories self.now).in_turns };
 
-    /// Forgets each entry that stands for a touched location.
-    fn flush<F: Fn(Loc) -> bool>(&mut self, touched: &F)
-        requires { F.IsAlwaysCallable touched.now }
-        ensures leaves { LeavesUntouched (Answers (F.post touched.now)) (contents self.old) (contents self.new) }
-        ensures loses { IsTrue exact → LosesTouched (Answers (F.post touched.now)) (contents self.old) (contents self.new) }
-        ensures traces { FlushesTraces (Answers (F.post touched.now)) (memories self.old) (memories self.new) }
-        ensures spares { IsTrue exact → SparesAtEdit (Answers (F.post touched.now)) (crowded self.old) (memories self.old) (memories self.new) };
-
     /// Forgets each entry that stands for a touched location. The places name all that is touched.
-    fn flush_at<F: Fn(Loc) -> bool>(&mut self, places: &Places<'_>, touched: &F)
+    fn flush<F: Fn(Loc) -> bool>(&mut self, places: &Places<'_>, touched: &F)
         requires callable { F.IsAlwaysCallable touched.now }
         requires named { AreNamed places.now (F.post touched.now) }
         ensures leaves { LeavesUntouched (Answers (F.post touched.now)) (contents self.old) (contents self.new) }
-        ensures loses { IsTrue exact → LosesTouched (Answers (F.post touched.now)) (contents self.old) (contents self.new) }
+        ensures loses { LosesTouched (Answers (F.post touched.now)) (contents self.old) (contents self.new) }
         ensures traces { FlushesTraces (Answers (F.post touched.now)) (memories self.old) (memories self.new) }
-        ensures spares { IsTrue exact → SparesAtEdit (Answers (F.post touched.now)) (crowded self.old) (memories self.old) (memories self.new) };
+        ensures spares { SparesAtEdit (Answers (F.post touched.now)) (crowded self.old) (memories self.old) (memories self.new) };
+
+    /// Has no more than so many entries in memory, kept or not. Where there are more, those go first that aren't kept; of the others
+    /// those stay as they were that stay.
+    fn fit(&mut self, most: usize)
+        ensures kept { LeavesKept (contents self.old) (contents self.new) }
+        ensures stay { StayTraced (memories self.old) (memories self.new) }
+        ensures within { count self.old ≤ most → self.new ≡ self.old }
+        ensures few { count self.new ≤ most };
 }

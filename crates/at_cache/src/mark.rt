@@ -1,11 +1,11 @@
-//! Which entries a flush takes out.
+//! Which entries go in a flush.
 
 ghost use Rattle.std.specs.Prelude.{◌≡◌, true};
 ghost use Rattle.at_cache.specs.Info.{is_going, next_of};
 
 use crate::edge::Slot;
 
-/// Whether the flush under way takes an entry out, and which one it takes out next.
+/// Whether an entry goes in the flush under way, and which one goes next.
 #[derive(Clone, Copy)]
 pub enum Mark {
     /// It stays.

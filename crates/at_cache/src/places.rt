@@ -1,21 +1,18 @@
-//! What stands for a touched location is taken out, where places name all that is touched.
+//! A flush marks what reads a touched location, by places that name all that is touched.
 
-ghost use Rattle.std.specs.Prelude.{◌≡◌, ◌≤◌, ℕ, None};
+ghost use Rattle.std.specs.Prelude.{◌≡◌, None};
 ghost use Rattle.std.specs.List.{list_any};
 ghost use Rattle.at_model.specs.Touches.{node_of};
 ghost use Rattle.at_store.specs.Places.{is_index_among, is_node, named, names_around};
 ghost use Rattle.at_cache.specs.Asking.{AreNoted, GoesOn, sees};
-ghost use Rattle.at_cache.specs.Info.{memory_of, table_len};
-ghost use Rattle.at_cache.specs.Kept.{Answers, AreNamed, LeavesUntouched, LosesTouched};
+ghost use Rattle.at_cache.specs.Kept.{Answers};
 ghost use Rattle.at_cache.specs.Finding.{edges_to};
-ghost use Rattle.at_cache.specs.Recorded.{IsIndexed, kept_in};
 
 use crate::edge::Slot;
-use crate::forgetting::{begin_node, count_of, forget_all};
+use crate::forgetting::{begin_node, count_of};
 use crate::marked::Marked;
 use crate::run::AllReaders;
 use crate::scope::Scope;
-use crate::table::Table;
 use at_store::{Changing, Loc, Node, Places};
 
 // So does what reads one in that scope of any of the nodes.
@@ -127,28 +124,4 @@ pub fn begin_named<W: Marked, F: Fn(Loc) -> bool>(
     let moved = begin_moved(entries, left, readers, places.moved, touched);
     let come = begin_around(entries, moved, readers, index_read, &places.target, touched);
     begin_around(entries, come, readers, index_read, &places.source, touched)
-}
-
-/// All that stands for a touched location is taken out, where the places name all that is touched. The nodes are those of
-/// which an entry read the index.
-pub fn take_out_at<F: Fn(Loc) -> bool>(
-    entries: &mut Table,
-    readers: &AllReaders,
-    index_read: &[Node],
-    places: &Places<'_>,
-    touched: &F,
-)
-    requires callable { F.IsAlwaysCallable touched.now }
-    requires named { AreNamed places.now (F.post touched.now) }
-    requires noted { AreNoted (edges_to readers.now) index_read.now }
-    ensures indexed { (puts : ℕ) → IsIndexed (edges_to readers.now) puts (memory_of entries.old)
-        → IsIndexed (edges_to readers.now) puts (memory_of entries.new) }
-    ensures leaves { (puts : ℕ) → IsIndexed (edges_to readers.now) puts (memory_of entries.old)
-        → LeavesUntouched (Answers (F.post touched.now)) (kept_in (edges_to readers.now) entries.old puts) (kept_in (edges_to readers.now) entries.new puts) }
-    ensures loses { (puts : ℕ) → IsIndexed (edges_to readers.now) puts (memory_of entries.old)
-        → LosesTouched (Answers (F.post touched.now)) (kept_in (edges_to readers.now) entries.old puts) (kept_in (edges_to readers.now) entries.new puts) }
-    ensures fewer { table_len entries.new ≤ table_len entries.old }
-{
-    let first = begin_named(entries, readers, index_read, places, touched);
-    forget_all(entries, first);
 }

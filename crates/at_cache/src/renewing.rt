@@ -20,7 +20,7 @@ use crate::cut::{Cut, Pass};
 use crate::cutting::{doom_users, forget_all, take_from};
 use crate::edge::{Edge, Slot};
 use crate::entry::{Entry, Links};
-use crate::keeper::{Order, Put};
+use crate::keeper::Order;
 use crate::likely::Likely;
 use crate::linking::{add_readers, add_users};
 use crate::putting::fresh;
@@ -141,7 +141,7 @@ pub fn enter_held(
     reads: &[Loc],
     uses: &[Inst],
     order: Order,
-) -> Result<Put, AllocError>
+) -> Result<(), AllocError>
     requires awaited { IsAwaited (edges_to readers.old) cut.old.entries cut.old.standings.items edge.stamp inst edge.slot }
     requires present { AreKept (kept_cut (edges_to readers.old) cut.old edge.stamp) uses.now }
     ensures enters { EntersHeld inst (option_map value_view value) (map loc_view reads.now) uses.now order edge.stamp
@@ -159,5 +159,5 @@ pub fn enter_held(
     };
     put_in(cut, inst, fresh(value, links, edge))?;
     set_standing(&mut cut.standings, edge.slot, standing);
-    Ok(Put::Kept)
+    Ok(())
 }

@@ -30,9 +30,6 @@ use slab::Slab;
 use std::alloc::AllocError;
 use std::mem;
 
-// Slots are put in order where so large a part of the entries leaves: it goes over all of them.
-const PART: usize = 8;
-
 // The mark of the entry at that place.
 fn write_mark(entries: &mut IndexMap<Inst, Entry>, place: usize, mark: Mark)
     requires { place < index_map_len entries.old }
@@ -166,17 +163,6 @@ impl Table {
     {
         self.entries.shrink_to_fit();
         self.places.shrink_to_fit();
-    }
-
-    /// Where a part of the entries that there were has left, their slots are given to others from the lowest one on: what is evaluated
-    /// one after the other lies so, and rows of edges tell of it.
-    pub fn order_slots(&mut self, before: usize)
-        ensures entries { self.new.entries ≡ self.old.entries }
-        ensures same { (k : ℕ) → memory_of self.new k ≡ memory_of self.old k }
-    {
-        if self.entries.len() < before - before / PART {
-            self.places.shrink_to_fit();
-        }
     }
 
     /// The entry in the slot is put anew, and has the edges to those that used it before.

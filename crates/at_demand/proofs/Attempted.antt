@@ -88,7 +88,7 @@ whole_alone rules look found i f none (alone w) = w
 whole_alone rules look found i f none (in_group these c a w) = let c' = rw none at c in absurd (true≢false (sym c'))
 whole_alone rules look found i f none (by_first j c x l) = let c' = rw none at c in absurd (true≢false (sym c'))
 
--- what an exact keeper has stays spare, and what was found settled
+-- what is kept stays spare, and what was found settled
 module _ (rules : Rules) (look : Contents ℕ) (old new : Entries) (found : List (Instance ℕ × Find)) (i : Instance ℕ) (d : Find) (well : AreCircularLazy rules) (none : start_of rules i.attribute ≡ None) (grows : MayGain rules found old new i) (whole : AreWhole rules look found) (has : HasFound rules look old found i d)
     (settled : AreSettled rules old found) (spare : AreSpare rules look old) where
   took : (u : Instance ℕ) → Among u d.demanded.kept.items → IsSome (old u)

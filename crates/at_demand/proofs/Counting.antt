@@ -1,13 +1,11 @@
--- The work counts what comes to an exact keeper.
-use Rattle.std.proofs.Common.{◌≡◌, ◌⊎◌, ℕ, ◌+◌, ◌-◌, ◌^◌, ◌<◌, min, Bool, true, false, List, [], ◌∷◌, ◌++◌, length, length-append, Option, Some, None, inl, inr, refl, sym, ap, ◌∙◌, subst, arith, if◌then◌else◌, true≢false}
-use Rattle.std.specs.Prelude.{IsSome, IsTrue}
+-- The work counts what comes to be kept.
+use Rattle.std.proofs.Common.{◌≡◌, ◌⊎◌, ℕ, ◌+◌, ◌-◌, ◌^◌, ◌<◌, min, Bool, true, false, List, [], ◌∷◌, ◌++◌, length, length-append, Option, Some, None, inl, inr, refl, sym, ap, ◌∙◌, subst, arith, if◌then◌else◌}
+use Rattle.std.specs.Prelude.{IsSome}
 use Rattle.at_model.specs.Run.{Value, Instance, Location}
 use Rattle.at_model.specs.Meaning.{Among, Answer, Circle, Distinct, Outcomes}
 use Rattle.at_model.specs.of_fixpoints.Circles.{Answers}
 use Rattle.at_body.specs.Same.{same_instance}
-use Rattle.at_cache.specs.Kept.{Kept, Entries, KeepsAll, HasPut, value_at}
-use Rattle.at_cache.specs.declared.keeper.Put.{Put}
-use Rattle.at_cache.specs.declared.keeper.Put.TheVariants as put
+use Rattle.at_cache.specs.Kept.{Kept, Entries, KeepsAll, Puts, value_at}
 use Rattle.at_model.specs.Rules.{Rules}
 use Rattle.at_model.specs.Run.{Contents}
 use Rattle.at_demand.specs.Answered.{AddsMet, HasWorthyFor}
@@ -65,9 +63,8 @@ module _ (old new : Entries) where
       other j some true s e = absurd (not_none (old j) some (subst (λ x. old x ≡ None) (same_true i j s) absent))
       other j some false s e = e
 
-  pub counts_put : (exact : Bool) (i : Instance ℕ) (v : Value ℕ) (reads : List (Location ℕ)) (uses : List (Instance ℕ)) (w x : ℕ) → IsTrue exact → old i ≡ None → (p : Put) → HasPut exact old i (Some v) reads uses new p → x ≡ min (w + 1) (2 ^ 64 - 1) → Counts old new w x
-  counts_put exact i v reads uses w x is absent put.Kept p more = (i ∷ [], gains_one i p.entry v p.value absent p.adds, more)
-  counts_put exact i v reads uses w x is absent put.Left (off, all) more = absurd (true≢false (sym is ∙ off))
+  pub counts_put : (i : Instance ℕ) (v : Value ℕ) (reads : List (Location ℕ)) (uses : List (Instance ℕ)) (w x : ℕ) → old i ≡ None → Puts old i (Some v) reads uses new → x ≡ min (w + 1) (2 ^ 64 - 1) → Counts old new w x
+  counts_put i v reads uses w x absent p more = (i ∷ [], gains_one i p.entry v p.value absent p.adds, more)
 
 -- nothing changes
 pub counts_none : (entries : Entries) (w : ℕ) → w < 2 ^ 64 → Counts entries entries w w

@@ -67,8 +67,8 @@ absent rules entries plain i lazy none = by (entries i) refl
     by (Some k) is = absurd (true≢false (sym lazy ∙ plain i k is (sym (ap value_at is) ∙ none)))
 
 -- an entry of an instance that had none leaves those that are there
-pub put_stays : (exact : Bool) (old new : Entries) (i : Instance ℕ) (entry : Kept) → old i ≡ None → ((j : Instance ℕ) → new j ≡ (if same_instance i j then Some entry else old j)) → KeepsEntries old new
-put_stays exact old new i entry absent adds j some = by (same_instance i j) refl (adds j)
+pub put_stays : (old new : Entries) (i : Instance ℕ) (entry : Kept) → old i ≡ None → ((j : Instance ℕ) → new j ≡ (if same_instance i j then Some entry else old j)) → KeepsEntries old new
+put_stays old new i entry absent adds j some = by (same_instance i j) refl (adds j)
   where
     by : (b : Bool) → same_instance i j ≡ b → new j ≡ (if b then Some entry else old j) → new j ≡ old j
     by true s e = absurd (not_none (old j) some (subst (λ x. old x ≡ None) (same_true i j s) absent))

@@ -219,8 +219,8 @@ module _ (rules : Rules) (look : Contents ℕ) (entries : Entries) (found : List
   all_covered i l w h = supported look (meaning rules) Within (λ u. Among u s.kept.items) (λ m. covered entries reads s.kept.items m ≡ true) next seen below i l (within i f w gathered.first) h
 
   -- and so what is put
-  pub put_covers : (exact : Bool) (new : Entries) (i : Instance ℕ) (v : Option (Value ℕ)) → IsWhole rules look found i f → Puts exact entries i v reads s.kept.items new → AreCovered rules look new
-  put_covers exact new i v w p m k is l h = by (same_instance i m) refl (sym (p.adds m) ∙ is)
+  pub put_covers : (new : Entries) (i : Instance ℕ) (v : Option (Value ℕ)) → IsWhole rules look found i f → Puts entries i v reads s.kept.items new → AreCovered rules look new
+  put_covers new i v w p m k is l h = by (same_instance i m) refl (sym (p.adds m) ∙ is)
     where
       by : (t : Bool) → same_instance i m ≡ t → (if t then Some p.entry else entries m) ≡ Some k → k.covers l ≡ true
       by true at e =

@@ -1,7 +1,7 @@
 -- What stands with a find is only what its evaluation sees and comes to; so the sources stand for nothing but what supports the
 -- instance.
 use Rattle.std.proofs.Common.{◌≡◌, ◌⊎◌, ℕ, zero, suc, Bool, true, false, ◌||◌, List, [], ◌∷◌, ◌++◌, map, slice_get, Option, Some, None, OnOk, Ok, Err, inl, inr, refl, sym, ap, ◌∙◌, subst, if◌then◌else◌, true≢false}
-use Rattle.std.specs.Prelude.{Result, IsTrue}
+use Rattle.std.specs.Prelude.{Result}
 use Rattle.std.specs.List.{list_any}
 use Rattle.std.proofs.lemmas.Option.{none-some, same_Some}
 use Rattle.indexmap.specs.IndexSet.{insert_key}
@@ -247,14 +247,14 @@ module _ (rules : Rules) (look : Contents ℕ) where
         | inr b ↦ (let (u, among, is) = any_one (λ u. covers_at (entries u) l) s.kept.items b in kept_supports u l among is)
       ]
 
-      -- and so what is put into an exact keeper
-      pub put_only : (exact : Bool) (new : Entries) (v : Option (Value ℕ)) → IsTrue exact → Puts exact entries i v (map loc_view s.reads.items) s.kept.items new → (m : Instance ℕ) (k : Kept) → new m ≡ Some k → (l : Location ℕ) → k.covers l ≡ true → Supports look (meaning rules) l m
-      put_only exact new v ex p m k is l h = by (same_instance i m) refl (sym (p.adds m) ∙ is)
+      -- and so what is put
+      pub put_only : (new : Entries) (v : Option (Value ℕ)) → Puts entries i v (map loc_view s.reads.items) s.kept.items new → (m : Instance ℕ) (k : Kept) → new m ≡ Some k → (l : Location ℕ) → k.covers l ≡ true → Supports look (meaning rules) l m
+      put_only new v p m k is l h = by (same_instance i m) refl (sym (p.adds m) ∙ is)
         where
           by : (t : Bool) → same_instance i m ≡ t → (if t then Some p.entry else entries m) ≡ Some k → Supports look (meaning rules) l m
           by true at e =
               let same : p.entry ≡ k = same_Some p.entry k e in
-              subst (Supports look (meaning rules) l) (same_true i m at) (covered_supports l (p.only ex l (ap (λ (x : Kept). x.covers l) same ∙ h)))
+              subst (Supports look (meaning rules) l) (same_true i m at) (covered_supports l (p.only l (ap (λ (x : Kept). x.covers l) same ∙ h)))
           by false at e = only m k e l h
 
 -- where no other find stands below, nothing else is gathered

@@ -1,6 +1,6 @@
 -- What a find that is to be kept leaves in what is kept.
-use Rattle.std.proofs.Common.{◌≡◌, ◌<◌, ◌^◌, ◌⊎◌, ℕ, Bool, true, false, List, [], map, Some, None, OnErr, OnOk, Ok, Err, inl, inr, refl, sym, ap, ◌∙◌, subst, if◌then◌else◌, true≢false, arith, length, nat_eq, vec_len, ◌∷◌}
-use Rattle.std.specs.Prelude.{IfOk, IsSome, IsTrue, Result, Vec}
+use Rattle.std.proofs.Common.{◌≡◌, ◌<◌, ◌^◌, ◌⊎◌, ℕ, Bool, true, false, List, [], map, Some, None, Ok, Err, inl, inr, refl, sym, ap, ◌∙◌, subst, if◌then◌else◌, true≢false, arith, length, nat_eq, vec_len, ◌∷◌}
+use Rattle.std.specs.Prelude.{IsSome, Vec}
 use Rattle.std.specs.Global.{Global}
 use Rattle.std.proofs.lemmas.Bool.{eqb-true}
 use Rattle.std.proofs.lemmas.Option.{none-some, same_Some}
@@ -9,22 +9,20 @@ use Rattle.at_model.specs.Rules.{Rules, is_lazy}
 use Rattle.at_store.specs.Located.{loc_view}
 use Rattle.at_body.specs.Same.{same_instance}
 use Rattle.at_body.specs.Values.{value_view}
-use Rattle.at_cache.specs.Kept.{Kept, Entries, AreKept, HasPut, KeepsAll, Puts, value_at}
-use Rattle.at_cache.specs.declared.keeper.Put.{Put}
-use Rattle.at_cache.specs.declared.keeper.Put.TheVariants as put
+use Rattle.at_cache.specs.Kept.{Kept, Entries, AreKept, KeepsAll, Puts, value_at}
 use Rattle.at_demand.specs.declared.evaluation.Find.{Find}
 use Rattle.at_demand.specs.declared.gathering.Sources.{Sources}
 use Rattle.at_demand.specs.Known.{kept_values, ArePlain, IsFound, IsKept, MayAdd}
-use Rattle.at_demand.specs.Keeping.{HasGathered, HasPlaced, KeepsWhereLazy, SaysKept, Shares}
+use Rattle.at_demand.specs.Keeping.{HasGathered, HasPlaced, KeepsWhereLazy, Shares}
 use Rattle.at_demand.specs.Covering.{AreCovered, AreWhole, IsWhole}
 use Rattle.at_demand.specs.Only.{AreLean, IsLean}
-use Rattle.at_demand.specs.Sparing.{AreOnly, MayGain}
+use Rattle.at_demand.specs.Sparing.{AreOnly, Counts, MayGain}
 use Rattle.at_demand.proofs.Counting.{counts_none}
 use Rattle.at_demand.proofs.Entered.{entered_on, is_there, put_stays}
 use Rattle.at_demand.proofs.Gathered.{gathered_alone, put_covers}
 use Rattle.at_demand.proofs.OnlyLemmas.{from_alone, put_only}
 use Rattle.at_demand.proofs.Sameness.{same_true, same_refl}
-use Rattle.at_demand.proofs.Entering.{shares_none, shares_on}
+use Rattle.at_demand.proofs.Entering.{shares_none}
 
 pub none_below : (positions : Vec ℕ Global) → nat_eq (vec_len positions) 0 ≡ true → positions.items ≡ []
 none_below positions is = empty positions.items (let e = eqb-true (vec_len positions) 0 is in omega (arith, e, positions.ok.0))
@@ -33,34 +31,34 @@ none_below positions is = empty positions.items (let e = eqb-true (vec_len posit
     empty [] e = refl
     empty (x ∷ xs) e = absurd (omega (arith, e))
 
-pub put_as : (exact : Bool) (old : Entries) (i : Instance ℕ) (v : Value ℕ) (rs ss : List (Location ℕ)) (us ws : List (Instance ℕ)) (new : Entries) (p : Put) → HasPut exact old i (Some v) rs us new p → rs ≡ ss → us ≡ ws → HasPut exact old i (Some v) ss ws new p
-put_as exact old i v rs ss us ws new p puts a b = subst (λ x. HasPut exact old i (Some v) ss x new p) b (subst (λ x. HasPut exact old i (Some v) x us new p) a puts)
+pub put_as : (old : Entries) (i : Instance ℕ) (v : Value ℕ) (rs ss : List (Location ℕ)) (us ws : List (Instance ℕ)) (new : Entries) → Puts old i (Some v) rs us new → rs ≡ ss → us ≡ ws → Puts old i (Some v) ss ws new
+put_as old i v rs ss us ws new puts a b = subst (λ x. Puts old i (Some v) ss x new) b (subst (λ x. Puts old i (Some v) x us new) a puts)
 
-module _ (rules : Rules) (exact : Bool) (old : Entries) (found : List (Instance ℕ × Find)) (i : Instance ℕ) (f : Find) (new : Entries) where
+module _ (rules : Rules) (old : Entries) (found : List (Instance ℕ × Find)) (i : Instance ℕ) (f : Find) (new : Entries) where
   abbrev V : Value ℕ
   V = value_view f.value
 
   -- at most what is shared came, or the find's value came, too, for all that it rests on
   pub data IsPut : Type 0 where
-    nothing : Shares rules exact found old new → IsPut
-    kept : (mid : Entries) → Shares rules exact found old mid → mid i ≡ None → (s : Sources) → HasGathered mid found f s → Puts exact mid i (Some V) (map loc_view s.reads.items) s.kept.items new → IsPut
+    nothing : Shares rules found old new → IsPut
+    kept : (mid : Entries) → Shares rules found old mid → mid i ≡ None → (s : Sources) → HasGathered mid found f s → Puts mid i (Some V) (map loc_view s.reads.items) s.kept.items new → IsPut
 
-  from_placed : (mid : Entries) → Shares rules exact found old mid → mid i ≡ None → (s : Sources) → HasGathered mid found f s → (r : Put) → HasPut exact mid i (Some V) (map loc_view s.reads.items) s.kept.items new r → IsPut
-  from_placed mid sh absent s g put.Kept p = kept mid sh absent s g p
-  from_placed mid sh absent s g put.Left (off, all) = nothing (shares_on rules exact found old mid new sh (shares_none rules exact found mid new all))
+  pub placed_with : ((mid : Entries) → Shares rules found old mid → mid i ≡ None) → HasPlaced rules old found i f new → IsPut
+  placed_with absent (mid, sh, s, g, p) = kept mid sh (absent mid sh) s g p
 
-  pub placed_with : {E : Type 0} (r : Result Put E) → ((mid : Entries) → Shares rules exact found old mid → mid i ≡ None) → IfOk r (HasPlaced rules exact old found i f new) → OnErr r (Shares rules exact found old new) → IsPut
-  placed_with (Ok r) absent (mid, sh, s, g, p) e = from_placed mid sh (absent mid sh) s g r p
-  placed_with (Err x) absent p e = nothing e
+  pub placed_alone : old i ≡ None → f.demanded.finds.items ≡ [] → AreKept old f.demanded.kept.items → Puts old i (Some V) (map loc_view f.reads.items) f.demanded.kept.items new → IsPut
+  placed_alone absent alone k p = kept old (shares_none rules found old old (λ j. refl)) absent (record { reads = f.reads; kept = f.demanded.kept }) (record { gathered = gathered_alone found f alone; from = from_alone found f; kept = k }) p
 
-  pub placed_alone : {E : Type 0} (r : Result Put E) → old i ≡ None → f.demanded.finds.items ≡ [] → AreKept old f.demanded.kept.items → IfOk r (HasPut exact old i (Some V) (map loc_view f.reads.items) f.demanded.kept.items new) → OnErr r (KeepsAll old new) → IsPut
-  placed_alone (Ok r) absent alone k p e = from_placed old (shares_none rules exact found old old (λ j. refl)) absent (record { reads = f.reads; kept = f.demanded.kept }) (record { gathered = gathered_alone found f alone; from = from_alone found f; kept = k }) r p
-  placed_alone (Err x) absent alone k p e = nothing (shares_none rules exact found old new e)
+  pub unplaced : KeepsAll old new → IsPut
+  unplaced all = nothing (shares_none rules found old new all)
+
+  pub unplaced_with : Shares rules found old new → IsPut
+  unplaced_with sh = nothing sh
 
   pub adds : IsPut → MayAdd old new i V
   adds (nothing sh) = record { stays = sh.stays; values = λ j. inl (sh.same j) }
   adds (kept mid sh absent s g p) = record {
-    stays = λ j some. put_stays exact mid new i p.entry absent p.adds j (entered_on old mid sh.stays j some) ∙ sh.stays j some;
+    stays = λ j some. put_stays mid new i p.entry absent p.adds j (entered_on old mid sh.stays j some) ∙ sh.stays j some;
     values = λ j. by j (same_instance i j) refl (p.adds j);
   }
     where
@@ -94,50 +92,55 @@ module _ (rules : Rules) (exact : Bool) (old : Entries) (found : List (Instance 
   module _ (look : Contents ℕ) where
     pub covers_all : IsPut → AreWhole rules look found → IsWhole rules look found i f → AreCovered rules look old → AreCovered rules look new
     covers_all (nothing sh) whole one covers = sh.covers look whole covers
-    covers_all (kept mid sh absent s g p) whole one covers = put_covers rules look mid found f s g.gathered whole g.kept (sh.covers look whole covers) exact new i (Some V) one p
+    covers_all (kept mid sh absent s g p) whole one covers = put_covers rules look mid found f s g.gathered whole g.kept (sh.covers look whole covers) new i (Some V) one p
 
-    pub covers_only : IsTrue exact → IsPut → AreLean rules look found → IsLean rules look found i f → AreOnly rules look old → AreOnly rules look new
-    covers_only ex (nothing sh) lean one only = sh.only look ex lean only
-    covers_only ex (kept mid sh absent s g p) lean one only = put_only rules look found f i lean one mid s g.from (sh.only look ex lean only) exact new (Some V) ex p
+    pub covers_only : IsPut → AreLean rules look found → IsLean rules look found i f → AreOnly rules look old → AreOnly rules look new
+    covers_only (nothing sh) lean one only = sh.only look lean only
+    covers_only (kept mid sh absent s g p) lean one only = put_only rules look found f i lean one mid s g.from (sh.only look lean only) new (Some V) p
 
   -- the value is kept
-  module _ (mid : Entries) (reads : List (Location ℕ)) (uses : List (Instance ℕ)) where
-    valued : (p : Puts exact mid i (Some V) reads uses new) → kept_values new i ≡ Some V
-    valued p = ap value_at (p.adds i ∙ ap (λ (b : Bool). if b then Some p.entry else mid i) (same_refl i)) ∙ p.value
+  pub valued : (mid : Entries) (reads : List (Location ℕ)) (uses : List (Instance ℕ)) → Puts mid i (Some V) reads uses new → kept_values new i ≡ Some V
+  valued mid reads uses p = ap value_at (p.adds i ∙ ap (λ (b : Bool). if b then Some p.entry else mid i) (same_refl i)) ∙ p.value
 
-    keeps_it : (r : Put) → IsTrue exact → HasPut exact mid i (Some V) reads uses new r → IsKept new i
-    keeps_it put.Kept ex p = is_there (kept_values new i) V (valued p)
-    keeps_it put.Left ex (off, all) = absurd (true≢false (sym ex ∙ off))
+  pub valued_with : HasPlaced rules old found i f new → kept_values new i ≡ Some V
+  valued_with (mid, sh, s, g, p) = valued mid (map loc_view s.reads.items) s.kept.items p
 
-    says_it : (r : Put) → HasPut exact mid i (Some V) reads uses new r → SaysKept new i f r
-    says_it put.Kept p = valued p
-    says_it put.Left p = tt
+  module _ {E : Type 0} (w x : ℕ) (lazy : is_lazy rules i.attribute ≡ true) (plain : ArePlain rules old) (put : IsPut) (counts : Counts old new w x) where
+    -- and so it is said
+    pub keeps_found : kept_values new i ≡ Some V → KeepsWhereLazy {E = E} rules old new w x found i f (Ok true)
+    keeps_found is = record {
+      adds = adds put;
+      covers = λ look. covers_all look put;
+      gains = gains lazy put;
+      keeps = λ l. is_there (kept_values new i) V is;
+      only = λ look. covers_only look put;
+      plain = plain_after plain put;
+      counts = counts;
+      says = is;
+    }
 
-    pub keeps_alone : {E : Type 0} (r : Result Put E) → IsTrue exact → IfOk r (HasPut exact mid i (Some V) reads uses new) → OnOk r (IsKept new i)
-    keeps_alone (Ok r) ex p = keeps_it r ex p
-    keeps_alone (Err x) ex p = tt
-
-    pub says_alone : {E : Type 0} (r : Result Put E) → IfOk r (HasPut exact mid i (Some V) reads uses new) → IfOk r (SaysKept new i f)
-    says_alone (Ok r) p = says_it r p
-    says_alone (Err x) p = tt
-
-  pub keeps_with : {E : Type 0} (r : Result Put E) → IsTrue exact → IfOk r (HasPlaced rules exact old found i f new) → OnOk r (IsKept new i)
-  keeps_with (Ok r) ex (mid, sh, s, g, p) = keeps_it mid (map loc_view s.reads.items) s.kept.items r ex p
-  keeps_with (Err x) ex p = tt
-
-  pub says_with : {E : Type 0} (r : Result Put E) → IfOk r (HasPlaced rules exact old found i f new) → IfOk r (SaysKept new i f)
-  says_with (Ok r) (mid, sh, s, g, p) = says_it mid (map loc_view s.reads.items) s.kept.items r p
-  says_with (Err x) p = tt
+    -- or memory is wanting
+    pub keeps_failed : (e : E) → KeepsWhereLazy rules old new w x found i f (Err e)
+    keeps_failed e = record {
+      adds = adds put;
+      covers = λ look. covers_all look put;
+      gains = gains lazy put;
+      keeps = λ l. tt;
+      only = λ look. covers_only look put;
+      plain = plain_after plain put;
+      counts = counts;
+      says = tt;
+    }
 
 -- a find that isn't to be kept leaves what is kept as it is
-pub left_out : {E : Type 0} (rules : Rules) (exact : Bool) (entries : Entries) (w : ℕ) (found : List (Instance ℕ × Find)) (i : Instance ℕ) (f : Find) → is_lazy rules i.attribute ≡ false → ArePlain rules entries → w < 2 ^ 64 → KeepsWhereLazy {E = E} rules exact entries entries w w found i f (Ok put.Left)
-left_out rules exact entries w found i f other plain few = record {
+pub left_out : {E : Type 0} (rules : Rules) (entries : Entries) (w : ℕ) (found : List (Instance ℕ × Find)) (i : Instance ℕ) (f : Find) → is_lazy rules i.attribute ≡ false → ArePlain rules entries → w < 2 ^ 64 → KeepsWhereLazy {E = E} rules entries entries w w found i f (Ok false)
+left_out rules entries w found i f other plain few = record {
   adds = record { stays = λ j some. refl; values = λ j. inl refl };
   covers = λ look whole one covers. covers;
   gains = record { stays = λ j some. refl; lazy = λ j. inl refl; comes = λ j some. inl some };
-  keeps = λ is lazy. absurd (true≢false (sym lazy ∙ other));
-  only = λ look is all one only. only;
+  keeps = λ lazy. absurd (true≢false (sym lazy ∙ other));
+  only = λ look all one only. only;
   plain = plain;
-  counts = λ is. counts_none entries w few;
+  counts = counts_none entries w few;
   says = tt;
 }

@@ -9,3 +9,4 @@ pub mod TurnsPut
 pub mod MadeAgain
 pub mod Putting
 pub mod Untouched
+pub mod Forgetting

@@ -1,5 +1,5 @@
 -- What a question is answered, and what becomes of what is kept.
-use Rattle.std.specs.Prelude.{◌≡◌, ◌+◌, ℕ, Bool, false, Option, Some, None, IsTrue, IfNone, IfOk, IfSome, OnErr, Result}
+use Rattle.std.specs.Prelude.{◌≡◌, ◌||◌, ◌+◌, ℕ, Bool, false, Option, Some, None, IfNone, IfOk, IfSome, OnErr, Result, nat_lt}
 use Rattle.std.specs.Option.{option_map}
 use Rattle.at_model.specs.Run.{Contents, Instance, Location}
 use Rattle.at_model.specs.Rules.{Rules}
@@ -71,59 +71,59 @@ abbrev pub AddsMet : Rules → Contents ℕ → Instance ℕ → (before after :
 AddsMet rules look q before after = (c i : Instance ℕ) → Circular look (meaning rules) q c → kept_values before i ≡ None → IsKept after i
     → IsMet look (meaning rules) q i
 
--- The instance has its answer. What is kept stays right; with an exact keeper it stays spare, where groups are kept whole, has all that is worth
--- keeping, and no more than was met, and the work counts that.
-pub record HasAnswered {E : Type 0} (rules : Rules) (s : Shown) (exact : Bool) (before after : Entries) (earlier later : ℕ) (i : Instance ℕ)
+-- The instance has its answer. What is kept stays right, and spare where groups are kept whole; it has all that is worth keeping, and no
+-- more than was met, and the work counts that.
+pub record HasAnswered {E : Type 0} (rules : Rules) (s : Shown) (before after : Entries) (earlier later : ℕ) (i : Instance ℕ)
     (r : Result AnswerCode E) : Type 0 where
   pub answers : IfOk r (λ a. Answers (contents s) (meaning rules) i (answer_view a))
   pub worthy : AddsWorthy rules (contents s) i before after
-  pub met : IsTrue exact → AreSpare rules (contents s) before → AddsMet rules (contents s) i before after
-  pub spare : KeepsGroups rules r → IsTrue exact → AreSpare rules (contents s) before → AreSpare rules (contents s) after
-  pub all : IsTrue exact → AreSpare rules (contents s) before → IfOk r (λ a. HasWorthyFor rules (contents s) i (answer_view a) after)
-  pub counts : IsTrue exact → Counts before after earlier later
-  pub work : IsTrue exact → AreSpare rules (contents s) before → IfOk r (λ a. IsWork rules (contents s) i before earlier later)
+  pub met : AreSpare rules (contents s) before → AddsMet rules (contents s) i before after
+  pub spare : KeepsGroups rules r → AreSpare rules (contents s) before → AreSpare rules (contents s) after
+  pub all : AreSpare rules (contents s) before → IfOk r (λ a. HasWorthyFor rules (contents s) i (answer_view a) after)
+  pub counts : Counts before after earlier later
+  pub work : AreSpare rules (contents s) before → IfOk r (λ a. IsWork rules (contents s) i before earlier later)
   pub right : IsThere s i → AreRight rules s before → AreRight rules s after
   pub plain : ArePlain rules after
 
 -- A turn of the question lets at most its last instance, and what levels under way have seen, come to what is kept, and entries without a
--- value of what it had found. That stays right and, with an exact keeper, spare, where groups are kept whole; the work counts the value.
-pub record GainsAtMost (rules : Rules) (s : Shown) (exact : Bool) (before after : Entries) (earlier later : ℕ) (q : Question) (Whole : Type 0)
+-- value of what it had found. That stays right, and spare where groups are kept whole; the work counts the value.
+pub record GainsAtMost (rules : Rules) (s : Shown) (before after : Entries) (earlier later : ℕ) (q : Question) (Whole : Type 0)
     : Type 0 where
   pub right : AreRightValues (contents s) (meaning rules) (kept_values after)
   pub stays : IsThere s (asked_by q) → AreRight rules s before → AreRight rules s after
   pub plain : ArePlain rules after
   pub last : GainsBy rules s before after q
   pub worthy : AddsWorthy rules (contents s) (asked_by q) before after
-  pub spare : Whole → IsTrue exact → AreSpare rules (contents s) before → IsSparingTurns rules (contents s) before q → AreSpare rules (contents s) after
-  pub counts : IsTrue exact → Counts before after earlier later
+  pub spare : Whole → AreSpare rules (contents s) before → IsSparingTurns rules (contents s) before q → AreSpare rules (contents s) after
+  pub counts : Counts before after earlier later
 
 -- It was given a turn so; where that doesn't answer it, that is counted, it stands, and its trials are those of its chain.
-pub record HasTurnedWith {E : Type 0} (rules : Rules) (s : Shown) (exact : Bool) (before after : Entries) (earlier later : ℕ)
+pub record HasTurnedWith {E : Type 0} (rules : Rules) (s : Shown) (before after : Entries) (earlier later : ℕ)
     (old new : Question) (t : Trials) (r : Result (Option AnswerCode) E) : Type 0 where
   pub turned : HasTurnedBy rules s before after old new r
   pub counted : IfOk r (λ o. IfNone o (new.turns ≡ old.turns + 1))
   pub standing : IfOk r (λ o. IsOfUse rules o (IsStanding rules s after new))
   pub fit : IfOk r (FitAfter rules s after new t)
-  pub all : IsTrue exact → AreSpare rules (contents s) before → IsSparingTurns rules (contents s) before old
+  pub all : AreSpare rules (contents s) before → IsSparingTurns rules (contents s) before old
       → IfOk r (λ o. IfSome o (λ a. HasWorthyFor rules (contents s) (asked_by old) (answer_view a) after))
-  pub sparing : IsTrue exact → AreSpare rules (contents s) before → IsSparingTurns rules (contents s) before old
+  pub sparing : AreSpare rules (contents s) before → IsSparingTurns rules (contents s) before old
       → IfOk r (λ o. IsOfUse rules o (IsSparingTurns rules (contents s) after new))
-  pub gains : GainsAtMost rules s exact before after earlier later old (KeepsGroups rules r)
+  pub gains : GainsAtMost rules s before after earlier later old (KeepsGroups rules r)
 
 -- one turn is counted, and all else stays
 abbrev pub IsCounted : (old new : Question) → Type 0
 IsCounted old new = (new.turns ≡ old.turns + 1) × (new ≡ record old { turns = new.turns })
 
 -- so it was, where the turn isn't counted yet: counted, it stands, where it isn't answered
-pub record HasTurnedOn {E : Type 0} (rules : Rules) (s : Shown) (exact : Bool) (before after : Entries) (earlier later : ℕ)
+pub record HasTurnedOn {E : Type 0} (rules : Rules) (s : Shown) (before after : Entries) (earlier later : ℕ)
     (old new : Question) (t : Trials) (r : Result (Option AnswerCode) E) : Type 0 where
-  pub counted : IfOk r (λ o. IfNone o ((q : Question) → IsCounted new q → HasTurnedWith rules s exact before after earlier later old q t r))
-  pub answered : IfOk r (λ o. IfSome o (λ a. HasTurnedWith rules s exact before after earlier later old new t r))
-  pub gains : GainsAtMost rules s exact before after earlier later old (KeepsGroups rules r)
+  pub counted : IfOk r (λ o. IfNone o ((q : Question) → IsCounted new q → HasTurnedWith rules s before after earlier later old q t r))
+  pub answered : IfOk r (λ o. IfSome o (λ a. HasTurnedWith rules s before after earlier later old new t r))
+  pub gains : GainsAtMost rules s before after earlier later old (KeepsGroups rules r)
 
 -- It was given as many turns as it may be, which are counted, or fewer where one of them answered it; so it is then, too. What these memories
 -- have may be kept again before each of them, where they say that turns do.
-pub record HasTurnedOften {E : Type 0} (rules : Rules) (s : Shown) (exact : Bool) (m : Memories) (before after : Entries) (earlier later limit : ℕ)
+pub record HasTurnedOften {E : Type 0} (rules : Rules) (s : Shown) (m : Memories) (before after : Entries) (earlier later limit : ℕ)
     (old new : Question) (r : Result (ℕ × Option AnswerCode) E) : Type 0 where
   pub plainly : HasNoneCircular rules → HasGivenPlainly rules s m before after limit old new r
   pub given : (u : Search ℕ) → StandsFor rules s before old u → IfOk r (λ g. (v : Search ℕ)
@@ -132,7 +132,7 @@ pub record HasTurnedOften {E : Type 0} (rules : Rules) (s : Shown) (exact : Bool
   pub broke : (u : Search ℕ) → StandsFor rules s before old u → OnErr r (BreaksOff rules s m limit before u after)
   pub counted : IfOk r (λ g. IfNone g.1 (new.turns ≡ old.turns + g.0))
   pub same : IfOk r (λ g. IfNone g.1 (asked_by new ≡ asked_by old))
-  pub all : IsTrue exact → AreSpare rules (contents s) before → IsSparingTurns rules (contents s) before old
+  pub all : AreSpare rules (contents s) before → IsSparingTurns rules (contents s) before old
       → IfOk r (λ g. IfSome g.1 (λ a. HasWorthyFor rules (contents s) (asked_by old) (answer_view a) after))
   pub answers : IfOk r (λ g. IfSome g.1 (λ a. Answers (contents s) (meaning rules) (asked_by old) (answer_view a)))
   pub standing : IfOk r (λ g. IsOfUse rules g.1 (IsStanding rules s after new))
@@ -140,34 +140,40 @@ pub record HasTurnedOften {E : Type 0} (rules : Rules) (s : Shown) (exact : Bool
   pub worthy : AddsWorthy rules (contents s) (asked_by old) before after
   pub stays : IsThere s (asked_by old) → AreRight rules s before → AreRight rules s after
   pub plain : ArePlain rules after
-  pub spare : KeepsGroups rules r → IsTrue exact → AreSpare rules (contents s) before → IsSparingTurns rules (contents s) before old
+  pub spare : KeepsGroups rules r → AreSpare rules (contents s) before → IsSparingTurns rules (contents s) before old
       → AreSpare rules (contents s) after
-  pub sparing : IsTrue exact → AreSpare rules (contents s) before → IsSparingTurns rules (contents s) before old
+  pub sparing : AreSpare rules (contents s) before → IsSparingTurns rules (contents s) before old
       → IfOk r (λ g. IsOfUse rules g.1 (IsSparingTurns rules (contents s) after new))
-  pub counts : IsTrue exact → Counts before after earlier later
+  pub counts : Counts before after earlier later
 
 -- The instance has its answer; what can be kept again is right still, and of the tree. Unless turns were given, just what had a reason was made;
 -- else that was made by steps, some of which are turns.
-pub record IsAnswered {E : Type 0} (rules : Rules) (s : Shown) (exact : Bool) (before after : Entries) (former latter : Memories)
+pub record IsAnswered {E : Type 0} (rules : Rules) (s : Shown) (before after : Entries) (former latter : Memories)
     (earlier later : ℕ) (i : Instance ℕ) (r : Result AnswerCode E) (turned : Bool) (first next : ℕ) : Type 0 where
-  pub answered : HasAnswered rules s exact before after earlier later i r
+  pub answered : HasAnswered rules s before after earlier later i r
   pub traces : StayJustified rules s i former latter
   pub makes : turned ≡ false → Makes before after former latter first next
-  pub went : IsTrue exact → Went former first latter next
+  pub went : Went former first latter next
 
 -- turns come to that, and trace nothing; what they put, they put as turns do
-pub record TracesNothing (exact : Bool) (Turns : Type 0) (former latter : Memories) (first next : ℕ) : Type 0 where
+pub record TracesNothing (Turns : Type 0) (former latter : Memories) (first next : ℕ) : Type 0 where
   pub turned : Turns
   pub traces : StayTraced former latter
-  pub went : IsTrue exact → Went former first latter next
+  pub went : Went former first latter next
 
--- An edit leaves all that it doesn't touch, an exact keeper loses the rest, and traces for which it was looked at alone, and others where much more is
--- in memory than is kept. The work stays as it was, and nothing is made.
-pub record Forgets (says : Location ℕ → Bool → Type 0) (exact crowded : Bool) (before after : Entries) (former latter : Memories)
+-- whether more entries are in memory than a bound allows
+abbrev pub is_over : (most : Option ℕ) → (count : ℕ) → Bool
+is_over None count = false
+is_over (Some most) count = nat_lt most count
+
+-- An edit leaves all that it doesn't touch, and loses the rest alone, unless more was in memory than a bound allows. It takes traces for which
+-- what it touches was looked at, and others where more was in memory than that, or much more than is kept. The work stays as it was, and
+-- nothing is made.
+pub record Forgets (says : Location ℕ → Bool → Type 0) (over crowded : Bool) (before after : Entries) (former latter : Memories)
     (earlier later first next : ℕ) : Type 0 where
   pub leaves : LeavesUntouched says before after
-  pub loses : IsTrue exact → LosesTouched says before after
+  pub loses : over ≡ false → LosesTouched says before after
   pub traces : FlushesTraces says former latter
-  pub spares : IsTrue exact → SparesAtEdit says crowded former latter
+  pub spares : SparesAtEdit says (over || crowded) former latter
   pub work : later ≡ earlier
   pub made : next ≡ first

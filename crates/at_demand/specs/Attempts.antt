@@ -1,5 +1,5 @@
 -- What one try of an instance comes to.
-use Rattle.std.specs.Prelude.{◌≡◌, ℕ, Bool, List, [], ◌∷◌, ◌++◌, Some, None, IsSome, IsTrue, IfOk, Result}
+use Rattle.std.specs.Prelude.{◌≡◌, ℕ, List, [], ◌∷◌, ◌++◌, Some, None, IsSome, IfOk, Result}
 use Rattle.std.specs.Map.{lookup}
 use Rattle.at_model.specs.Run.{Instance, Contents}
 use Rattle.at_model.specs.Rules.{Rules, start_of}
@@ -107,9 +107,8 @@ IsIdleBy before after earlier later (attempt.Found f) = Unit {0}
 IsIdleBy before after earlier later (attempt.Fails kind) = (after ≡ before) × (later ≡ earlier)
 IsIdleBy before after earlier later (attempt.Needs j) = (after ≡ before) × (later ≡ earlier)
 
--- One try of an instance has come to this. What is kept stays right; with an exact keeper it stays spare, and the work counts what
--- is added.
-pub record HasAttempted {E : Type 0} (rules : Rules) (s : Shown) (exact : Bool) (before after : Entries) (earlier later : ℕ)
+-- One try of an instance has come to this. What is kept stays right and spare, and the work counts what is added.
+pub record HasAttempted {E : Type 0} (rules : Rules) (s : Shown) (before after : Entries) (earlier later : ℕ)
     (found : List (Instance ℕ × Find)) (i : Instance ℕ) (f : Frame) (r : Result Attempt E) : Type 0 where
   pub tried : IfOk r (HasTried rules (class_shown s) (contents s) before found i)
   pub right : AreRightValues (contents s) (meaning rules) (kept_values after)
@@ -117,10 +116,10 @@ pub record HasAttempted {E : Type 0} (rules : Rules) (s : Shown) (exact : Bool) 
   pub plain : ArePlain rules after
   pub gains : MayGain rules found before after i
   pub worthy : AddsWorthy rules (contents s) i before after
-  pub spare : IsTrue exact → AreSpare rules (contents s) before → AreLean rules (contents s) found → AreSettled rules before found
+  pub spare : AreSpare rules (contents s) before → AreLean rules (contents s) found → AreSettled rules before found
       → AreSpare rules (contents s) after
-  pub settles : IsTrue exact → AreSpare rules (contents s) before → AreSettled rules before found → IfOk r (SettlesOn rules after found i)
-  pub counts : IsTrue exact → Counts before after earlier later
+  pub settles : AreSpare rules (contents s) before → AreSettled rules before found → IfOk r (SettlesOn rules after found i)
+  pub counts : Counts before after earlier later
   pub keeps : IfOk r (IsKeptAs after i)
   pub waits : IfOk r (Awaits rules (class_shown s) (contents s) before found i f)
   pub idle : IfOk r (IsIdleBy before after earlier later)

@@ -1,5 +1,5 @@
 -- What becomes of instances that are solved together: a group, in which formulas lead from each to each, is kept or found by its first member.
-use Rattle.std.specs.Prelude.{◌≡◌, ◌⊎◌, ℕ, Bool, true, List, [], ◌∷◌, ◌++◌, map, length, slice_get, Option, Some, None, IsSome, IsTrue, IfOk, OnOk, Result, Ok, Err}
+use Rattle.std.specs.Prelude.{◌≡◌, ◌⊎◌, ℕ, Bool, true, List, [], ◌∷◌, ◌++◌, map, length, slice_get, Option, Some, None, IsSome, IfOk, OnOk, Result, Ok, Err}
 use Rattle.std.specs.Borrow.{Bor}
 use Rattle.std.specs.Map.{keys_of, lookup}
 use Rattle.at_model.specs.Meaning.{Among}
@@ -53,9 +53,9 @@ abbrev pub KeepsGroups : {T E : Type 0} → Rules → Result T E → Type 0
 KeepsGroups rules (Ok x) = Unit {0}
 KeepsGroups rules (Err e) = HasNoneCircular rules
 
--- What became of what is kept and found since: all that is new there are values of these instances. What is kept stays right and, with an
--- exact keeper, spare, where groups are kept whole; the work counts it, and nothing is traced. The chain stays, and how equations ended.
-pub record Tells (rules : Rules) (s : Shown) (exact : Bool) (before after : Entries) (former latter : Memories) (earlier later : ℕ)
+-- What became of what is kept and found since: all that is new there are values of these instances. What is kept stays right, and
+-- spare where groups are kept whole; the work counts it, and nothing is traced. The chain stays, and how equations ended.
+pub record Tells (rules : Rules) (s : Shown) (before after : Entries) (former latter : Memories) (earlier later : ℕ)
     (old new : Question) (these : List (Instance ℕ)) (Whole : Type 0) : Type 0 where
   pub chain : KeepsChain old new
   pub level : new.level ≡ old.level
@@ -75,12 +75,12 @@ pub record Tells (rules : Rules) (s : Shown) (exact : Bool) (before after : Entr
   pub took : FoundKept after new.found.entries
   pub right : AreThere rules s old.found.entries → ((i : Instance ℕ) → Among i these → IsThere s i) → AreRight rules s before → AreRight rules s after
   pub plain : ArePlain rules after
-  pub lean : IsTrue exact → AreLean rules (contents s) old.found.entries → AreLean rules (contents s) new.found.entries
-  pub settled : IsTrue exact → AreSettled rules before old.found.entries → AreSettled rules after new.found.entries
-  pub only : IsTrue exact → AreLean rules (contents s) old.found.entries → AreOnly rules (contents s) before → AreOnly rules (contents s) after
-  pub spare : Whole → IsTrue exact → AreSpare rules (contents s) before → AreLean rules (contents s) old.found.entries
+  pub lean : AreLean rules (contents s) old.found.entries → AreLean rules (contents s) new.found.entries
+  pub settled : AreSettled rules before old.found.entries → AreSettled rules after new.found.entries
+  pub only : AreLean rules (contents s) old.found.entries → AreOnly rules (contents s) before → AreOnly rules (contents s) after
+  pub spare : Whole → AreSpare rules (contents s) before → AreLean rules (contents s) old.found.entries
       → AreSettled rules before old.found.entries → AreSpare rules (contents s) after
-  pub counts : IsTrue exact → Counts before after earlier later
+  pub counts : Counts before after earlier later
   pub traces : PutsInTurns former latter
 
 -- Instances can be solved: all start alike; and what is known and recorded holds.
@@ -112,18 +112,18 @@ AreKnownOrStopped before after old new insts = (i : Instance ℕ) → Among i in
     → IsSome (known_to after new i) ⊎ IsStopped (known_to before old) old.ended.entries insts i
 
 -- Each of these is told its value from which formulas lead to formulas alone, as far as they are recorded: in all else nothing changes.
-pub record HasSolved {E : Type 0} (rules : Rules) (s : Shown) (exact : Bool) (before after : Entries) (former latter : Memories) (earlier later : ℕ)
+pub record HasSolved {E : Type 0} (rules : Rules) (s : Shown) (before after : Entries) (former latter : Memories) (earlier later : ℕ)
     (old new : Question) (insts : List (Instance ℕ)) (r : Result Unit E) : Type 0 where
-  pub tells : Tells rules s exact before after former latter earlier later old new insts (KeepsGroups rules r)
+  pub tells : Tells rules s before after former latter earlier later old new insts (KeepsGroups rules r)
   pub same : new.ended.entries ≡ old.ended.entries
   pub each : OnOk r (AreKnownOrStopped before after old new insts)
   pub rest : AreClosedIn (known_to before old) old.ended.entries insts
       → OnOk r ((i : Instance ℕ) → Among i insts → IsKnownOrSpoilt before after old new i)
 
 -- so it is, and all of them are marked whole
-pub record HasMarkedSolved {E : Type 0} (rules : Rules) (s : Shown) (exact : Bool) (before after : Entries) (former latter : Memories)
+pub record HasMarkedSolved {E : Type 0} (rules : Rules) (s : Shown) (before after : Entries) (former latter : Memories)
     (earlier later : ℕ) (old new : Question) (insts : List (Instance ℕ)) (r : Result Unit E) : Type 0 where
-  pub tells : Tells rules s exact before after former latter earlier later old new insts (KeepsGroups rules r)
+  pub tells : Tells rules s before after former latter earlier later old new insts (KeepsGroups rules r)
   pub rest : AreClosedIn (known_to before old) old.ended.entries insts
       → OnOk r ((i : Instance ℕ) → Among i insts → IsKnownOrSpoilt before after old new i)
   pub each : OnOk r (AreKnownOrStopped before after old new insts)
@@ -142,9 +142,9 @@ pub record CanKeepGroup (rules : Rules) (s : Shown) (entries : Entries) (q : Que
   pub together : (i j : Instance ℕ) (b c : Bool) → IsMember insts group i b → IsMember insts group j c → LeadsOver (Recorded q.ended.entries) i j
 
 -- so it is, and each member is known
-pub record HasKeptGroup {E : Type 0} (rules : Rules) (s : Shown) (exact : Bool) (before after : Entries) (former latter : Memories) (earlier later : ℕ)
+pub record HasKeptGroup {E : Type 0} (rules : Rules) (s : Shown) (before after : Entries) (former latter : Memories) (earlier later : ℕ)
     (old new : Question) (insts : List (Instance ℕ)) (group : List Solved) (r : Result Unit E) : Type 0 where
-  pub tells : Tells rules s exact before after former latter earlier later old new insts (KeepsGroups rules r)
+  pub tells : Tells rules s before after former latter earlier later old new insts (KeepsGroups rules r)
   pub same : new.ended.entries ≡ old.ended.entries
   pub told : OnOk r ((i : Instance ℕ) (b : Bool) → IsMember insts group i b → IsSome (known_to after new i))
   pub only : (i : Instance ℕ) → IsSome (known_to after new i) → IsSome (known_to before old i) ⊎ ((b : Bool) × IsMember insts group i b)
@@ -222,19 +222,19 @@ pub record IsOtherFind (first : Instance ℕ) (place : Option ℕ) (b : Bool) (f
   pub uses : UsesFirst first place f.demanded
 
 -- The find's value is kept for the instance where it is lazy, or the find comes behind those that were found.
-pub record IsKeptOrFound (rules : Rules) (exact : Bool) (before after : Entries) (former latter : Memories) (earlier later : ℕ)
+pub record IsKeptOrFound (rules : Rules) (before after : Entries) (former latter : Memories) (earlier later : ℕ)
     (old new : Question) (i : Instance ℕ) (f : Find) : Type 0 where
   pub adds : MayAdd before after i (value_view f.value)
   pub covers : (look : Contents ℕ) → AreWhole rules look old.found.entries → IsWhole rules look old.found.entries i f → AreCovered rules look before
       → AreCovered rules look after
   pub gains : MayGain rules old.found.entries before after i
-  pub only : (look : Contents ℕ) → IsTrue exact → AreLean rules look old.found.entries → IsLean rules look old.found.entries i f
+  pub only : (look : Contents ℕ) → AreLean rules look old.found.entries → IsLean rules look old.found.entries i f
       → AreOnly rules look before → AreOnly rules look after
   pub plain : ArePlain rules after
-  pub counts : IsTrue exact → Counts before after earlier later
+  pub counts : Counts before after earlier later
   pub traces : PutsInTurns former latter
   pub finds : (new.found.entries ≡ old.found.entries) ⊎ ((new.found.entries ≡ insert_entry same_instance old.found.entries i f)
-      × (IsTrue exact → is_lazy rules i.attribute ≡ true → IsKept after i))
+      × (is_lazy rules i.attribute ≡ true → IsKept after i))
   pub same : new ≡ record old { found = new.found }
 
 -- the find comes to those that were found, at the place behind them; or those stay
@@ -250,9 +250,9 @@ pub record CanBeFirst (rules : Rules) (entries : Entries) (q : Question) (i : In
   pub plain : ArePlain rules entries
 
 -- it is kept so; or it is the last one of those that were found, at the place
-pub record HasKeptFirst {E : Type 0} (rules : Rules) (exact : Bool) (before after : Entries) (former latter : Memories) (earlier later : ℕ)
+pub record HasKeptFirst {E : Type 0} (rules : Rules) (before after : Entries) (former latter : Memories) (earlier later : ℕ)
     (old new : Question) (i : Instance ℕ) (f : Find) (r : Result (Option ℕ) E) : Type 0 where
-  pub kept : IsKeptOrFound rules exact before after former latter earlier later old new i f
+  pub kept : IsKeptOrFound rules before after former latter earlier later old new i f
   pub place : IfOk r (elim [
     | None ↦ (kept_values after i ≡ Some (value_view f.value)) × (new ≡ old)
     | Some p ↦ (p ≡ length old.found.entries) × (new.found.entries ≡ insert_entry same_instance old.found.entries i f)
@@ -277,18 +277,18 @@ pub record StaysAsIs (before after : Entries) (former latter : Memories) (earlie
   pub question : new ≡ old
 
 -- a member is kept, or found, by the use of the first one
-pub record KeepsOther (rules : Rules) (exact : Bool) (before after : Entries) (former latter : Memories) (earlier later : ℕ) (old new : Question)
+pub record KeepsOther (rules : Rules) (before after : Entries) (former latter : Memories) (earlier later : ℕ) (old new : Question)
     (insts : List (Instance ℕ)) (first : Instance ℕ) (place : Option ℕ) (m : Solved) : Type 0 where
   pub inst : Instance ℕ
   pub find : Find
   pub at : slice_get insts m.position ≡ Some inst
   pub unknown : known_to before old inst ≡ None
   pub is : IsOtherFind first place m.value find
-  pub kept : IsKeptOrFound rules exact before after former latter earlier later old new inst find
+  pub kept : IsKeptOrFound rules before after former latter earlier later old new inst find
 
 -- so it is, or nothing has changed; it is known then
-pub record HasKeptOther {E : Type 0} (rules : Rules) (exact : Bool) (before after : Entries) (former latter : Memories) (earlier later : ℕ)
+pub record HasKeptOther {E : Type 0} (rules : Rules) (before after : Entries) (former latter : Memories) (earlier later : ℕ)
     (old new : Question) (insts : List (Instance ℕ)) (first : Instance ℕ) (place : Option ℕ) (m : Solved) (r : Result Unit E) : Type 0 where
   pub kept : StaysAsIs before after former latter earlier later old new
-      ⊎ KeepsOther rules exact before after former latter earlier later old new insts first place m
+      ⊎ KeepsOther rules before after former latter earlier later old new insts first place m
   pub told : OnOk r ((i : Instance ℕ) → slice_get insts m.position ≡ Some i → IsSome (known_to after new i))

@@ -1,5 +1,5 @@
 -- Evaluations in one go, part by part: what an expression comes to, and what comes to what is kept meanwhile.
-use Rattle.std.specs.Prelude.{◌≡◌, ◌⊎◌, ⊤, ℕ, Bool, List, ◌++◌, [], Option, None, Some, false, true, IsSome, IsTrue, IfNone, IfOk, OnOk, Result}
+use Rattle.std.specs.Prelude.{◌≡◌, ◌⊎◌, ⊤, ℕ, Bool, List, ◌++◌, [], Option, None, Some, false, true, IsSome, IfNone, IfOk, OnOk, Result}
 use Rattle.at_model.specs.Run.{Value, Instance, Location, Contents, Known, Run, Gives, Demands}
 use Rattle.at_model.specs.Classes.{Classes}
 use Rattle.at_model.specs.Rules.{Rules, is_inherited, is_lazy, start_of}
@@ -121,8 +121,8 @@ abbrev pub AreHeld : Rules → Shown → Entries → Memories → (work made : �
 AreHeld rules s entries m work made = IsHeld rules (contents s) (held entries m [] work made)
 
 -- What was held stays; what came to be kept is worthy of an instance that the evaluation demands, and from which demands lead to it,
--- and the work counts it; all is right still and, by an exact keeper, spare.
-pub record HasGained {A : Type 0} (rules : Rules) (s : Shown) (exact : Bool) (r : Run ℕ A) (old new : Held) : Type 0 where
+-- and the work counts it; all is right still, and spare where it was.
+pub record HasGained {A : Type 0} (rules : Rules) (s : Shown) (r : Run ℕ A) (old new : Held) : Type 0 where
   pub keeps : KeepsEntries old.entries new.entries
   pub still : StayRemembered old.found new.found
   pub worthy : (j : Instance ℕ) → kept_values old.entries j ≡ None → IsKept new.entries j
@@ -132,14 +132,14 @@ pub record HasGained {A : Type 0} (rules : Rules) (s : Shown) (exact : Bool) (r 
   pub right : IsHeld rules (contents s) new
   pub stays : AreDemandedThere rules s r → AreRight rules s old.entries → AreRight rules s new.entries
   pub there : AreDemandedThere rules s r → AreOfTree s old.memories → AreOfTree s new.memories
-  pub spare : IsTrue exact → AreSpare rules (contents s) old.entries → AreSpare rules (contents s) new.entries
-  pub counts : IsTrue exact → Counts old.entries new.entries old.work new.work
+  pub spare : AreSpare rules (contents s) old.entries → AreSpare rules (contents s) new.entries
+  pub counts : Counts old.entries new.entries old.work new.work
   pub makes : Makes old.entries new.entries old.memories new.memories old.made new.made
 
 -- What was held was `old` and is `new` now, for the instance that is asked for: what came to be kept is worthy of it, and demands
 -- lead from it to that; what was remembered is so still, and all is right, what can be kept again, too.
-pub record HasGrown (rules : Rules) (s : Shown) (exact : Bool) (i : Instance ℕ) (old new : Held) : Type 0 where
-  pub gains : Gains rules s exact i old.entries new.entries old.found new.found old.work new.work
+pub record HasGrown (rules : Rules) (s : Shown) (i : Instance ℕ) (old new : Held) : Type 0 where
+  pub gains : Gains rules s i old.entries new.entries old.found new.found old.work new.work
   pub demanded : AreLed rules s i old.entries new.entries
   pub traces : StayJustified rules s i old.memories new.memories
   pub makes : Makes old.entries new.entries old.memories new.memories old.made new.made
@@ -175,43 +175,43 @@ pub record IsEvaluatedAfresh (rules : Rules) (look : Contents ℕ) (h : Held) (i
   pub evaluated : IsEvaluatedFor rules look h true i v below
 
 -- the instance is told what comes out, and what was held has grown for it
-pub record EndsTold {E : Type 0} (rules : Rules) (s : Shown) (exact : Bool) (i : Instance ℕ) (old new : Held) (before after : Level)
+pub record EndsTold {E : Type 0} (rules : Rules) (s : Shown) (i : Instance ℕ) (old new : Held) (before after : Level)
     (r : Result ValueCode E) : Type 0 where
   pub told : IfOk r (λ v. HasTold rules (contents s) (values_in new) before after i (value_view v))
-  pub grown : HasGrown rules s exact i old new
+  pub grown : HasGrown rules s i old new
 
 -- so it is where the value is known before
-pub record EndsTaken {A E : Type 0} (rules : Rules) (s : Shown) (exact : Bool) (i : Instance ℕ) (v : Value ℕ) (old new : Held) (before after : Level)
+pub record EndsTaken {A E : Type 0} (rules : Rules) (s : Shown) (i : Instance ℕ) (v : Value ℕ) (old new : Held) (before after : Level)
     (r : Result A E) : Type 0 where
   pub told : OnOk r (HasTold rules (contents s) (values_in new) before after i v)
-  pub grown : HasGrown rules s exact i old new
+  pub grown : HasGrown rules s i old new
 
 -- and where it may be known; else no value of it is kept
-pub record EndsRecalled {E : Type 0} (rules : Rules) (s : Shown) (exact : Bool) (i : Instance ℕ) (old new : Held) (before after : Level)
+pub record EndsRecalled {E : Type 0} (rules : Rules) (s : Shown) (i : Instance ℕ) (old new : Held) (before after : Level)
     (r : Result (Option ValueCode) E) : Type 0 where
   pub recalled : IfOk r (HasRecalled rules (contents s) (values_in new) before after i)
   pub unkept : IfOk r (λ o. IfNone o (IsUnkept new i))
-  pub grown : HasGrown rules s exact i old new
+  pub grown : HasGrown rules s i old new
 
 -- The evaluation of the instance comes to what comes out, and what was held has grown for it. If it comes to a value, none came to be kept
 -- of the instance itself.
-pub record EndsEvaluated {E : Type 0} (rules : Rules) (s : Shown) (exact : Bool) (i : Instance ℕ) (old new : Held) (before after : Level)
+pub record EndsEvaluated {E : Type 0} (rules : Rules) (s : Shown) (i : Instance ℕ) (old new : Held) (before after : Level)
     (r : Result ValueCode E) : Type 0 where
   pub come : IfOk r (λ v. HasCome rules (contents s) new before after (equations rules i) (value_view v))
   pub unkept : OnOk r (IsUnkept old i → IsUnkept new i)
-  pub grown : HasGrown rules s exact i old new
+  pub grown : HasGrown rules s i old new
 
 -- the evaluation r of an expression comes to the view of what comes out, and what was held has gained what r demands
-pub record EvaluatesTo {A C E : Type 0} (rules : Rules) (s : Shown) (exact : Bool) (r : Run ℕ A) (view : C → A) (old new : Held)
+pub record EvaluatesTo {A C E : Type 0} (rules : Rules) (s : Shown) (r : Run ℕ A) (view : C → A) (old new : Held)
     (before after : Level) (x : Result C E) : Type 0 where
   pub come : IfOk x (λ v. HasCome rules (contents s) new before after r (view v))
-  pub gains : HasGained rules s exact r old new
+  pub gains : HasGained rules s r old new
 
 -- the instance has an entry, and what was held has grown for it; nothing is remembered
-pub record HasEntered {A E : Type 0} (rules : Rules) (s : Shown) (exact : Bool) (i : Instance ℕ) (old new : Held) (r : Result A E) : Type 0 where
+pub record HasEntered {A E : Type 0} (rules : Rules) (s : Shown) (i : Instance ℕ) (old new : Held) (r : Result A E) : Type 0 where
   pub stands : OnOk r (IsSome (new.entries i))
   pub found : new.found ≡ old.found
-  pub grown : HasGrown rules s exact i old new
+  pub grown : HasGrown rules s i old new
 
 -- nothing was looked at or taken
 pub record IsEmptied (l : Level) : Type 0 where

@@ -1,5 +1,5 @@
 -- Instances that are evaluated within the one that asks, in one go: what they are told, and what comes to what is kept.
-use Rattle.std.specs.Prelude.{◌≡◌, ◌⊎◌, ⊤, ℕ, Bool, true, false, not, List, ◌++◌, Option, Some, None, IsSome, IsTrue, Contains}
+use Rattle.std.specs.Prelude.{◌≡◌, ◌⊎◌, ⊤, ℕ, Bool, true, false, not, List, ◌++◌, Option, Some, None, IsSome, Contains}
 use Rattle.std.specs.Map.{lookup}
 use Rattle.std.specs.Option.{option_map}
 use Rattle.at_model.specs.Run.{Value, Instance, Location, Contents, Known}
@@ -64,16 +64,16 @@ abbrev pub HasRecalled : Rules → Contents ℕ → Known ℕ → (old new : Lev
 HasRecalled rules look known old new j None = new ≡ old
 HasRecalled rules look known old new j (Some v) = HasTold rules look known old new j (value_view v)
 
--- What is kept was `old` and is `new` now: what came is worthy of i, and the work counts it; all is right still and, by an
--- exact keeper, spare. What was remembered is so still.
-pub record Gains (rules : Rules) (s : Shown) (exact : Bool) (i : Instance ℕ) (old new : Entries) (before after : List (Instance ℕ × ValueCode))
+-- What is kept was `old` and is `new` now: what came is worthy of i, and the work counts it; all is right still, and
+-- spare where it was. What was remembered is so still.
+pub record Gains (rules : Rules) (s : Shown) (i : Instance ℕ) (old new : Entries) (before after : List (Instance ℕ × ValueCode))
     (work later : ℕ) : Type 0 where
   pub worthy : AddsWorthy rules (contents s) i old new
   pub known : AreKnown rules (contents s) new after
   pub still : StayRemembered before after
   pub stays : IsThere s i → AreRight rules s old → AreRight rules s new
-  pub spare : IsTrue exact → AreSpare rules (contents s) old → AreSpare rules (contents s) new
-  pub counts : IsTrue exact → Counts old new work later
+  pub spare : AreSpare rules (contents s) old → AreSpare rules (contents s) new
+  pub counts : Counts old new work later
 
 -- each of the instances is of a lazy attribute
 abbrev pub AreLazy : Rules → List (Instance ℕ) → Type 0

@@ -1,5 +1,5 @@
 -- What becomes of a question once the equation of its last one was tried: it has a value, gives a formula, or waits.
-use Rattle.std.specs.Prelude.{◌≡◌, ℕ, Bool, [], ◌∷◌, ◌++◌, Option, Some, IsSome, IfOk, Result}
+use Rattle.std.specs.Prelude.{◌≡◌, ℕ, [], ◌∷◌, ◌++◌, Option, Some, IsSome, IfOk, Result}
 use Rattle.at_model.specs.Rules.{Rules, start_of}
 use Rattle.at_model.specs.Run.{Instance}
 use Rattle.at_model.specs.of_fixpoints.Fixpoints.{EndsSo, Made}
@@ -52,9 +52,9 @@ pub record CanForm (rules : Rules) (s : Shown) (entries : Entries) (q : Question
   pub is : IsFormOf rules (contents s) entries q.found.entries q.inst f
 
 -- the search goes along behind that
-pub record HasFormed {E : Type 0} (rules : Rules) (s : Shown) (exact : Bool) (before after : Entries) (former latter : Memories) (earlier later : ℕ)
+pub record HasFormed {E : Type 0} (rules : Rules) (s : Shown) (before after : Entries) (former latter : Memories) (earlier later : ℕ)
     (old new : Question) (t : Trials) (r : Result (Option Answer) E) : Type 0 where
-  pub gains : GainsBetween rules s exact before after former latter earlier later old new (KeepsGroups rules r)
+  pub gains : GainsBetween rules s before after former latter earlier later old new (KeepsGroups rules r)
   pub turned : TurnsBy rules s before after old new r
   pub fit : IfOk r (FitAfter rules s after new t)
-  pub leaves : LeavesSo rules s exact before after old new r
+  pub leaves : LeavesSo rules s before after old new r

@@ -2,8 +2,6 @@
 use Rattle.std.specs.Prelude.{◌≡◌, ◌≤◌, ◌+◌, ◌-◌, ◌^◌, ◌⊎◌, ℕ, List, length, None, Some, IsSome}
 use Rattle.at_model.specs.Run.{Instance}
 use Rattle.at_model.specs.Meaning.{Among, Distinct}
-use Rattle.at_cache.specs.declared.keeper.Put.{Put}
-use Rattle.at_cache.specs.declared.keeper.Put.TheVariants as put
 use Rattle.at_cache.specs.Kept.{Entries}
 use Rattle.at_cache.specs.Traced.{IsOutdated, IsSpared, Memories, Trace}
 
@@ -18,8 +16,3 @@ pub record Makes (entries after : Entries) (old new : Memories) (before later : 
   pub spares : (i : Instance ℕ) (t : Trace) → old.traced i ≡ Some t → IsSpared old new i t
   pub last : (u : Instance ℕ) → (new.last u ≡ old.last u) ⊎ ((entries u ≡ None) × IsSome (after u))
   pub count : (later ≡ before + length made) ⊎ (2 ^ 64 - 1 ≤ later)
-
--- what was put counts, if it is there
-abbrev pub CountsPut : Put → (before later : ℕ) → Type 0
-CountsPut put.Kept before later = (later ≡ before + 1) ⊎ (2 ^ 64 - 1 ≤ later)
-CountsPut put.Left before later = later ≡ before

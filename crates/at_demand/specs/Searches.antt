@@ -1,5 +1,5 @@
 -- How a question's search goes on between two tries: what is known of an instance that is looked at or demanded, and where the search comes to.
-use Rattle.std.specs.Prelude.{◌≡◌, ◌⊎◌, ℕ, ◌+◌, ◌*◌, ◌<◌, ◌≤◌, cond, length, Bool, true, List, [], ◌∷◌, ◌++◌, Option, Some, None, IsSome, IsTrue, IfOk, IfSome, OnOk, Result, Ok}
+use Rattle.std.specs.Prelude.{◌≡◌, ◌⊎◌, ℕ, ◌+◌, ◌*◌, ◌<◌, ◌≤◌, cond, length, true, List, [], ◌∷◌, ◌++◌, Option, Some, None, IsSome, IfOk, IfSome, OnOk, Result, Ok}
 use Rattle.std.specs.Map.{keys_of, lookup}
 use Rattle.std.specs.Option.{option_map}
 use Rattle.at_model.specs.Instances.{AnyText}
@@ -103,9 +103,9 @@ TellsOfEnded old resolved.Open = Unit {0}
 
 -- It is told so; meanwhile what was seen, has ended and has a value may be known from now on, and no more than that. Nothing changes where no
 -- equation has ended.
-pub record HasResolved {E : Type 0} (rules : Rules) (s : Shown) (exact : Bool) (before after : Entries) (former latter : Memories) (earlier later : ℕ)
+pub record HasResolved {E : Type 0} (rules : Rules) (s : Shown) (before after : Entries) (former latter : Memories) (earlier later : ℕ)
     (old new : Question) (i : Instance ℕ) (r : Result Resolved E) : Type 0 where
-  pub tells : Tells rules s exact before after former latter earlier later old new (under (all_levels old)) (KeepsGroups rules r)
+  pub tells : Tells rules s before after former latter earlier later old new (under (all_levels old)) (KeepsGroups rules r)
   pub can : OnOk r (CanResolve rules s after new)
   pub is : IfOk r (IsResolved rules (contents s) before after old new i)
   pub ended : IfOk r (TellsOfEnded old)
@@ -146,9 +146,9 @@ look_of (resolved.Spoilt f) = look_is.Ended
 look_of resolved.Back = look_is.Back
 look_of resolved.Open = look_is.Untried
 
-pub record HasLookedAt {E : Type 0} (rules : Rules) (s : Shown) (exact : Bool) (before after : Entries) (former latter : Memories) (earlier later : ℕ)
+pub record HasLookedAt {E : Type 0} (rules : Rules) (s : Shown) (before after : Entries) (former latter : Memories) (earlier later : ℕ)
     (old new : Question) (i : Instance ℕ) (r : Result Look E) : Type 0 where
-  pub tells : Tells rules s exact before after former latter earlier later old new (under (all_levels old)) (KeepsGroups rules r)
+  pub tells : Tells rules s before after former latter earlier later old new (under (all_levels old)) (KeepsGroups rules r)
   pub can : OnOk r (CanResolve rules s after new)
   pub is : IfOk r (IsLookedAt rules (contents s) before after old new i)
   pub since : (j : Instance ℕ) → IsSome (known_to after new j) → IsSome (known_to before old j) ⊎ Among j (keys_of old.ended.entries)
@@ -246,8 +246,8 @@ abbrev pub WasSeenBy : Question → Instance ℕ → Type 0
 WasSeenBy old i = Among i (under (all_levels old)) ⊎ Among i (keys_of old.ended.entries)
 
 -- What became of what is known since: what came are values of instances that levels under way had seen, or whose equations had ended. That stays
--- right and sound and, with an exact keeper, spare, where groups are kept whole; the work counts it, and nothing is traced.
-pub record GainsBetween (rules : Rules) (s : Shown) (exact : Bool) (before after : Entries) (former latter : Memories) (earlier later : ℕ)
+-- right and sound, and spare where groups are kept whole; the work counts it, and nothing is traced.
+pub record GainsBetween (rules : Rules) (s : Shown) (before after : Entries) (former latter : Memories) (earlier later : ℕ)
     (old new : Question) (Whole : Type 0) : Type 0 where
   pub stays : KeepsEntries before after
   pub finds : (more : List (Instance ℕ × Find)) × (new.found.entries ≡ old.found.entries ++ more)
@@ -260,11 +260,11 @@ pub record GainsBetween (rules : Rules) (s : Shown) (exact : Bool) (before after
       × (is_lazy rules i.attribute ≡ true))
   pub others : (i : Instance ℕ) → IsSome (after i) → IsSome (before i) ⊎ (IsKept after i ⊎ IsFound new.found.entries i)
   pub worthy : AddsWorthy rules (contents s) (asked_by old) before after
-  pub spare : Whole → IsTrue exact → AreSpare rules (contents s) before → AreLean rules (contents s) old.found.entries
+  pub spare : Whole → AreSpare rules (contents s) before → AreLean rules (contents s) old.found.entries
       → AreSettled rules before old.found.entries → AreSpare rules (contents s) after
-  pub lean : IsTrue exact → AreLean rules (contents s) old.found.entries → AreLean rules (contents s) new.found.entries
-  pub settled : IsTrue exact → AreSettled rules before old.found.entries → AreSettled rules after new.found.entries
-  pub counts : IsTrue exact → Counts before after earlier later
+  pub lean : AreLean rules (contents s) old.found.entries → AreLean rules (contents s) new.found.entries
+  pub settled : AreSettled rules before old.found.entries → AreSettled rules after new.found.entries
+  pub counts : Counts before after earlier later
   pub traces : PutsInTurns former latter
 
 -- from there it follows so for the model, where these values are kept
@@ -319,9 +319,9 @@ FollowsIn rules s before after old new (searched.Back i) = IsFollowed rules (con
     → HasComeAbout rules (contents s) after new
 FollowsIn rules s before after old new searched.Over = FollowsOn rules s before after old new
 
-pub record HasSearched {E : Type 0} (rules : Rules) (s : Shown) (exact : Bool) (before after : Entries) (former latter : Memories) (earlier later : ℕ)
+pub record HasSearched {E : Type 0} (rules : Rules) (s : Shown) (before after : Entries) (former latter : Memories) (earlier later : ℕ)
     (old new : Question) (r : Result Searched E) : Type 0 where
-  pub gains : GainsBetween rules s exact before after former latter earlier later old new (KeepsGroups rules r)
+  pub gains : GainsBetween rules s before after former latter earlier later old new (KeepsGroups rules r)
   pub waiting : new.waiting.entries ≡ old.waiting.entries
   pub root : root_in new.level new.inst ≡ root_in old.level old.inst
   pub stays : OnOk r (StaysOn old new)
@@ -349,9 +349,9 @@ pub record ComesOn (rules : Rules) (s : Shown) (before after : Entries) (old new
   pub follows : FromFirst rules s before old (λ first l. GoesOnSo rules s first after l new)
 
 -- it has looked at one to do, and has come further by that, or to where it comes to
-pub record HasSearchedOn {E : Type 0} (rules : Rules) (s : Shown) (exact : Bool) (before after : Entries) (former latter : Memories)
+pub record HasSearchedOn {E : Type 0} (rules : Rules) (s : Shown) (before after : Entries) (former latter : Memories)
     (earlier later : ℕ) (old new : Question) (r : Result (Option Searched) E) : Type 0 where
-  pub gains : GainsBetween rules s exact before after former latter earlier later old new (KeepsGroups rules r)
+  pub gains : GainsBetween rules s before after former latter earlier later old new (KeepsGroups rules r)
   pub waiting : new.waiting.entries ≡ old.waiting.entries
   pub root : root_in new.level new.inst ≡ root_in old.level old.inst
   pub stays : OnOk r (StaysOn old new)
@@ -379,11 +379,11 @@ pub record IsLevelOver (rules : Rules) (look : Contents ℕ) (entries : Entries)
 
 -- The last level has seen nothing any more: what it had seen is marked whole, and known where it has a value. Where its search was over that is
 -- as it has to be; and where it stood before one that wants what has no outcome, each that has a value is known.
-pub record HasSolvedLevel {E : Type 0} (rules : Rules) (s : Shown) (exact : Bool) (before after : Entries) (former latter : Memories)
+pub record HasSolvedLevel {E : Type 0} (rules : Rules) (s : Shown) (before after : Entries) (former latter : Memories)
     (earlier later : ℕ) (old new : Question) (r : Result Unit E) : Type 0 where
   pub mid : Question
   pub lost : HasLostSeen old mid
-  pub tells : Tells rules s exact before after former latter earlier later mid new (seen_in old.level) (KeepsGroups rules r)
+  pub tells : Tells rules s before after former latter earlier later mid new (seen_in old.level) (KeepsGroups rules r)
   pub marked : OnOk r ((i : Instance ℕ) → Among i (seen_in old.level) → IsMarked new.ended.entries i)
   pub can : OnOk r (IsLevelOver rules (contents s) before old → CanResolve rules s after new)
   pub told : OnOk r ((n : Instance ℕ)
@@ -403,9 +403,9 @@ pub record HasRisenTo {E : Type 0} (before after : Entries) (former latter : Mem
   ])
 
 -- so it is: what its levels had seen may be known from now on
-pub record HasClosed {E : Type 0} (rules : Rules) (s : Shown) (exact : Bool) (before after : Entries) (former latter : Memories) (earlier later : ℕ)
+pub record HasClosed {E : Type 0} (rules : Rules) (s : Shown) (before after : Entries) (former latter : Memories) (earlier later : ℕ)
     (old new : Question) (at : Instance ℕ) (r : Result (Option Answer) E) : Type 0 where
-  pub gains : GainsBetween rules s exact before after former latter earlier later old new (KeepsGroups rules r)
+  pub gains : GainsBetween rules s before after former latter earlier later old new (KeepsGroups rules r)
   pub stays : OnOk r (StaysOn old new)
   pub is : IfOk r (λ o. o ≡ Some (answer.Circular at))
   pub told : OnOk r (KnowsValued rules (contents s) after new (λ i. IsSeenBy old i))
@@ -444,19 +444,19 @@ HasLeftSo rules s before after old new u (left.Told o) = FitAfter rules s after 
 HasLeftSo rules s before after old new u left.Fallen = GoesDown rules s before after old new u
 
 -- so it is where the question isn't answered; else all that is worthy of it is kept
-abbrev pub LeavesAll : Rules → Shown → (exact : Bool) → (before after : Entries) → (old new : Question) → Left → Type 0
-LeavesAll rules s exact before after old new (left.Told None) = IsSparingTurns rules (contents s) before old
+abbrev pub LeavesAll : Rules → Shown → (before after : Entries) → (old new : Question) → Left → Type 0
+LeavesAll rules s before after old new (left.Told None) = IsSparingTurns rules (contents s) before old
     → IsFollowed rules (contents s) after new
-LeavesAll rules s exact before after old new (left.Told (Some a)) = IsTrue exact → AreSpare rules (contents s) before
+LeavesAll rules s before after old new (left.Told (Some a)) = AreSpare rules (contents s) before
     → IsSparingTurns rules (contents s) before old → HasWorthyFor rules (contents s) (asked_by old) (answer_view a) after
-LeavesAll rules s exact before after old new left.Fallen = IsSparingTurns rules (contents s) before old
+LeavesAll rules s before after old new left.Fallen = IsSparingTurns rules (contents s) before old
     → IsFollowed rules (contents s) after new
 
-pub record HasLeft {E : Type 0} (rules : Rules) (s : Shown) (exact : Bool) (before after : Entries) (former latter : Memories) (earlier later : ℕ)
+pub record HasLeft {E : Type 0} (rules : Rules) (s : Shown) (before after : Entries) (former latter : Memories) (earlier later : ℕ)
     (old new : Question) (u : Trials) (r : Result Left E) : Type 0 where
-  pub gains : GainsBetween rules s exact before after former latter earlier later old new (KeepsGroups rules r)
+  pub gains : GainsBetween rules s before after former latter earlier later old new (KeepsGroups rules r)
   pub stays : OnOk r (StaysOn old new)
-  pub all : IfOk r (LeavesAll rules s exact before after old new)
+  pub all : IfOk r (LeavesAll rules s before after old new)
   pub so : IfOk r (HasLeftSo rules s before after old new u)
 
 -- what a search leaves as it is, and that what was found is sound: no turn is counted
@@ -465,26 +465,26 @@ pub record StaysSo (rules : Rules) (s : Shown) (after : Entries) (old new : Ques
   pub passed : new.passed.entries ≡ old.passed.entries
   pub finds : AreSoundFinds rules s after new
 
--- What a search leaves beside what it is for the model: what came to be kept is of instances that had been seen. With an exact keeper it spares
--- still, and has all that is worthy, for an answer.
-pub record LeavesSo {E : Type 0} (rules : Rules) (s : Shown) (exact : Bool) (before after : Entries) (old new : Question)
+-- What a search leaves beside what it is for the model: what came to be kept is of instances that had been seen. It stays
+-- spare, and has all that is worthy, for an answer.
+pub record LeavesSo {E : Type 0} (rules : Rules) (s : Shown) (before after : Entries) (old new : Question)
     (r : Result (Option Answer) E) : Type 0 where
   pub stays : OnOk r (StaysSo rules s after old new)
   pub last : (i : Instance ℕ) → (kept_values after i ≡ kept_values before i) ⊎ (WasSeenBy old i × IsKept after i
       × (is_lazy rules i.attribute ≡ true))
   pub others : (i : Instance ℕ) → IsSome (after i) → IsSome (before i) ⊎ (IsKept after i ⊎ (IsFound old.found.entries i ⊎ WasSeenBy old i))
-  pub all : IsTrue exact → AreSpare rules (contents s) before → IsSparingTurns rules (contents s) before old
+  pub all : AreSpare rules (contents s) before → IsSparingTurns rules (contents s) before old
       → IfOk r (λ o. IfSome o (λ a. HasWorthyFor rules (contents s) (asked_by old) (answer_view a) after))
-  pub sparing : IsTrue exact → AreSpare rules (contents s) before → IsSparingTurns rules (contents s) before old
+  pub sparing : AreSpare rules (contents s) before → IsSparingTurns rules (contents s) before old
       → IfOk r (λ o. IsOfUse rules o (IsSparingTurns rules (contents s) after new))
 
 -- The search has gone along behind a try: it stands at another one, or the question is answered. It is what `Follows` says of the model.
-pub record HasGoneAlong {E : Type 0} (rules : Rules) (s : Shown) (exact : Bool) (before after : Entries) (former latter : Memories) (earlier later : ℕ)
+pub record HasGoneAlong {E : Type 0} (rules : Rules) (s : Shown) (before after : Entries) (former latter : Memories) (earlier later : ℕ)
     (old new : Question) (t : Trials) (r : Result (Option Answer) E) : Type 0 where
-  pub gains : GainsBetween rules s exact before after former latter earlier later old new (KeepsGroups rules r)
+  pub gains : GainsBetween rules s before after former latter earlier later old new (KeepsGroups rules r)
   pub follows : FromFirst rules s before old (λ first l. IfOk r (λ o. FollowsTo rules s first after l new (option_map answer_view o)))
   pub fit : IfOk r (FitAfter rules s after new t)
-  pub leaves : LeavesSo rules s exact before after old new r
+  pub leaves : LeavesSo rules s before after old new r
 
 -- a turn can be given, where what was asked isn't kept
 pub record CanTurnOn (rules : Rules) (s : Shown) (entries : Entries) (q : Question) (t : Trials) : Type 0 where
@@ -516,10 +516,10 @@ pub record TurnsBy {E : Type 0} (rules : Rules) (s : Shown) (before after : Entr
       × (o ≡ None → StandsFor rules s after new v))
 
 -- the question goes along so
-pub record HasSpoilt {E : Type 0} (rules : Rules) (s : Shown) (exact : Bool) (before after : Entries) (former latter : Memories) (earlier later : ℕ)
+pub record HasSpoilt {E : Type 0} (rules : Rules) (s : Shown) (before after : Entries) (former latter : Memories) (earlier later : ℕ)
     (old new : Question) (t : Trials) (f : Fault) (r : Result (Option Answer) E) : Type 0 where
-  pub gains : GainsBetween rules s exact before after former latter earlier later old new (KeepsGroups rules r)
+  pub gains : GainsBetween rules s before after former latter earlier later old new (KeepsGroups rules r)
   pub turned : TurnsBy rules s before after old new r
   pub fit : IfOk r (FitAfter rules s after new t)
-  pub leaves : LeavesSo rules s exact before after old new r
+  pub leaves : LeavesSo rules s before after old new r
   pub plainly : old.ended.entries ≡ [] → (new ≡ old) × (after ≡ before)

@@ -1,5 +1,5 @@
 -- What one try of a question's last instance comes to, for a value or for a formula.
-use Rattle.std.specs.Prelude.{◌≡◌, ℕ, Bool, List, [], ◌∷◌, ◌++◌, Some, None, IsSome, IsTrue, IfOk, Result}
+use Rattle.std.specs.Prelude.{◌≡◌, ℕ, List, [], ◌∷◌, ◌++◌, Some, None, IsSome, IfOk, Result}
 use Rattle.at_model.specs.Instances.{AnyText}
 use Rattle.at_model.specs.Meaning.{Reaches}
 use Rattle.at_model.specs.Rules.{Rules, start_of}
@@ -68,8 +68,8 @@ pub record CanCarryOn (rules : Rules) (s : Shown) (entries : Entries) (found : L
   pub finds : AreFinds rules s entries found
   pub unkept : kept_values entries i ≡ None
 
--- One try of an instance has come to this. What is kept stays right; with an exact keeper it stays spare, and the work counts what is added.
-pub record HasCarriedOn {E : Type 0} (rules : Rules) (s : Shown) (exact : Bool) (before after : Entries) (earlier later : ℕ)
+-- One try of an instance has come to this. What is kept stays right and spare, and the work counts what is added.
+pub record HasCarriedOn {E : Type 0} (rules : Rules) (s : Shown) (before after : Entries) (earlier later : ℕ)
     (found : List (Instance ℕ × Find)) (i : Instance ℕ) (r : Result Tried E) : Type 0 where
   pub tried : IfOk r (HasTriedTo rules (class_shown s) (contents s) before after found i)
   pub right : AreRightValues (contents s) (meaning rules) (kept_values after)
@@ -77,8 +77,8 @@ pub record HasCarriedOn {E : Type 0} (rules : Rules) (s : Shown) (exact : Bool) 
   pub plain : ArePlain rules after
   pub gains : MayGain rules found before after i
   pub worthy : AddsWorthy rules (contents s) i before after
-  pub spare : IsTrue exact → AreSpare rules (contents s) before → AreLean rules (contents s) found → AreSettled rules before found
+  pub spare : AreSpare rules (contents s) before → AreLean rules (contents s) found → AreSettled rules before found
       → AreSpare rules (contents s) after
-  pub settles : IsTrue exact → AreSpare rules (contents s) before → AreSettled rules before found → IfOk r (SettlesOn rules after found i)
-  pub counts : IsTrue exact → Counts before after earlier later
+  pub settles : AreSpare rules (contents s) before → AreSettled rules before found → IfOk r (SettlesOn rules after found i)
+  pub counts : Counts before after earlier later
   pub idle : IfOk r (IsIdleBy before after earlier later)

@@ -19,7 +19,8 @@ pub data Went (old : Memories) (before : ℕ) : Memories → ℕ → Type 0 wher
       → Went old before o k
 
 -- Meanwhile an edit touched what was looked at for the trace of i, or a question or a turn put something that was used for it with another
--- value, or a turn put i itself; or an edit let go of what could be kept again, since much more was in memory than was kept.
+-- value, or a turn put i itself; or an edit let go of what could be kept again, since more was in memory than a bound allows, or
+-- much more than was kept.
 pub data HasCause (old : Memories) (before : ℕ) (i : Instance ℕ) (t : Trace) : (new : Memories) (later : ℕ) → Went old before new later
     → Type 0 where
   touched : (n o : Memories) (s : Shown) (x : Edit) (b : Bool) (k : ℕ) (w : Went old before n k) (h : SparesAtEdit (Touches s x) b n o)

@@ -1,17 +1,18 @@
 //! Questions for the values of instances.
 
-ghost use Rattle.std.specs.Prelude.{◌≡◌, ◌<◌, ◌^◌, [], is_some, map, IfOk, IfSome, OnSome, IsTrue, None, true};
+ghost use Rattle.std.specs.Prelude.{◌≡◌, ◌<◌, ◌^◌, [], is_some, map, IfOk, IfSome, OnSome, None, false, true};
 ghost use Rattle.at_model.specs.of_fixpoints.Fixpoints.{HasValue};
 ghost use Rattle.at_store.specs.Located.{loc_view};
 ghost use Rattle.at_store.specs.Shown.{IsIdle, contents};
 ghost use Rattle.at_body.specs.Values.{value_view};
-ghost use Rattle.at_cache.specs.Kept.{AreKept, AreNamed, Answers as Says, value_at};
+ghost use Rattle.at_cache.specs.Kept.{AreKept, AreNamed, Answers as Says, LeavesKept, value_at};
+ghost use Rattle.at_cache.specs.Traced.{StayTraced};
 ghost use Rattle.at_demand.specs.Answerable.{CanBeAsked, CanBeKept, CanBeKeptLazily};
 ghost use Rattle.at_demand.specs.Known.{meaning};
 ghost use Rattle.at_demand.specs.Made.{Makes};
 ghost use Rattle.at_demand.specs.Went.{Went};
 ghost use Rattle.at_demand.specs.Keeping.{IsKeptWhereLazy, IsPlaced, IsPut};
-ghost use Rattle.at_demand.specs.Answered.{Forgets, IsAnswered};
+ghost use Rattle.at_demand.specs.Answered.{Forgets, IsAnswered, is_over};
 ghost use Rattle.at_demand.specs.Reasons.{AreLed};
 ghost use Rattle.at_demand.specs.Sparing.{AreSpare, HasWorthy};
 ghost use Rattle.at_demand.specs.Inner.{Gains};
@@ -34,7 +35,7 @@ use crate::sharing::Sharing;
 use crate::trials::Trials;
 use at_apply::Stop;
 use at_body::{Inst, Value};
-use at_cache::{Keeper, Order, Put};
+use at_cache::{Keeper, Order};
 use at_rules::Rules;
 use at_store::{Loc, Places, Store};
 use indexmap::IndexMap;
@@ -80,9 +81,9 @@ impl<K: Keeper> Demand<K> {
         }
     }
 
-    /// The answer for a well-typed instance, over well-formed rules and a sound tree, where what is kept is right. With an
-    /// exact keeper just the lazy instances come to what is kept that the question leads to and that have a value, and the
-    /// work grows by their number. An error where memory is wanting.
+    /// The answer for a well-typed instance, over well-formed rules and a sound tree, where what is kept is right. Just the lazy
+    /// instances come to what is kept that the question leads to and that have a value, and the work grows by their number. An error where
+    /// memory is wanting.
     pub fn answer(
         &mut self,
         rules: &Rules,
@@ -90,7 +91,7 @@ impl<K: Keeper> Demand<K> {
         inst: &Inst,
     ) -> Result<Answer, AllocError>
         requires { CanBeAsked rules.now store.now (K.contents self.old.keeper) (K.memories self.old.keeper) inst.now }
-        ensures { IsAnswered rules.now store.now K.exact (K.contents self.old.keeper) (K.contents self.new.keeper)
+        ensures { IsAnswered rules.now store.now (K.contents self.old.keeper) (K.contents self.new.keeper)
             (K.memories self.old.keeper) (K.memories self.new.keeper) self.old.work self.new.work inst.now result self.new.in_turns
             self.old.made self.new.made }
     {
@@ -116,7 +117,7 @@ impl<K: Keeper> Demand<K> {
         inst: &Inst,
     ) -> Result<Answer, AllocError>
         requires { CanBeAsked rules.now store.now (K.contents self.old.keeper) (K.memories self.old.keeper) inst.now }
-        ensures { IsAnswered rules.now store.now K.exact (K.contents self.old.keeper) (K.contents self.new.keeper)
+        ensures { IsAnswered rules.now store.now (K.contents self.old.keeper) (K.contents self.new.keeper)
             (K.memories self.old.keeper) (K.memories self.new.keeper) self.old.work self.new.work inst.now result self.new.in_turns
             self.old.made self.new.made }
     {
@@ -143,9 +144,9 @@ impl<K: Keeper> Demand<K> {
         requires idle { IsIdle store.now }
         requires held { AreHeld rules.now store.now (K.contents self.old.keeper) (K.memories self.old.keeper) self.old.work self.old.made }
         ensures value { IfOk result (λ o. IfSome o (λ v. HasValue (contents store.now) (meaning rules.now) inst.now (value_view v))) }
-        ensures all { IsTrue K.exact → AreSpare rules.now (contents store.now) (K.contents self.old.keeper)
+        ensures all { AreSpare rules.now (contents store.now) (K.contents self.old.keeper)
             → IfOk result (λ o. OnSome o (HasWorthy rules.now (contents store.now) inst.now (K.contents self.new.keeper))) }
-        ensures gains { Gains rules.now store.now K.exact inst.now (K.contents self.old.keeper) (K.contents self.new.keeper) [] [] self.old.work self.new.work }
+        ensures gains { Gains rules.now store.now inst.now (K.contents self.old.keeper) (K.contents self.new.keeper) [] [] self.old.work self.new.work }
         ensures led { AreLed rules.now store.now inst.now (K.contents self.old.keeper) (K.contents self.new.keeper) }
         ensures traces { StayJustified rules.now store.now inst.now (K.memories self.old.keeper) (K.memories self.new.keeper) }
         ensures makes { Makes (K.contents self.old.keeper) (K.contents self.new.keeper) (K.memories self.old.keeper) (K.memories self.new.keeper)
@@ -171,7 +172,7 @@ impl<K: Keeper> Demand<K> {
         inst: &Inst,
     ) -> Result<Answer, AllocError>
         requires { CanBeAsked rules.now store.now (K.contents self.old.keeper) (K.memories self.old.keeper) inst.now }
-        ensures { IsAnswered rules.now store.now K.exact (K.contents self.old.keeper) (K.contents self.new.keeper)
+        ensures { IsAnswered rules.now store.now (K.contents self.old.keeper) (K.contents self.new.keeper)
             (K.memories self.old.keeper) (K.memories self.new.keeper) self.old.work self.new.work inst.now result true self.old.made self.new.made }
     {
         let mut question = self.post(inst.copy(self.alloc)?)?;
@@ -206,7 +207,7 @@ impl<K: Keeper> Demand<K> {
     ) -> Result<usize, AllocError>
         requires idle { IsIdle store.now }
         requires held { AreHeld rules.now store.now (K.contents self.old.keeper) (K.memories self.old.keeper) self.old.work self.old.made }
-        ensures gains { Gains rules.now store.now K.exact question.now.inst (K.contents self.old.keeper) (K.contents self.new.keeper) [] []
+        ensures gains { Gains rules.now store.now question.now.inst (K.contents self.old.keeper) (K.contents self.new.keeper) [] []
             self.old.work self.new.work }
         ensures led { AreLed rules.now store.now question.now.inst (K.contents self.old.keeper) (K.contents self.new.keeper) }
         ensures traces { StayJustified rules.now store.now question.now.inst (K.memories self.old.keeper) (K.memories self.new.keeper) }
@@ -224,14 +225,21 @@ impl<K: Keeper> Demand<K> {
         Ok(due_next(due, question.waiting.len(), self.work == before))
     }
 
-    /// Forgets what an edit touches, all of which the places name: called once the edit is decided, and before it is made.
-    pub fn after_edit_at<F: Fn(Loc) -> bool>(&mut self, places: &Places<'_>, touched: &F)
+    /// Forgets what an edit touches, all of which the places name: called once the edit is decided, and before it is made. Where there is a
+    /// bound on how many entries are in memory, no more are left than that.
+    pub fn after_edit_at<F: Fn(Loc) -> bool>(
+        &mut self,
+        most: Option<usize>,
+        places: &Places<'_>,
+        touched: &F,
+    )
         requires callable { F.IsAlwaysCallable touched.now }
         requires named { AreNamed places.now (F.post touched.now) }
-        ensures { Forgets (Says (F.post touched.now)) K.exact (K.crowded self.old.keeper) (K.contents self.old.keeper)
+        ensures { Forgets (Says (F.post touched.now)) (is_over most (K.count self.old.keeper)) (K.crowded self.old.keeper) (K.contents self.old.keeper)
             (K.contents self.new.keeper) (K.memories self.old.keeper) (K.memories self.new.keeper) self.old.work self.new.work self.old.made self.new.made }
     {
-        self.keeper.flush_at(places, touched);
+        fit(&mut self.keeper, most);
+        self.keeper.flush(places, touched);
     }
 
     /// How many values of lazy attributes were made: found by an evaluation that ended, and put. What is kept again isn't made, with `work` all
@@ -256,7 +264,7 @@ impl<K: Keeper> Demand<K> {
         self.work
     }
 
-    // Keeps the value that was found of the instance, if its attribute is lazy, and says whether it is kept.
+    // Keeps the value that was found of the instance, if its attribute is lazy, and says whether it is.
     #[inline(always)]
     fn keep(
         &mut self,
@@ -264,21 +272,23 @@ impl<K: Keeper> Demand<K> {
         found: &IndexMap<Inst, Find>,
         inst: &Inst,
         find: &Find,
-    ) -> Result<Put, AllocError>
+    ) -> Result<bool, AllocError>
         requires { CanBeKept rules.now (K.contents self.old.keeper) found.now.entries inst.now find.now }
-        ensures { IsKeptWhereLazy rules.now K.exact (K.contents self.old.keeper) (K.contents self.new.keeper)
+        ensures { IsKeptWhereLazy rules.now (K.contents self.old.keeper) (K.contents self.new.keeper)
             (K.memories self.old.keeper) (K.memories self.new.keeper) self.old.work self.new.work found.now.entries inst.now find.now result }
     {
         if !rules.is_lazy(inst.attribute()) {
-            return Ok(Put::Left);
+            return Ok(false);
         }
         // Where no other find stands below it, it rests on its own reads and what it took of what is kept.
         if find.demanded.finds.is_empty() {
             let reads = find.reads.as_slice();
             let kept = find.demanded.kept.as_slice();
-            return self.put(inst, &find.value, reads, kept);
+            self.put(inst, &find.value, reads, kept)?;
+            return Ok(true);
         }
-        self.keep_with(rules, found, inst, find)
+        self.keep_with(rules, found, inst, find)?;
+        Ok(true)
     }
 
     // Keeps a find for all that it and those below it rest on.
@@ -288,19 +298,19 @@ impl<K: Keeper> Demand<K> {
         found: &IndexMap<Inst, Find>,
         inst: &Inst,
         find: &Find,
-    ) -> Result<Put, AllocError>
+    ) -> Result<(), AllocError>
         requires { CanBeKeptLazily rules.now (K.contents self.old.keeper) found.now.entries inst.now find.now }
-        ensures { IsPlaced rules.now K.exact (K.contents self.old.keeper) (K.contents self.new.keeper)
+        ensures { IsPlaced rules.now (K.contents self.old.keeper) (K.contents self.new.keeper)
             (K.memories self.old.keeper) (K.memories self.new.keeper) self.old.work self.new.work found.now.entries inst.now find.now result }
     {
         let sources = self.gather(rules, found, find)?;
-        let put = self.put(
+        self.put(
             inst,
             &find.value,
             sources.reads.as_slice(),
             sources.kept.as_slice(),
         )?;
-        Ok(put)
+        Ok(())
     }
 
     // Puts a value to what is kept, and counts it.
@@ -311,13 +321,13 @@ impl<K: Keeper> Demand<K> {
         value: &Value,
         reads: &[Loc],
         uses: &[Inst],
-    ) -> Result<Put, AllocError>
+    ) -> Result<(), AllocError>
         requires absent { K.contents self.old.keeper inst.now ≡ None }
         requires present { AreKept (K.contents self.old.keeper) uses.now }
-        ensures { IsPut K.exact (K.contents self.old.keeper) (K.contents self.new.keeper)
+        ensures { IsPut (K.contents self.old.keeper) (K.contents self.new.keeper)
             (K.memories self.old.keeper) (K.memories self.new.keeper) self.old.work self.new.work inst.now value.now (map loc_view reads.now) uses.now result }
     {
-        let put = self.keeper.put(
+        self.keeper.put(
             inst.copy(self.alloc)?,
             Some(value.copy()?),
             reads,
@@ -325,7 +335,19 @@ impl<K: Keeper> Demand<K> {
             Order::Any,
         )?;
         self.work = self.work.saturating_add(1);
-        Ok(put)
+        Ok(())
+    }
+}
+
+// Where there is a bound, no more entries are left in memory than that.
+fn fit<K: Keeper>(keeper: &mut K, most: Option<usize>)
+    ensures kept { LeavesKept (K.contents keeper.old) (K.contents keeper.new) }
+    ensures stay { StayTraced (K.memories keeper.old) (K.memories keeper.new) }
+    ensures within { is_over most (K.count keeper.old) ≡ false → keeper.new ≡ keeper.old }
+{
+    match most {
+        Some(most) => keeper.fit(most),
+        None => {}
     }
 }
 

@@ -2,7 +2,7 @@
 //!
 //! **Its specs**, in order: `Known` is what is known meanwhile, `UnderWay` how far an evaluation has come; `Right` says when what is kept is right,
 //! `Covering` how the locations of an entry come together, `Only` that nothing else does, `Keeping` what becomes of a
-//! find that is to be kept, and which entries without a value come before; `Sparing` what an exact keeper has and how
+//! find that is to be kept, and which entries without a value come before; `Sparing` how little of that is enough and how
 //! much comes, `Advancing` what an evaluation comes to and `Answered` a question, `Touched` and `Spared` what an edit leaves,
 //! `Called` the same by paths. `Inner` is what instances are told that are evaluated in one go, and what comes of it, `InParts` the same of an
 //! expression, part by part, and how each function of it ends, and `Traces` when what can be kept again with no evaluation is right; `Made` says which values
@@ -18,7 +18,7 @@
 //! rules or tree between turns. Once an equation ends by a formula its level is a search: `demand/searching.rt` goes on with it over what
 //! `at_search` says, and `demand/solving.rt` keeps what is solved. What many kept values rest on is gathered in `gathering.rt` and stands once by `demand/shared.rt`.
 //!
-//! **What it keeps true:** what is kept is right, and, with an exact keeper, spare; `laws.rt` and `turning_laws.rt`
+//! **What it keeps true:** what is kept is right, and spare where it was; `laws.rt` and `turning_laws.rt`
 //! say that it stays so over questions and edits.
 #![tactic(auto)]
 

@@ -100,9 +100,9 @@ pub fn what_comes_has_a_reason()
 
 /// Demands lead from an instance to all that is kept again for it.
 pub fn what_is_kept_again_is_demanded()
-    ensures { (rules : Rules) (s : Shown) → IsIdle s → (exact : Bool) (m : Memories) (q : Instance ℕ) (n : ℕ) (old new : Entries)
+    ensures { (rules : Rules) (s : Shown) → IsIdle s → (m : Memories) (q : Instance ℕ) (n : ℕ) (old new : Entries)
         → AreJustified rules (contents s) m → AreKnown rules (contents s) old []
-        → ((i : Instance ℕ) (v : Value ℕ) → kept_values old i ≡ Some v → m.last i ≡ Some v) → Settled exact m q n old new
+        → ((i : Instance ℕ) (v : Value ℕ) → kept_values old i ≡ Some v → m.last i ≡ Some v) → Settled m q n old new
         → AddsDemanded (contents s) (meaning rules) q (kept_values old) (kept_values new) }
 {}
 

@@ -31,10 +31,10 @@ use Rattle.at_engine.proofs.Sessions.{session_of_line}
 use Rattle.at_engine.proofs.of_turns.Counted.{out_behind}
 
 -- what is told at once is heard so
-pub heard_at_once : {K : Type 0} (exact : Bool) (entries : K → Entries) (memories : K → Memories) (old new : Engine K) (l : Line) (told : Told) (r : Result FormValue AllocError)
+pub heard_at_once : {K : Type 0} (entries : K → Entries) (memories : K → Memories) (old new : Engine K) (l : Line) (told : Told) (r : Result FormValue AllocError)
     → told.session ≡ Some l.session → told.done ≡ None → told.form ≡ r → IfOk r (λ f. Meets (rules_of old) (state_of old) l f (state_of new))
-    → OnErr r (state_of new ≡ state_of old) → IsAtOnce (verdict (rules_of old) (state_of old) l) → Hears exact entries memories old new l told
-heard_at_once exact entries memories old new l told r session done form meets err soon = hearing.at_once session done
+    → OnErr r (state_of new ≡ state_of old) → IsAtOnce (verdict (rules_of old) (state_of old) l) → Hears entries memories old new l told
+heard_at_once entries memories old new l told r session done form meets err soon = hearing.at_once session done
     (subst (λ (x : Result FormValue AllocError). IfOk x (λ f. Meets (rules_of old) (state_of old) l f (state_of new))) (sym form) meets)
     (subst (λ (x : Result FormValue AllocError). OnErr x (state_of new ≡ state_of old)) (sym form) err) soon
 
@@ -51,9 +51,9 @@ pub not_both : false ≡ true → ⊥
 not_both e = absurd cc
 
 -- what a line is told is a reply to it
-module _ {K : Type 0} (exact : Bool) (entries : K → Entries) (memories : K → Memories) (old new : Engine K) (bytes : List ℕ) (l : Line) (spells : Spells bytes l) where
+module _ {K : Type 0} (entries : K → Entries) (memories : K → Memories) (old new : Engine K) (bytes : List ℕ) (l : Line) (spells : Spells bytes l) where
   abbrev May : Bool × Reply → Type 0
-  May = IsStep exact entries memories bytes old new
+  May = IsStep entries memories bytes old new
 
   abbrev becomes : Verdict
   becomes = verdict (rules_of old) (state_of old) l
@@ -94,7 +94,7 @@ module _ {K : Type 0} (exact : Bool) (entries : K → Entries) (memories : K →
     abbrev question : PostedOf
     question = posted_view (path old.store) p
 
-    waited_step : (told : Bool × Reply) (given : ℕ) → Replies (state_of new) told → AnswersIn exact entries memories None old new.demand p given told
+    waited_step : (told : Bool × Reply) (given : ℕ) → Replies (state_of new) told → AnswersIn entries memories None old new.demand p given told
         → May told
     waited_step told given serves tried = record {
       serves = serves;
@@ -109,7 +109,7 @@ module _ {K : Type 0} (exact : Bool) (entries : K → Entries) (memories : K →
     }
 
     -- what turns told, in the words of what was told
-    replied : (told : Told) → IsClosed exact entries memories old new p told → (wants : Bool) (form : Form)
+    replied : (told : Told) → IsClosed entries memories old new p told → (wants : Bool) (form : Form)
         → Answered (rules_of old) p.number (state_of old) (without p.number (state_of old)) (wants, done_reply (state_of old) question form)
         → Replies (state_of new) (wants, record { session = told.session; done = option_map posting_view told.done; form = form })
     replied told c wants form answered =
@@ -119,22 +119,22 @@ module _ {K : Type 0} (exact : Bool) (entries : K → Entries) (memories : K →
         (subst (λ (x : State). Replies x (wants, done_reply (state_of old) question form)) (sym c.gone)
         (machine.handles (waits l p.number spells is answered)))
 
-    memory_answer : (told : Told) → IsClosed exact entries memories old new p told → Replies (state_of new) (true, memory_for told.session told.done)
+    memory_answer : (told : Told) → IsClosed entries memories old new p told → Replies (state_of new) (true, memory_for told.session told.done)
     memory_answer told c = replied told c true Memory (last (runs_out question c.there))
 
-    got_by_turns : (told : Told) → IsClosed exact entries memories old new p told → (r : Result FormValue AllocError)
-        → HasEnded exact entries memories old new.demand p r → Gets May told.session told.done r
+    got_by_turns : (told : Told) → IsClosed entries memories old new p told → (r : Result FormValue AllocError)
+        → HasEnded entries memories old new.demand p r → Gets May told.session told.done r
     got_by_turns told c (Ok f) (given, said, ends) = record {
       writable = said.writable;
       form = said.form;
       is_form = said.is_form;
       may = waited_step _ given (replied told c false said.form (last (answers question said.form c.there said.answers))) ends;
       unsaid = λ long. waited_step _ given (memory_answer told c)
-          (out_behind exact entries memories None old new.demand p given 0 f said.form tt ends);
+          (out_behind entries memories None old new.demand p given 0 f said.form tt ends);
     }
     got_by_turns told c (Err e) ended = waited_step _ 0 (memory_answer told c) ended
 
-  pub got : (told : Told) → Hears exact entries memories old new l told → Gets May told.session told.done told.form
+  pub got : (told : Told) → Hears entries memories old new l told → Gets May told.session told.done told.form
   got told (hearing.at_once session done meets err soon) =
       subst (λ (o : Option ℕ). Gets May o told.done told.form) (sym session)
       (subst (λ (o : Option PostingValue). Gets May (Some l.session) o told.form) (sym done) (got_at_once soon told.form meets err))
@@ -178,12 +178,12 @@ stays_unless rules old _ bytes _ e (machine.handles (machine.refuses none sessio
 stays_unless rules old _ bytes _ e (machine.runs_out session) none = refl
 
 -- a line that isn't empty is served so, and an empty one changes nothing
-module _ {K : Type 0} (exact : Bool) (entries : K → Entries) (memories : K → Memories) (old : Engine K) (before after : List ℕ) where
-  pub taken : (new : Engine K) (wants : Bool) (line : List ℕ) → 0 < length line → IsServed exact entries memories line old new before after wants
-      → TakesLine exact entries memories line old new before after
+module _ {K : Type 0} (entries : K → Entries) (memories : K → Memories) (old : Engine K) (before after : List ℕ) where
+  pub taken : (new : Engine K) (wants : Bool) (line : List ℕ) → 0 < length line → IsServed entries memories line old new before after wants
+      → TakesLine entries memories line old new before after
   taken new wants [] some s = absurd (omega (arith, some))
   taken new wants (b ∷ bs) some s = (wants, s)
 
-  pub taken_nowhere : (line : List ℕ) → length line ≡ 0 → after ≡ before → TakesLine exact entries memories line old old before after
+  pub taken_nowhere : (line : List ℕ) → length line ≡ 0 → after ≡ before → TakesLine entries memories line old old before after
   taken_nowhere [] none same = (refl, same)
   taken_nowhere (b ∷ bs) none same = absurd (omega (arith, none))

@@ -1,5 +1,5 @@
 -- What is told of a line is a reply to it.
-use Rattle.std.proofs.Common.{◌≡◌, ℕ, Bool, true, false, List, Option, None, inl, refl, sym, ◌∙◌}
+use Rattle.std.proofs.Common.{◌≡◌, ℕ, true, false, List, Option, None, inl, refl, sym, ◌∙◌}
 use Rattle.std.specs.List.{list_all}
 use Rattle.at_model.specs.Rules.{Rules}
 use Rattle.at_model.specs.Lines.{Spells, IsSessionOf, Line}
@@ -27,14 +27,14 @@ module _ (rules : Rules) (s : State) (l : Line) where
   pub meets_unmarked : is_stale l.expected s.version ≡ false → list_all (is_marked s.marks l.session) (marks_used l.command) ≡ false → Meets rules s l (form.Refused refusal.Mark) s
   meets_unmarked e f = refuses rules s (verdict rules s l) refusal.Mark (at_unmarked rules s l e f)
 
-module _ {K : Type 0} (exact : Bool) (entries : K → Entries) (memories : K → Memories) (e : Engine K) (bytes : List ℕ) (session : Option ℕ)
+module _ {K : Type 0} (entries : K → Entries) (memories : K → Memories) (e : Engine K) (bytes : List ℕ) (session : Option ℕ)
     (is : IsSessionOf bytes session) where
   -- memory ran out before anything was tried
-  pub step_unread : IsStep exact entries memories bytes e e (true, memory_for session None)
+  pub step_unread : IsStep entries memories bytes e e (true, memory_for session None)
   step_unread = record { serves = machine.runs_out is; waits = λ number h. inl (refl, refl) }
 
   -- bytes that are no line are refused
-  pub told_unread : ((l : Line) → Spells bytes l → ⊥) → IsTold (IsStep exact entries memories bytes e e) session None (form.Refused refusal.Syntax)
+  pub told_unread : ((l : Line) → Spells bytes l → ⊥) → IsTold (IsStep entries memories bytes e e) session None (form.Refused refusal.Syntax)
   told_unread none = record {
     writable = tt;
     form = Refused code.Syntax;

@@ -1,16 +1,16 @@
 -- What an engine serves.
-use Rattle.std.specs.Prelude.{ℕ, List, None}
+use Rattle.std.specs.Prelude.{ℕ, List, None, Option}
 use Rattle.at_model.specs.Rules.{Rules}
 use Rattle.at_model.specs.Enduring.{AreTokens}
 use Rattle.at_model.specs.Machine.{State}
 use Rattle.at_model.specs.WellFormed.{AreWellFormed}
-use Rattle.at_rules.specs.Circular.{HasNoneCircular}
 use Rattle.at_cache.specs.Kept.{Entries, KeepsAll}
 use Rattle.at_cache.specs.Traced.{Memories, TracesNothing}
 use Rattle.at_demand.specs.Meant.{AreCircularWell}
 use Rattle.at_engine.specs.Holding.{state_in, IsSoundWith}
 use Rattle.at_engine.specs.Lasting.{IsKnown}
 use Rattle.at_engine.specs.declared.engine.Engine.{Engine}
+use Rattle.at_engine.specs.declared.engine.Settings.{Settings}
 use Rattle.at_engine.specs.Marks.{Mark, listed}
 
 abbrev pub rules_of : {K : Type 0} → Engine K → Rules
@@ -18,7 +18,15 @@ rules_of e = e.rules
 
 -- how many turns follow each line
 abbrev pub slice_of : {K : Type 0} → Engine K → ℕ
-slice_of e = e.slice
+slice_of e = e.settings.slice
+
+-- how many entries of the cache an edit leaves in memory at most, where there is a bound
+abbrev pub most_of : {K : Type 0} → Engine K → Option ℕ
+most_of e = e.settings.most
+
+-- what doesn't change while lines are served
+abbrev pub settings_of : {K : Type 0} → Engine K → Settings
+settings_of e = e.settings
 
 -- the marks of all sessions, in the order in which they were made
 abbrev pub marks_of : {K : Type 0} → Engine K → List Mark
@@ -47,10 +55,6 @@ pub record IsTyped (rules : Rules) (s : State) : Type 0 where
   pub formed : AreWellFormed rules
   pub circular : AreCircularWell rules
   pub tokens : AreTokens s.tree
-
--- no attribute is circular
-abbrev pub NoneAreCircular : {K : Type 0} → Engine K → Type 0
-NoneAreCircular e = HasNoneCircular (rules_of e)
 
 -- where it remembers that the last question was asked is there
 abbrev pub Knows : {K : Type 0} → Engine K → Type 0

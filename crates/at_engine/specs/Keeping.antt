@@ -13,7 +13,7 @@ use Rattle.at_demand.specs.Called.{KeptBy, Keeps}
 use Rattle.at_demand.specs.Groups.{KeepsGroups}
 use Rattle.at_demand.specs.Turns.{IsSparingTurns}
 use Rattle.at_demand.specs.declared.question.Question.{Question}
-use Rattle.at_engine.specs.Engines.{rules_of, state_of}
+use Rattle.at_engine.specs.Engines.{most_of, rules_of, state_of}
 use Rattle.at_engine.specs.Following.{IsAtOnce}
 use Rattle.at_engine.specs.KeptOver.{AreWaiting, Grows, HasVerdict, IsWorthFor, IsWorthIn}
 use Rattle.at_engine.specs.declared.engine.Engine.{Engine}
@@ -37,8 +37,10 @@ pub record IsSpareWith (rules : Rules) (look : Contents ℕ) (entries : Entries)
   pub kept : AreSpare rules look entries
   pub posted' : AllByRecursion (λ p. IsSparingOn rules look entries p.question) posted
 
-abbrev pub IsSpare : {K : Type 0} → (entries : K → Entries) → Engine K → Type 0
-IsSpare entries e = IsSpareWith e.rules (contents e.store) (entries e.demand.keeper) e.posts.items.items
+-- so it is, and nothing is let go of for a bound: there is none
+pub record IsSpare {K : Type 0} (entries : K → Entries) (e : Engine K) : Type 0 where
+  pub unbounded : most_of e ≡ None
+  pub spare : IsSpareWith e.rules (contents e.store) (entries e.demand.keeper) e.posts.items.items
 
 -- memory didn't run out, or no attribute is circular: what belongs together is kept together
 abbrev pub KeepsWhole : Rules → (out_of_memory : Bool) → Type 0

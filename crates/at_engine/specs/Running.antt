@@ -1,5 +1,5 @@
 -- What a run has done at its end.
-use Rattle.std.specs.Prelude.{◌≡◌, ◌⊎◌, ℕ, ◌-◌, ◌≤◌, ⊤, Bool, true, false, List, [], ◌∷◌, ◌++◌, length, filter, Option, Result, Ok, Err, IfOk, IsTrue}
+use Rattle.std.specs.Prelude.{◌≡◌, ◌⊎◌, ℕ, ◌-◌, ◌≤◌, ⊤, Bool, true, false, List, [], ◌∷◌, ◌++◌, length, filter, Option, Result, Ok, Err, IfOk}
 use Rattle.std.specs.Io.KnownBytes.{Appends, Consumes, IsAtEnd}
 use Rattle.at_model.specs.Lines.{lines, pieces, is_filled}
 use Rattle.at_model.specs.Rules.{Rules}
@@ -8,7 +8,7 @@ use Rattle.at_model.specs.Machine.{State, Given, Runs, Outputs, text_of}
 use Rattle.at_rules.specs.Circular.{HasNoneCircular}
 use Rattle.at_cache.specs.Kept.{Entries}
 use Rattle.at_cache.specs.Traced.{Memories}
-use Rattle.at_engine.specs.Engines.{rules_of, slice_of, state_of, IsSound}
+use Rattle.at_engine.specs.Engines.{rules_of, slice_of, settings_of, state_of, IsSound}
 use Rattle.at_engine.specs.Making.{WentOn}
 use Rattle.at_engine.specs.Keeping.{IsSpare, work_of}
 use Rattle.at_engine.specs.KeepingRuns.{KeepsRun}
@@ -153,7 +153,7 @@ KeepsWhole rules (Err fault) = HasNoneCircular rules
 
 -- What a run of at most so many reads promises, by what is known of the reader and of the writer: what it has done, which of its
 -- calls failed, what the engine has gone through, and what is kept. Where it doesn't gather replies each is sent on before the next line.
-pub record RunsFor {K R W : Type 0} (exact : Bool) (entries : K → Entries) (memories : K → Memories)
+pub record RunsFor {K R W : Type 0} (entries : K → Entries) (memories : K → Memories)
     (remaining : R → Option (List ℕ)) (misread ending : R → Option Bool)
     (count : R → Option ℕ) (contents : W → Option (List ℕ)) (failure : W → Option Bool) (waiting : W → Bool) (most_reads : ℕ)
     (gathers : Bool) (old new : Engine K) (reader left : R) (writer later : W) (result : Result Report RunFault) : Type 0 where
@@ -163,12 +163,12 @@ pub record RunsFor {K R W : Type 0} (exact : Bool) (entries : K → Entries) (me
   pub reads : MakesReads most_reads result (count reader) (count left)
   pub ended : TellsEnd result (ending reader) (ending left)
   pub sent : SendsAll result (waiting writer) (waiting later)
-  pub each : gathers ≡ false → write_fails result ≡ false → SendsEach exact entries memories contents failure waiting old writer new later
-  pub by : GoesBy exact entries memories old new
-  pub keeps : IsTrue exact → IsSpare entries old → IfOk result (λ report. report.memory ≡ 0 → KeepsRun entries old new (remaining reader) (remaining left))
+  pub each : gathers ≡ false → write_fails result ≡ false → SendsEach entries memories contents failure waiting old writer new later
+  pub by : GoesBy entries memories old new
+  pub keeps : IsSpare entries old → IfOk result (λ report. report.memory ≡ 0 → KeepsRun entries old new (remaining reader) (remaining left))
   pub work : IfOk result (λ report. report.work ≡ work_of new)
-  pub spare : KeepsWhole (rules_of old) result → IsTrue exact → IsSpare entries old → IsSpare entries new
+  pub spare : KeepsWhole (rules_of old) result → IsSpare entries old → IsSpare entries new
   pub rules : rules_of new ≡ rules_of old
-  pub slice : slice_of new ≡ slice_of old
-  pub went : WentOn exact memories old new
+  pub settings : settings_of new ≡ settings_of old
+  pub went : WentOn memories old new
   pub sound : IsSound entries memories new

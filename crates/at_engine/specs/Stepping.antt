@@ -10,9 +10,9 @@ use Rattle.at_engine.specs.declared.engine.turning.Spent.{Spent}
 
 -- Nothing but lines that were served and turns that were given lead from the one engine to the other, and each turn tried one
 -- equation.
-pub data GoesBy {K : Type 0} (exact : Bool) (entries : K → Entries) (memories : K → Memories) (old : Engine K) : Engine K → Type 0 where
-  nowhere : GoesBy exact entries memories old old
-  by_line : (mid new : Engine K) (line before after : List ℕ) (wants : Bool) → GoesBy exact entries memories old mid
-      → IsServed exact entries memories line mid new before after wants → WentOn exact memories mid new → GoesBy exact entries memories old new
-  by_turns : (mid new : Engine K) (limit : Option ℕ) (before after : List ℕ) (spent : Spent) → GoesBy exact entries memories old mid
-      → Spends exact entries memories limit mid new before after spent → WentOn exact memories mid new → GoesBy exact entries memories old new
+pub data GoesBy {K : Type 0} (entries : K → Entries) (memories : K → Memories) (old : Engine K) : Engine K → Type 0 where
+  nowhere : GoesBy entries memories old old
+  by_line : (mid new : Engine K) (line before after : List ℕ) (wants : Bool) → GoesBy entries memories old mid
+      → IsServed entries memories line mid new before after wants → WentOn memories mid new → GoesBy entries memories old new
+  by_turns : (mid new : Engine K) (limit : Option ℕ) (before after : List ℕ) (spent : Spent) → GoesBy entries memories old mid
+      → Spends entries memories limit mid new before after spent → WentOn memories mid new → GoesBy entries memories old new

@@ -1,5 +1,5 @@
 -- Turns that the engine gives: what each of them tries, what they tell, and what comes to what is kept.
-use Rattle.std.specs.Prelude.{◌≡◌, ℕ, ◌<◌, Bool, true, false, List, [], ◌∷◌, ◌++◌, Option, Some, None, IsTrue}
+use Rattle.std.specs.Prelude.{◌≡◌, ℕ, ◌<◌, Bool, true, false, List, [], ◌∷◌, ◌++◌, Option, Some, None}
 use Rattle.std.specs.Option.{option_map}
 use Rattle.at_model.specs.Machine.{Given, text_of}
 use Rattle.at_model.specs.Replies.{Reply}
@@ -19,13 +19,13 @@ listed None = []
 listed (Some a) = a ∷ []
 
 -- What the turns of the question have tried, by what they tell: it stays open and has come so far; or it is told so.
-abbrev pub HasTried : {K : Type 0} → (exact : Bool) → (entries : K → Entries) → (memories : K → Memories) → (limit : Option ℕ)
+abbrev pub HasTried : {K : Type 0} → (entries : K → Entries) → (memories : K → Memories) → (limit : Option ℕ)
     → (old new : Engine K) → Posted → (others : List Posted) → (given : ℕ) → Option (Bool × Reply) → Type 0
-HasTried exact entries memories limit old new p others given None =
+HasTried entries memories limit old new p others given None =
     (now : Option Question) × StaysOpen entries memories old new.demand p given now
     × (new.posts.items.items ≡ record p { question = now } ∷ others)
-HasTried exact entries memories limit old new p others given (Some told) =
-    AnswersIn exact entries memories limit old new.demand p given told
+HasTried entries memories limit old new p others given (Some told) =
+    AnswersIn entries memories limit old new.demand p given told
 
 -- an answer was told for want of memory
 abbrev pub is_memory : Option Bool → Bool
@@ -34,7 +34,7 @@ is_memory (Some wants) = wants
 
 -- Turns were given to the open question with the least number: as many as may be, or up to the one that had an answer, which is
 -- appended. Each tried one equation. What was kept spare is so still, where what belongs together is kept together.
-pub record Spends {K : Type 0} (exact : Bool) (entries : K → Entries) (memories : K → Memories) (limit : Option ℕ) (old new : Engine K)
+pub record Spends {K : Type 0} (entries : K → Entries) (memories : K → Memories) (limit : Option ℕ) (old new : Engine K)
     (before after : List ℕ) (spent : Spent) : Type 0 where
   pub first : Posted
   pub others : List Posted
@@ -46,20 +46,20 @@ pub record Spends {K : Type 0} (exact : Bool) (entries : K → Entries) (memorie
   pub turns : Given (rules_of old) given (state_of old) (listed told) (state_of new)
   pub appended : after ≡ before ++ text_of (listed told)
   pub named : option_map (λ (x : Bool × Reply). x.0) told ≡ spent.told
-  pub tried : HasTried exact entries memories limit old new first others given told
-  pub spare : KeepsWhole (rules_of old) (is_memory spent.told) → IsTrue exact → IsSpare entries old → IsSpare entries new
+  pub tried : HasTried entries memories limit old new first others given told
+  pub spare : KeepsWhole (rules_of old) (is_memory spent.told) → IsSpare entries old → IsSpare entries new
 
 -- so it was; or no question is open, and nothing changes
-pub data HasGiven {K : Type 0} (exact : Bool) (entries : K → Entries) (memories : K → Memories) (limit : Option ℕ) (old new : Engine K)
+pub data HasGiven {K : Type 0} (entries : K → Entries) (memories : K → Memories) (limit : Option ℕ) (old new : Engine K)
     (before after : List ℕ) (spent : Spent) : Type 0 where
   none_open : (state_of old).posted ≡ [] → new ≡ old → after ≡ before → spent.told ≡ None
-      → HasGiven exact entries memories limit old new before after spent
-  gives : Spends exact entries memories limit old new before after spent
-      → HasGiven exact entries memories limit old new before after spent
+      → HasGiven entries memories limit old new before after spent
+  gives : Spends entries memories limit old new before after spent
+      → HasGiven entries memories limit old new before after spent
 
 -- one turn was given so, where a question is open
-abbrev pub HasTurned : {K : Type 0} → (exact : Bool) → (entries : K → Entries) → (memories : K → Memories) → (old new : Engine K)
+abbrev pub HasTurned : {K : Type 0} → (entries : K → Entries) → (memories : K → Memories) → (old new : Engine K)
     → (before after : List ℕ) → Bool → Type 0
-HasTurned exact entries memories old new before after true =
-    (spent : Spent) × Spends exact entries memories (Some 1) old new before after spent
-HasTurned exact entries memories old new before after false = ((state_of old).posted ≡ []) × (new ≡ old) × (after ≡ before)
+HasTurned entries memories old new before after true =
+    (spent : Spent) × Spends entries memories (Some 1) old new before after spent
+HasTurned entries memories old new before after false = ((state_of old).posted ≡ []) × (new ≡ old) × (after ≡ before)

@@ -1,6 +1,6 @@
 -- What turns come to, by the position of their question.
 use Rattle.std.specs.declared.alloc.AllocError.{AllocError}
-use Rattle.std.specs.Prelude.{◌≡◌, ◌⊎◌, ℕ, ◌+◌, ◌<◌, ◌≤◌, Bool, true, false, List, Option, Some, None, Result, Ok, Err, IfNone, IfOk, IfSome, IsTrue, OnErr, length, remove, slice_get, slice_set}
+use Rattle.std.specs.Prelude.{◌≡◌, ◌⊎◌, ℕ, ◌+◌, ◌<◌, ◌≤◌, Bool, true, false, List, Option, Some, None, Result, Ok, Err, IfNone, IfOk, IfSome, OnErr, length, remove, slice_get, slice_set}
 use Rattle.std.specs.Option.{option_map}
 use Rattle.at_model.specs.Alike.{AnswerLike, InstanceLike, Names}
 use Rattle.at_model.specs.Asking.{IsWellFormed}
@@ -160,9 +160,9 @@ TurnsLead entries memories e d p given i end o =
     AreTurns (rules_of e) e.store (memories e.demand.keeper) given (entries e.demand.keeper) p.question i
     (entries d.keeper) end o
 
--- They led to the answer that is told so. With an exact keeper, all that is worthy of the instance is kept; for a circle, where
+-- They led to the answer that is told so. Where what is kept was spare, all that is worthy of the instance is kept; for a circle, where
 -- no attribute is circular.
-pub record ComesToEnd {K : Type 0} (exact : Bool) (entries : K → Entries) (memories : K → Memories) (e : Engine K) (d : Demand K)
+pub record ComesToEnd {K : Type 0} (entries : K → Entries) (memories : K → Memories) (e : Engine K) (d : Demand K)
     (p : Posted) (given : ℕ) (told : FormOf) (i : Instance ℕ) : Type 0 where
   pub end : Question
   pub answer : Answer ℕ
@@ -170,13 +170,13 @@ pub record ComesToEnd {K : Type 0} (exact : Bool) (entries : K → Entries) (mem
   pub turns : TurnsLead entries memories e d p given i end (Some answer)
   pub like : AnswerLike (Names (path e.store)) answer named
   pub form : told ≡ answer_form (rules_of e) (tree e.store) named
-  pub all : IsTrue exact → IsSpare entries e → HasWorthyFor (rules_of e) (contents e.store) i answer (entries d.keeper)
+  pub all : IsSpare entries e → HasWorthyFor (rules_of e) (contents e.store) i answer (entries d.keeper)
 
 -- By so many turns the question is answered so: its words are refused, and nothing was tried; or each tried one equation.
-abbrev pub EndsSo : {K : Type 0} → (exact : Bool) → (entries : K → Entries) → (memories : K → Memories) → Engine K → Demand K
+abbrev pub EndsSo : {K : Type 0} → (entries : K → Entries) → (memories : K → Memories) → Engine K → Demand K
     → Posted → (given : ℕ) → FormOf → Type 0
-EndsSo exact entries memories e d p given told = (AreRefused e p × (d ≡ e.demand) × (given ≡ 1))
-    ⊎ AreAsked e p (ComesToEnd exact entries memories e d p given told)
+EndsSo entries memories e d p given told = (AreRefused e p × (d ≡ e.demand) × (given ≡ 1))
+    ⊎ AreAsked e p (ComesToEnd entries memories e d p given told)
 
 -- Memory ran out: before its words were looked at, and nothing was tried; or in a turn, or behind the last one.
 abbrev pub RunsOut : {K : Type 0} → (entries : K → Entries) → (memories : K → Memories) → (limit : Option ℕ) → Engine K
@@ -192,35 +192,35 @@ StaysOpen entries memories e d p given now =
     AreAsked e p (λ i. (q : Question) × (now ≡ Some q) × TurnsLead entries memories e d p given i q None)
 
 -- what turns of the question have done, and how many are counted
-abbrev pub Came : {K E : Type 0} → (exact : Bool) → (entries : K → Entries) → (memories : K → Memories) → (limit : Option ℕ)
+abbrev pub Came : {K E : Type 0} → (entries : K → Entries) → (memories : K → Memories) → (limit : Option ℕ)
     → Engine K → Demand K → Posted → Option Question → Result (ℕ × Option Form) E → Type 0
-Came exact entries memories limit e d p now (Ok (counted, None)) =
+Came entries memories limit e d p now (Ok (counted, None)) =
     (given : ℕ) × CountsTurns {A = Form} limit given counted None × StaysOpen entries memories e d p given now
-Came exact entries memories limit e d p now (Ok (counted, Some f)) =
+Came entries memories limit e d p now (Ok (counted, Some f)) =
     (given : ℕ) × CountsTurns limit given counted (Some f) × (said : IsAnswerTo (rules_of e) (state_of e) (posted_view (path e.store) p) f)
-    × EndsSo exact entries memories e d p given said.form
-Came exact entries memories limit e d p now (Err e') = RunsOut entries memories limit e d p
+    × EndsSo entries memories e d p given said.form
+Came entries memories limit e d p now (Err e') = RunsOut entries memories limit e d p
 
 -- so it is of the question at the position, which has come so far now
-pub record HasGone {K E : Type 0} (exact : Bool) (entries : K → Entries) (memories : K → Memories) (limit : Option ℕ)
+pub record HasGone {K E : Type 0} (entries : K → Entries) (memories : K → Memories) (limit : Option ℕ)
     (old new : Engine K) (position : ℕ) (p : Posted) (r : Result (ℕ × Option Form) E) : Type 0 where
   pub now : Option Question
   pub reopens : Reopens position old.posts new.posts p now
-  pub came : Came exact entries memories limit old new.demand p now r
+  pub came : Came entries memories limit old new.demand p now r
 
 -- So many turns of the question have answered it, and it is told so; or they ended for want of memory.
-abbrev pub AnswersIn : {K : Type 0} → (exact : Bool) → (entries : K → Entries) → (memories : K → Memories) → (limit : Option ℕ)
+abbrev pub AnswersIn : {K : Type 0} → (entries : K → Entries) → (memories : K → Memories) → (limit : Option ℕ)
     → Engine K → Demand K → Posted → (given : ℕ) → Bool × Reply → Type 0
-AnswersIn exact entries memories limit e d p given (false, reply) = EndsSo exact entries memories e d p given reply.form
-AnswersIn exact entries memories limit e d p given (true, reply) = RunsOut entries memories limit e d p
+AnswersIn entries memories limit e d p given (false, reply) = EndsSo entries memories e d p given reply.form
+AnswersIn entries memories limit e d p given (true, reply) = RunsOut entries memories limit e d p
 
 -- so all turns have done that a question needs, whose answer is told
-abbrev pub HasEnded : {K E : Type 0} → (exact : Bool) → (entries : K → Entries) → (memories : K → Memories) → Engine K → Demand K
+abbrev pub HasEnded : {K E : Type 0} → (entries : K → Entries) → (memories : K → Memories) → Engine K → Demand K
     → Posted → Result Form E → Type 0
-HasEnded exact entries memories e d p (Ok f) =
+HasEnded entries memories e d p (Ok f) =
     (given : ℕ) × (said : IsAnswerTo (rules_of e) (state_of e) (posted_view (path e.store) p) f)
-    × EndsSo exact entries memories e d p given said.form
-HasEnded exact entries memories e d p (Err e') = RunsOut entries memories None e d p
+    × EndsSo entries memories e d p given said.form
+HasEnded entries memories e d p (Err e') = RunsOut entries memories None e d p
 
 -- what is told of the question, where this is its answer, on the tree of that version
 abbrev pub told_of : Posted → (version : ℕ) → Result Form AllocError → Told
@@ -259,20 +259,20 @@ pub record CanSpend {K : Type 0} (entries : K → Entries) (memories : K → Mem
 
 -- That was done with the question at the position: nothing but questions and what is kept has changed, the engine is held, and
 -- what was kept spare is so still, where groups are kept whole.
-pub record Attends {K : Type 0} (exact : Bool) (entries : K → Entries) (memories : K → Memories)
+pub record Attends {K : Type 0} (entries : K → Entries) (memories : K → Memories)
     (old new : Engine K) (position : ℕ) (Done : Posted → Type 0) (Whole : Type 0) : Type 0 where
   pub done : (p : Posted) → StandsAt old.posts.items.items position p → Done p
   pub rest : new ≡ record old { demand = new.demand; posts = new.posts }
-  pub spare : Whole → IsTrue exact → IsSpare entries old → IsSpare entries new
+  pub spare : Whole → IsSpare entries old → IsSpare entries new
   pub sound : IsHeld entries memories new
 
 -- The question at the position was taken off, and that was told of it.
-pub record TakesOff {K : Type 0} (exact : Bool) (entries : K → Entries) (memories : K → Memories)
+pub record TakesOff {K : Type 0} (entries : K → Entries) (memories : K → Memories)
     (old new : Engine K) (position : ℕ) (IsTold : Posted → Type 0) : Type 0 where
   pub told : (p : Posted) → StandsAt old.posts.items.items position p → IsTold p
   pub items : new.posts.items.items ≡ remove old.posts.items.items position
   pub rest : new ≡ record old { posts = record new.posts { count = old.posts.count } }
-  pub spare : IsTrue exact → IsSpare entries old → IsSpare entries new
+  pub spare : IsSpare entries old → IsSpare entries new
   pub sound : IsHeld entries memories new
 
 -- what is done for the question stands on the tree, and its answer can be found
@@ -280,25 +280,25 @@ pub record CanAnswer (rules : Rules) (s : Shown) (entries : Entries) (q : Questi
   pub turns : CanBeTurned rules s entries q
   pub named : IsAskedOf rules s (asked_by q)
 
--- It was given turns: so many, or fewer where one of them answers it, or, without a limit, until one does. What is kept is right still,
--- with an exact keeper spare where groups are kept whole, and where it was answered all that is worthy of it is kept; and nothing
+-- It was given turns: so many, or fewer where one of them answers it, or, without a limit, until one does. What is kept is right still;
+-- what was spare is so still, where groups are kept whole, and where it was answered all that is worthy of it is kept then; and nothing
 -- is traced anew.
-pub record HasTurnedUpTo {E : Type 0} (exact : Bool) (rules : Rules) (s : Shown) (limit : Option ℕ) (before after : Entries)
+pub record HasTurnedUpTo {E : Type 0} (rules : Rules) (s : Shown) (limit : Option ℕ) (before after : Entries)
     (earlier later : Memories) (old new : Question) (r : Result (ℕ × Option AnswerCode) E) : Type 0 where
   pub each : IfOk r (λ g. (given : ℕ) × CountsTurns limit given g.0 (option_map answer_view g.1)
       × AreTurns rules s earlier given before (Some old) (asked_by old) after new (option_map answer_view g.1))
   pub broke : OnErr r (BreaksOffIn rules s earlier limit before (Some old) (asked_by old) after)
   pub same : IfOk r (λ g. IfNone g.1 (asked_by new ≡ asked_by old))
   pub answers : IfOk r (λ g. IfSome g.1 (λ a. Answers (contents s) (meaning rules) (asked_by old) (answer_view a)))
-  pub all : IsTrue exact → AreSpare rules (contents s) before → IsSparingTurns rules (contents s) before old
+  pub all : AreSpare rules (contents s) before → IsSparingTurns rules (contents s) before old
       → IfOk r (λ g. IfSome g.1 (λ a. HasWorthyFor rules (contents s) (asked_by old) (answer_view a) after))
   pub standing : IfOk r (λ g. IsOfUse rules g.1 (IsStanding rules s after new))
   pub right : AreRightValues (contents s) (meaning rules) (kept_values after)
   pub worthy : AddsWorthy rules (contents s) (asked_by old) before after
   pub stays : IsThere s (asked_by old) → AreRight rules s before → AreRight rules s after
   pub plain : ArePlain rules after
-  pub spare : KeepsGroups rules r → IsTrue exact → AreSpare rules (contents s) before → IsSparingTurns rules (contents s) before old
+  pub spare : KeepsGroups rules r → AreSpare rules (contents s) before → IsSparingTurns rules (contents s) before old
       → AreSpare rules (contents s) after
-  pub sparing : IsTrue exact → AreSpare rules (contents s) before → IsSparingTurns rules (contents s) before old
+  pub sparing : AreSpare rules (contents s) before → IsSparingTurns rules (contents s) before old
       → IfOk r (λ g. IsOfUse rules g.1 (IsSparingTurns rules (contents s) after new))
   pub traces : StayTraced earlier later

@@ -20,8 +20,8 @@
 //! remembered, is there. `new` gives it over a keeper that keeps nothing yet (`KeepsNothing`), and each line and turn keeps it.
 //!
 //! **Where attributes are circular** turns are those of a search (`AreTurns` in `Turning`), what is worth keeping for a question that a
-//! circle answers is what its search has met before (`IsWorthKeeping` of `at_model`), and what is kept is spare as long as nothing was
-//! answered `memory` (`KeepsWhole`); `laws.rt` has what that is where none is circular.
+//! circle answers is what its search has met before (`IsWorthKeeping` of `at_model`), and what is kept is spare, where no bound is set, as long
+//! as nothing was answered `memory` (`KeepsWhole`); `laws.rt` has what that is where none is circular.
 #![tactic(auto)]
 
 mod engine;

@@ -56,7 +56,7 @@ fn serve<K: Keeper, W: Output>(
     next: Option<&[u8]>,
 ) -> Result<(), RunFault>
     requires { CanServeLine K.contents K.memories engine.old desk.old }
-    ensures serves { ServesLine K.exact K.contents K.memories W.contents W.failed engine.old engine.new desk.old desk.new writer.old writer.new result }
+    ensures serves { ServesLine K.contents K.memories W.contents W.failed engine.old engine.new desk.old desk.new writer.old writer.new result }
     ensures sent { OnOk result (lets_wait next.entry ≡ false → W.waits writer.new ≡ false) }
 {
     desk.reply.clear();
@@ -91,7 +91,7 @@ fn give_turns<K: Keeper, W: Output>(
     writer: &mut W,
 ) -> Result<(), RunFault>
     requires { CanServe K.contents K.memories engine.old desk.old 0 }
-    ensures { Works K.exact K.contents K.memories W.contents W.failed W.waits engine.old engine.new desk.old desk.new writer.old writer.new
+    ensures { Works K.contents K.memories W.contents W.failed W.waits engine.old engine.new desk.old desk.new writer.old writer.new
         (GivesTurns result (rules_of engine.old) (slice_of engine.old)) result }
 {
     if engine.is_settled() {
@@ -113,7 +113,7 @@ fn give_some<K: Keeper, W: Output>(
     limit: Option<u64>,
 ) -> Result<u64, RunFault>
     requires { CanGive K.contents K.memories engine.old desk.old limit }
-    ensures { Works K.exact K.contents K.memories W.contents W.failed W.waits engine.old engine.new desk.old desk.new writer.old writer.new
+    ensures { Works K.contents K.memories W.contents W.failed W.waits engine.old engine.new desk.old desk.new writer.old writer.new
         (LeavesTurns result (rules_of engine.old) limit) result }
 {
     desk.reply.clear();
@@ -148,7 +148,7 @@ fn drain<K: Keeper, W: Output>(
     writer: &mut W,
 ) -> Result<(), RunFault>
     requires { CanServe K.contents K.memories engine.old desk.old 0 }
-    ensures { Works K.exact K.contents K.memories W.contents W.failed W.waits engine.old engine.new desk.old desk.new writer.old writer.new
+    ensures { Works K.contents K.memories W.contents W.failed W.waits engine.old engine.new desk.old desk.new writer.old writer.new
         (Drains result (rules_of engine.old)) result }
 {
     while !engine.is_settled() {
@@ -166,12 +166,12 @@ fn take_newline<K: Keeper, W: Output>(
     next: Option<&[u8]>,
 ) -> Result<(), RunFault>
     requires { CanServe K.contents K.memories engine.old desk.old 1 }
-    ensures takes { TakesBytes K.exact K.contents K.memories W.contents W.failed (10 ∷ []) 1 engine.old engine.new
+    ensures takes { TakesBytes K.contents K.memories W.contents W.failed (10 ∷ []) 1 engine.old engine.new
         desk.old desk.new writer.old writer.new result }
     ensures sent { OnOk result (lets_wait next.entry ≡ false → (W.waits writer.old ≡ false) ⊎ (0 < vec_len desk.old.line)
         → W.waits writer.new ≡ false) }
     ensures each { OnOk result (lets_wait next.entry ≡ false
-        → SendsEach K.exact K.contents K.memories W.contents W.failed W.waits engine.old writer.old engine.new writer.new) }
+        → SendsEach K.contents K.memories W.contents W.failed W.waits engine.old writer.old engine.new writer.new) }
 {
     if !desk.line.is_empty() {
         serve(engine, desk, writer, next)?;
@@ -190,11 +190,11 @@ fn take_piece<K: Keeper, W: Output>(
     gathers: bool,
 ) -> Result<(), RunFault>
     requires { CanServe K.contents K.memories engine.old desk.old (length piece.now) }
-    ensures takes { TakesBytes K.exact K.contents K.memories W.contents W.failed piece.now (length piece.now)
+    ensures takes { TakesBytes K.contents K.memories W.contents W.failed piece.now (length piece.now)
         engine.old engine.new desk.old desk.new writer.old writer.new result }
     ensures sent { SendsOn result (W.waits writer.old) (W.waits writer.new) }
     ensures each { gathers ≡ false
-        → OnOk result (SendsEach K.exact K.contents K.memories W.contents W.failed W.waits engine.old writer.old engine.new writer.new) }
+        → OnOk result (SendsEach K.contents K.memories W.contents W.failed W.waits engine.old writer.old engine.new writer.new) }
 {
     let mut rest = piece;
     while let Some((line, behind)) = at_newline(rest) {
@@ -241,7 +241,7 @@ fn finish<K: Keeper, W: Output>(
     writer: &mut W,
 ) -> Result<(), RunFault>
     requires { CanServe K.contents K.memories engine.old desk.old 1 }
-    ensures { FinishesAll K.exact K.contents K.memories W.contents W.failed W.waits engine.old engine.new desk.old desk.new writer.old writer.new result }
+    ensures { FinishesAll K.contents K.memories W.contents W.failed W.waits engine.old engine.new desk.old desk.new writer.old writer.new result }
 {
     if desk.line.is_empty() {
         return drain(engine, desk, writer);
@@ -265,7 +265,7 @@ pub fn run<K: Keeper, R: Input, W: Output>(
     writer: &mut W,
 ) -> Result<Report, RunFault>
     requires sound { IsSound K.contents K.memories engine.old }
-    ensures { RunsFor K.exact K.contents K.memories R.remaining R.failed R.ended R.reads W.contents W.failed W.waits max_reads false
+    ensures { RunsFor K.contents K.memories R.remaining R.failed R.ended R.reads W.contents W.failed W.waits max_reads false
         engine.old engine.new reader.old reader.new writer.old writer.new result }
 {
     run_for(engine, reader, writer, READS)
@@ -285,7 +285,7 @@ pub fn run_gathering<K: Keeper, R: Input, W: Output>(
     gathers: bool,
 ) -> Result<Report, RunFault>
     requires sound { IsSound K.contents K.memories engine.old }
-    ensures { RunsFor K.exact K.contents K.memories R.remaining R.failed R.ended R.reads W.contents W.failed W.waits max_reads gathers
+    ensures { RunsFor K.contents K.memories R.remaining R.failed R.ended R.reads W.contents W.failed W.waits max_reads gathers
         engine.old engine.new reader.old reader.new writer.old writer.new result }
 {
     run_with(engine, reader, writer, READS, gathers)
@@ -303,7 +303,7 @@ pub fn run_for<K: Keeper, R: Input, W: Output>(
     limit: u64,
 ) -> Result<Report, RunFault>
     requires sound { IsSound K.contents K.memories engine.old }
-    ensures { RunsFor K.exact K.contents K.memories R.remaining R.failed R.ended R.reads W.contents W.failed W.waits limit false
+    ensures { RunsFor K.contents K.memories R.remaining R.failed R.ended R.reads W.contents W.failed W.waits limit false
         engine.old engine.new reader.old reader.new writer.old writer.new result }
 {
     run_with(engine, reader, writer, limit, false)
@@ -318,7 +318,7 @@ fn run_with<K: Keeper, R: Input, W: Output>(
     gathers: bool,
 ) -> Result<Report, RunFault>
     requires sound { IsSound K.contents K.memories engine.old }
-    ensures { RunsFor K.exact K.contents K.memories R.remaining R.failed R.ended R.reads W.contents W.failed W.waits limit gathers
+    ensures { RunsFor K.contents K.memories R.remaining R.failed R.ended R.reads W.contents W.failed W.waits limit gathers
         engine.old engine.new reader.old reader.new writer.old writer.new result }
 {
     let version = engine.version();

@@ -2,39 +2,35 @@
 //! acts. What is expected was found by hand.
 
 use crate::keepers::compared::KeepCompared;
-use crate::keeping::{Act, Of, Sight, is_done};
+use crate::keeping::{Act, How, Of, Sight, is_done};
 use crate::rows::holds_at;
 use Act::{Blocked, Look, Put, Refuse, See, Settle, Touch, Worked};
 use Of::{Class, Index, Parent, Slot, Token};
 use Sight::{Kept, Nothing, Stands};
-use at_cache::{
-    KeepAtMost, KeepCutOff, KeepCutOffAtMost, KeepInTurns, KeepNone, KeepRecorded, KeepUntilEdit,
-    Keeper, Order,
-};
+use at_cache::{KeepInTurns, KeepRecorded, Keeper, Order};
 use std::alloc::Global;
 use std::process::Abort;
 
-/// How many entries a keeper with a bound may have from one edit to the next: fewer than some rows put, and more.
+/// How many entries a flush leaves in memory at most where there is a bound: fewer than some rows put, and more.
 const FEW: usize = 4;
 
 const MANY: usize = 100;
 
-/// A fresh keeper.
+/// A fresh keeper, and how entries are put.
 #[derive(Clone, Copy)]
 enum Way {
     Recorded,
-    AtMostFew,
+    /// What entries use stands in any order.
+    InAnyOrder,
+    /// Turns keep again, too.
+    InTurns,
     /// Compared with plain models.
     Compared,
     /// The same, which takes no entry.
     Starved,
-    UntilEdit,
-    KeepsNone,
-    CutOff,
-    /// With cut-off, where turns keep again, too.
-    InTurns,
-    CutOffAtMostMany,
-    CutOffAtMostFew,
+    AtMostMany,
+    AtMostFew,
+    AtMostNone,
 }
 
 /// Acts on fresh keepers: the same front for each of the ends.
@@ -44,15 +40,20 @@ struct Script {
     ends: &'static [&'static [Act]],
 }
 
-const RECORDED: &[Way] = &[Way::Recorded];
+/// All that keep what no edit touches, of so few entries.
+const KEEPING: &[Way] = &[
+    Way::Recorded,
+    Way::InAnyOrder,
+    Way::InTurns,
+    Way::Compared,
+    Way::AtMostMany,
+    Way::AtMostFew,
+];
 
-const RECORDING: &[Way] = &[Way::Recorded, Way::AtMostFew, Way::Compared];
+/// Those that keep again.
+const AGAIN: &[Way] = &[Way::Recorded, Way::InTurns, Way::Compared, Way::AtMostMany];
 
 const FEW_AT_MOST: &[Way] = &[Way::AtMostFew];
-
-const UNTIL_EDIT: &[Way] = &[Way::UntilEdit];
-
-const CUT_OFF: &[Way] = &[Way::CutOff, Way::InTurns, Way::CutOffAtMostMany];
 
 /// Each but the first uses the one before it.
 const CHAIN: &[Act] = &[
@@ -110,7 +111,7 @@ const PARENT: &[Act] = &[Look(0, &[Class, Class, Parent, Token(2)], &[])];
 const INDEX: &[Act] = &[Look(0, &[Class, Class, Index, Token(2)], &[])];
 
 /// The class twice, and each time something else of the node: three locations, of which one edge tells.
-const AGAIN: &[Act] = &[Look(0, &[Class, Token(0), Class, Slot], &[])];
+const TOGETHER: &[Act] = &[Look(0, &[Class, Token(0), Class, Slot], &[])];
 
 /// The same with the index in between, which stands alone: an edge in front of it, and one behind it.
 const APART: &[Act] = &[Look(0, &[Class, Token(0), Index, Class, Slot], &[])];
@@ -118,7 +119,7 @@ const APART: &[Act] = &[Look(0, &[Class, Token(0), Index, Class, Slot], &[])];
 const SCRIPTS: &[Script] = &[
     // What uses an entry goes with it.
     Script {
-        ways: RECORDED,
+        ways: KEEPING,
         front: CHAIN,
         ends: &[
             &[Touch(0, Token(0)), See(&[Nothing, Nothing, Nothing])],
@@ -127,7 +128,7 @@ const SCRIPTS: &[Script] = &[
         ],
     },
     Script {
-        ways: RECORDED,
+        ways: KEEPING,
         front: FORK,
         ends: &[
             &[
@@ -150,7 +151,7 @@ const SCRIPTS: &[Script] = &[
     },
     // A node's class, looked at twice, what is looked at next, and a token rest on themselves alone.
     Script {
-        ways: RECORDED,
+        ways: KEEPING,
         front: TOKEN,
         ends: &[
             &[Touch(0, Class), See(&[Nothing])],
@@ -161,7 +162,7 @@ const SCRIPTS: &[Script] = &[
         ],
     },
     Script {
-        ways: RECORDED,
+        ways: KEEPING,
         front: SLOT,
         ends: &[
             &[Touch(0, Class), See(&[Nothing])],
@@ -172,7 +173,7 @@ const SCRIPTS: &[Script] = &[
         ],
     },
     Script {
-        ways: RECORDED,
+        ways: KEEPING,
         front: PARENT,
         ends: &[
             &[Touch(0, Class), See(&[Nothing])],
@@ -183,7 +184,7 @@ const SCRIPTS: &[Script] = &[
         ],
     },
     Script {
-        ways: RECORDED,
+        ways: KEEPING,
         front: INDEX,
         ends: &[
             &[Touch(0, Class), See(&[Nothing])],
@@ -193,9 +194,31 @@ const SCRIPTS: &[Script] = &[
             &[Touch(1, Class), See(&[Kept(7)])],
         ],
     },
+    Script {
+        ways: KEEPING,
+        front: TOGETHER,
+        ends: &[
+            &[Touch(0, Class), See(&[Nothing])],
+            &[Touch(0, Token(0)), See(&[Nothing])],
+            &[Touch(0, Slot), See(&[Nothing])],
+            &[Touch(0, Index), See(&[Kept(7)])],
+            &[Touch(0, Token(1)), See(&[Kept(7)])],
+        ],
+    },
+    Script {
+        ways: KEEPING,
+        front: APART,
+        ends: &[
+            &[Touch(0, Class), See(&[Nothing])],
+            &[Touch(0, Token(0)), See(&[Nothing])],
+            &[Touch(0, Index), See(&[Nothing])],
+            &[Touch(0, Slot), See(&[Nothing])],
+            &[Touch(0, Parent), See(&[Kept(7)])],
+        ],
+    },
     // Links follow their entries.
     Script {
-        ways: RECORDED,
+        ways: KEEPING,
         front: LINKS,
         ends: &[&[
             Look(4, &[], &[3]),
@@ -207,7 +230,7 @@ const SCRIPTS: &[Script] = &[
     },
     // Entries without a value are never told, and go with those that use them, and with none beside these.
     Script {
-        ways: RECORDING,
+        ways: KEEPING,
         front: PAIRS,
         ends: &[&[
             Touch(4, Token(0)),
@@ -218,34 +241,19 @@ const SCRIPTS: &[Script] = &[
             See(&[Nothing, Nothing, Nothing, Nothing]),
         ]],
     },
-    // What stands for everything needs no entry without a value, and keeps until an edit.
+    // With a bound of none all goes at each edit, and is neither kept again.
     Script {
-        ways: UNTIL_EDIT,
-        front: &[],
-        ends: &[
-            &[
-                Put(0, None, &[]),
-                Put(1, None, &[]),
-                Refuse(2, Some(7), &[0]),
-                Refuse(3, Some(7), &[1]),
-                See(&[Nothing, Nothing, Nothing, Nothing]),
-            ],
-            &[
-                Put(1, Some(5), &[]),
-                See(&[Nothing, Kept(5), Nothing]),
-                Touch(2, Token(0)),
-                See(&[Nothing, Nothing, Nothing]),
-            ],
-        ],
-    },
-    Script {
-        ways: &[Way::KeepsNone],
-        front: &[],
+        ways: &[Way::AtMostNone],
+        front: USED,
         ends: &[&[
-            Put(1, Some(5), &[]),
+            Put(2, None, &[]),
+            See(&[Kept(5), Kept(6), Stands]),
+            Touch(3, Token(0)),
             See(&[Nothing, Nothing, Nothing]),
-            Touch(2, Token(0)),
-            See(&[Nothing, Nothing, Nothing]),
+            Put(0, Some(5), &[]),
+            Settle(1),
+            Worked(0),
+            See(&[Kept(5), Nothing, Nothing]),
         ]],
     },
     Script {
@@ -297,9 +305,22 @@ const SCRIPTS: &[Script] = &[
             ],
         ],
     },
+    // What was put in any order isn't kept again.
+    Script {
+        ways: &[Way::InAnyOrder],
+        front: USED,
+        ends: &[&[
+            Touch(0, Token(0)),
+            Put(0, Some(5), &[]),
+            Settle(1),
+            Worked(0),
+            See(&[Kept(5), Nothing]),
+            Blocked(1, None),
+        ]],
+    },
     // What is kept again: the second, and more.
     Script {
-        ways: CUT_OFF,
+        ways: AGAIN,
         front: USED,
         ends: &[
             // What it used has the same value again.
@@ -374,7 +395,7 @@ const SCRIPTS: &[Script] = &[
         ],
     },
     Script {
-        ways: &[Way::CutOffAtMostFew],
+        ways: FEW_AT_MOST,
         front: &[],
         ends: &[
             // Of five in memory those go that aren't kept.
@@ -426,22 +447,35 @@ const SCRIPTS: &[Script] = &[
     },
 ];
 
-/// Acts on a recording keeper, how many entries it has then, and how many locations it stores for them.
-const COUNTS: &[(&[Act], &[Act], (usize, usize))] = &[
-    (CHAIN, &[], (3, 3)),
-    (FORK, &[], (4, 4)),
-    (TOKEN, &[], (1, 3)),
-    (SLOT, &[], (1, 3)),
-    (PARENT, &[], (1, 3)),
-    (INDEX, &[], (1, 3)),
-    (AGAIN, &[], (1, 3)),
-    (APART, &[], (1, 5)),
-    (LINKS, &[], (2, 2)),
-    (LINKS, &[Look(4, &[], &[3])], (3, 2)),
+/// A bound, if it is one, acts on a keeper with it, and how many entries are in memory then.
+const COUNTS: &[(Option<usize>, &[Act], &[Act], usize)] = &[
+    (None, CHAIN, &[], 3),
+    (None, FORK, &[], 4),
+    // what isn't kept stays
+    (None, CHAIN, &[Touch(0, Token(0))], 3),
+    (None, LINKS, &[], 4),
+    (None, LINKS, &[Put(0, Some(1), &[]), Settle(1)], 4),
+    (None, LINKS, &[Look(4, &[], &[3]), Touch(2, Token(0))], 5),
+    (Some(MANY), LONG_CHAIN, &[Touch(8, Token(0))], 8),
+    // and first it goes for a bound
+    (Some(FEW), LINKS, &[], 4),
+    (Some(FEW), LINKS, &[Look(4, &[], &[3])], 5),
     (
+        Some(FEW),
         LINKS,
-        &[Look(4, &[], &[3]), Touch(0, Token(0)), Touch(2, Token(0))],
-        (0, 0),
+        &[Look(4, &[], &[3]), Touch(5, Token(0))],
+        3,
+    ),
+    // then three quarters of it are left
+    (Some(FEW), LONG_CHAIN, &[], 8),
+    (Some(FEW), LONG_CHAIN, &[Touch(8, Token(0))], 3),
+    (Some(1), LONG_CHAIN, &[Touch(8, Token(0))], 1),
+    (Some(0), LONG_CHAIN, &[Touch(8, Token(0))], 0),
+    (
+        Some(0),
+        LONG_CHAIN,
+        &[Touch(8, Token(0)), Put(0, Some(1), &[])],
+        1,
     ),
 ];
 
@@ -450,12 +484,12 @@ fn are_done<K: Keeper>(
     rt: &impl Abort,
     alloc: Global,
     keeper: &mut K,
-    order: Order,
+    how: How,
     acts: &[Act],
     work: &mut u64,
 ) -> bool {
     for act in acts {
-        if !is_done(rt, alloc, keeper, order, act, work) {
+        if !is_done(rt, alloc, keeper, how, act, work) {
             return false;
         }
     }
@@ -467,63 +501,63 @@ fn goes<K: Keeper>(
     rt: &impl Abort,
     alloc: Global,
     keeper: &mut K,
-    order: Order,
+    how: How,
     front: &[Act],
     end: &[Act],
 ) -> bool {
     let mut work: u64 = 0;
-    are_done(rt, alloc, keeper, order, front, &mut work)
-        && are_done(rt, alloc, keeper, order, end, &mut work)
+    are_done(rt, alloc, keeper, how, front, &mut work)
+        && are_done(rt, alloc, keeper, how, end, &mut work)
+}
+
+/// How entries are put.
+fn how_of(way: Way) -> How {
+    let most = match way {
+        Way::AtMostMany => Some(MANY),
+        Way::AtMostFew => Some(FEW),
+        Way::AtMostNone => Some(0),
+        _ => None,
+    };
+    let order = match way {
+        Way::InAnyOrder => Order::Any,
+        _ => Order::AsTaken,
+    };
+    How { order, most }
 }
 
 /// Whether they go as told with a fresh keeper.
 fn goes_with(rt: &impl Abort, alloc: Global, way: Way, front: &[Act], end: &[Act]) -> bool {
-    let any = Order::Any;
-    let as_taken = Order::AsTaken;
+    let how = how_of(way);
+    let keeper = KeepRecorded::new(alloc);
     match way {
-        Way::Recorded => goes(rt, alloc, &mut KeepRecorded::new(alloc), any, front, end),
-        Way::AtMostFew => goes(rt, alloc, &mut KeepAtMost::new(alloc, FEW), any, front, end),
-        Way::Compared => goes(
-            rt,
-            alloc,
-            &mut KeepCompared::new(alloc, usize::MAX),
-            any,
-            front,
-            end,
-        ),
-        Way::Starved => goes(rt, alloc, &mut KeepCompared::new(alloc, 0), any, front, end),
-        Way::UntilEdit => goes(rt, alloc, &mut KeepUntilEdit::new(alloc), any, front, end),
-        Way::KeepsNone => goes(rt, alloc, &mut KeepNone::new(alloc), any, front, end),
-        Way::CutOff => goes(rt, alloc, &mut KeepCutOff::new(alloc), as_taken, front, end),
-        Way::InTurns => {
-            let keeper = KeepCutOff::new(alloc);
-            let mut keeper = KeepInTurns { keeper };
-            goes(rt, alloc, &mut keeper, as_taken, front, end)
+        Way::InTurns => goes(rt, alloc, &mut KeepInTurns { keeper }, how, front, end),
+        Way::Compared => {
+            let mut keeper = KeepCompared::new(alloc, usize::MAX);
+            goes(rt, alloc, &mut keeper, how, front, end) && !keeper.models.differs
         }
-        Way::CutOffAtMostMany => goes(
-            rt,
-            alloc,
-            &mut KeepCutOffAtMost::new(alloc, MANY),
-            as_taken,
-            front,
-            end,
-        ),
-        Way::CutOffAtMostFew => goes(
-            rt,
-            alloc,
-            &mut KeepCutOffAtMost::new(alloc, FEW),
-            as_taken,
-            front,
-            end,
-        ),
+        Way::Starved => goes(rt, alloc, &mut KeepCompared::new(alloc, 0), how, front, end),
+        _ => {
+            let mut keeper = keeper;
+            goes(rt, alloc, &mut keeper, how, front, end)
+        }
     }
 }
 
-/// How many entries a recording keeper has behind these acts, and how many locations it stores for them, where they go as told.
-fn counts_of(rt: &impl Abort, alloc: Global, front: &[Act], end: &[Act]) -> Option<(usize, usize)> {
+/// How many entries a keeper with that bound has in memory behind these acts, where they go as told.
+fn count_of(
+    rt: &impl Abort,
+    alloc: Global,
+    most: Option<usize>,
+    front: &[Act],
+    end: &[Act],
+) -> Option<usize> {
     let mut keeper = KeepRecorded::new(alloc);
-    if goes(rt, alloc, &mut keeper, Order::Any, front, end) {
-        return Some((keeper.len(), keeper.stored()));
+    let how = How {
+        order: Order::AsTaken,
+        most,
+    };
+    if goes(rt, alloc, &mut keeper, how, front, end) {
+        return Some(keeper.len());
     }
     None
 }
@@ -544,12 +578,9 @@ fn keepers_keep_and_forget_what_they_are_said_to(rt: HostRuntime) {
 }
 
 #[test]
-fn entries_and_their_locations_are_counted(rt: HostRuntime) {
-    for (row, (front, end, counts)) in COUNTS.iter().enumerate() {
-        holds_at(
-            &rt,
-            row,
-            counts_of(&rt, rt.alloc(), front, end) == Some(*counts),
-        );
+fn entries_in_memory_are_counted(rt: HostRuntime) {
+    for (row, (most, front, end, count)) in COUNTS.iter().enumerate() {
+        let found = count_of(&rt, rt.alloc(), *most, front, end);
+        holds_at(&rt, row, found == Some(*count));
     }
 }

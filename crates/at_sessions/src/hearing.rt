@@ -21,13 +21,14 @@ pub fn calculator(rt: &impl Abort, alloc: Global) -> Engine<KeepRecorded>
     }
 }
 
-/// What a fresh engine over an empty keeper writes for the lines, each of which a turn follows, and what its run
+/// What a fresh engine over an empty keeper, with that bound for edits, writes for the lines, each of which a turn follows, and what its run
 /// reports.
 pub fn heard<K: Keeper>(
     rt: &impl Abort,
     alloc: Global,
     sample: &Sample,
     keeper: K,
+    most: Option<usize>,
     lines: &str,
 ) -> (Vec<u8>, Report)
     requires { KeepsNothing K.contents K.memories keeper }
@@ -37,6 +38,7 @@ pub fn heard<K: Keeper>(
         Ok(engine) => engine,
         Err(_) => panic!(rt; "no engine"),
     };
+    engine.set_most(most);
     let mut reader = lines.as_bytes();
     let mut out = Vec::new(alloc);
     let report = run(&mut engine, &mut reader, &mut out)

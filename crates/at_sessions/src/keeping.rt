@@ -1,9 +1,11 @@
 //! What is put into a keeper by itself, what it shows of it, and what it keeps again.
 
+ghost use Rattle.std.specs.Prelude.{◌≡◌, true};
+
 use at_body::{Arguments, Inst, Value};
 use at_cache::{Keeper, Order};
 use at_rules::AttrId;
-use at_store::{Loc, Node};
+use at_store::{Loc, Node, Places};
 use std::alloc::Global;
 use std::process::Abort;
 
@@ -58,6 +60,13 @@ pub enum Act {
     Blocked(usize, Option<usize>),
 }
 
+/// How entries are put, and how many of them a flush leaves in memory at most, where there is a bound.
+#[derive(Clone, Copy)]
+pub struct How {
+    pub order: Order,
+    pub most: Option<usize>,
+}
+
 /// The node of that number.
 fn numbered(number: usize) -> Node {
     Node::of(number).unwrap_or_default()
@@ -99,6 +108,25 @@ pub fn put_new<K: Keeper>(
     }
     let value = value.map(Value::Int);
     keeper.put(inst, value, reads, uses, order).is_ok()
+}
+
+/// Flushes what rests on that location, as an edit does: behind the bound, where there is one.
+pub fn flush_one<K: Keeper>(keeper: &mut K, most: Option<usize>, touched: Loc) {
+    if let Some(most) = most {
+        keeper.fit(most);
+    }
+    let places = Places {
+        leaving: &[],
+        moved: Some(touched.node()),
+        target: None,
+        source: None,
+    };
+    keeper.flush(
+        &places,
+        &|location: Loc| -> bool
+            ensures { result ≡ true → location ≡ touched }
+        { location == touched },
+    );
 }
 
 /// An entry of a row.
@@ -165,26 +193,25 @@ pub fn is_done<K: Keeper>(
     rt: &impl Abort,
     alloc: Global,
     keeper: &mut K,
-    order: Order,
+    how: How,
     act: &Act,
     work: &mut u64,
 ) -> bool {
     match act {
         Act::Put(node, value, uses) => {
             let entry = entry_of(*node, *value, OWN, uses);
-            is_put(rt, alloc, keeper, &entry, order)
+            is_put(rt, alloc, keeper, &entry, how.order)
         }
         Act::Refuse(node, value, uses) => {
             let entry = entry_of(*node, *value, OWN, uses);
-            !is_put(rt, alloc, keeper, &entry, order)
+            !is_put(rt, alloc, keeper, &entry, how.order)
         }
         Act::Look(node, reads, uses) => {
             let entry = entry_of(*node, Some(7), reads, uses);
-            is_put(rt, alloc, keeper, &entry, order)
+            is_put(rt, alloc, keeper, &entry, how.order)
         }
         Act::Touch(node, of) => {
-            let touched = location(*node, *of);
-            keeper.flush(&|location: Loc| location == touched);
+            flush_one(keeper, how.most, location(*node, *of));
             true
         }
         Act::Settle(node) => {

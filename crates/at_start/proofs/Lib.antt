@@ -4,6 +4,6 @@ mod TermFiles
 mod Ruled
 mod Started
 mod RulesTyped
-mod WholeLemmas
+pub mod WholeLemmas
 mod OneMeaning
 mod OneOutput

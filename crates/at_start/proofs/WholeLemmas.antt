@@ -4,10 +4,11 @@ use Rattle.std.proofs.Common.{sym, ap, refl, append-nil, subst, arith}
 use Rattle.std.specs.Io.KnownBytes.{Appends, Consumes, IsAtEnd}
 use Rattle.at_model.specs.Machine.{State, Outputs, text_of}
 use Rattle.at_model.specs.Replies.{Reply}
+use Rattle.at_store.specs.Shown.{contents}
 use Rattle.at_cache.specs.Kept.{Entries}
 use Rattle.at_cache.specs.Traced.{Memories}
-use Rattle.at_engine.specs.Engines.{rules_of, slice_of, state_of}
-use Rattle.at_engine.specs.Keeping.{IsSpare, work_of}
+use Rattle.at_engine.specs.Engines.{most_of, rules_of, slice_of, state_of}
+use Rattle.at_engine.specs.Keeping.{IsSpare, IsSpareWith, work_of}
 use Rattle.at_engine.specs.Running.{Ran, RunsFor, max_reads}
 use Rattle.at_engine.specs.Taking.{wants}
 use Rattle.at_engine.specs.declared.engine.Engine.{Engine}
@@ -61,34 +62,53 @@ whole files slice report input left after a =
       λ none. none_wanted r.told (sym r.memory ∙ none),
     )
 
+-- the one engine is the other one with other settings
+abbrev pub IsSet : {K : Type 0} → (made set : Engine K) → Type 0
+IsSet made set = set ≡ record made { settings = set.settings }
+
+-- settings that are set one after the other
+pub set_again : {K : Type 0} (made mid set : Engine K) → IsSet made mid → IsSet mid set → IsSet made set
+set_again {K} made mid set first second = second ∙ ap (λ (e : Engine K). record e { settings = set.settings }) first
+
+-- what is kept is spare as it was, where no bound is set
+pub spare_set : {K : Type 0} (entries : K → Entries) (made set : Engine K) → IsSet made set → most_of set ≡ None
+    → IsSpare entries made → IsSpare entries set
+spare_set {K} entries made set is none spare = record {
+  unbounded = none;
+  spare = subst (λ (e : Engine K). IsSpareWith e.rules (contents e.store) (entries e.demand.keeper) e.posts.items.items) (sym is) spare.spare;
+}
+
 -- the run over an engine that files make, with so many turns behind each line
-pub answers_by : {K : Type 0} (files : Files) (slice : ℕ) (made set new : Engine K) (run : Result Report RunFault) (readable left before after : Option (List ℕ)) → set ≡ record made { slice = slice } → Starts files (rules_of made) (state_of made)
-    → Ran max_reads run (rules_of set) (slice_of set) (state_of set) (state_of new) readable left before after → Answers files slice run readable left before after
-answers_by {K} files slice made set new run readable left before after is starts ran = record {
+pub answers_by : {K : Type 0} (files : Files) (slice : ℕ) (made set new : Engine K) (run : Result Report RunFault)
+    (readable left before after : Option (List ℕ)) → IsSet made set → slice_of set ≡ slice → Starts files (rules_of made) (state_of made)
+    → Ran max_reads run (rules_of set) (slice_of set) (state_of set) (state_of new) readable left before after
+    → Answers files slice run readable left before after
+answers_by {K} files slice made set new run readable left before after is turns starts ran = record {
   rules = rules_of set;
   old = state_of set;
   new = state_of new;
   starts = subst (λ (e : Engine K). Starts files (rules_of e) (state_of e)) (sym is) starts;
-  ran = subst (λ (n : ℕ). Ran max_reads run (rules_of set) n (state_of set) (state_of new) readable left before after) (ap (λ (e : Engine K). slice_of e) is) ran;
+  ran = subst (λ (n : ℕ). Ran max_reads run (rules_of set) n (state_of set) (state_of new) readable left before after) turns ran;
 }
 
 -- so all that the run promises holds of it
-pub runs_by : {K R W : Type 0} (exact : Bool) (entries : K → Entries) (memories : K → Memories)
+pub runs_by : {K R W : Type 0} (entries : K → Entries) (memories : K → Memories)
     (remaining : R → Option (List ℕ)) (misread ending : R → Option Bool) (count : R → Option ℕ) (contents : W → Option (List ℕ))
-    (failure : W → Option Bool) (waiting : W → Bool) (files : Files) (slice : ℕ) (gathers : Bool) (made set : Engine K)
+    (failure : W → Option Bool) (waiting : W → Bool) (files : Files) (slice : ℕ) (most : Option ℕ) (gathers : Bool) (made set : Engine K)
     (reader left : R) (writer later : W)
-    (answered : Answered K) → set ≡ record made { slice = slice } → Starts files (rules_of made) (state_of made)
+    (answered : Answered K) → IsSet made set → slice_of set ≡ slice → most_of set ≡ most → Starts files (rules_of made) (state_of made)
     → IsSpare entries made → work_of made ≡ 0
-    → RunsFor exact entries memories remaining misread ending count contents failure waiting max_reads gathers set
+    → RunsFor entries memories remaining misread ending count contents failure waiting max_reads gathers set
     answered.engine reader left writer later answered.run
-    → RunsFiles exact entries memories remaining misread ending count contents failure waiting files slice gathers
+    → RunsFiles entries memories remaining misread ending count contents failure waiting files slice most gathers
     reader left writer later answered
-runs_by {K} exact entries memories remaining misread ending count contents failure waiting files slice gathers made set
-    reader left writer later answered is starts spare idle runs = record {
+runs_by {K} entries memories remaining misread ending count contents failure waiting files slice most gathers made set
+    reader left writer later answered is turns bound starts spare idle runs = record {
       made = set;
       starts = subst (λ (e : Engine K). Starts files (rules_of e) (state_of e)) (sym is) starts;
-      spare = subst (IsSpare entries) (sym is) spare;
+      spare = λ none. spare_set entries made set is (bound ∙ none) spare;
       idle = ap work_of is ∙ idle;
-      turns = ap slice_of is;
+      turns = turns;
+      bound = bound;
       runs = runs;
     }

@@ -1,5 +1,5 @@
 -- The whole: from the bytes of the files, and those of the lines, to the bytes that are written.
-use Rattle.std.specs.Prelude.{◌≡◌, ℕ, Bool, false, List, Option, Result, Ok, Err}
+use Rattle.std.specs.Prelude.{◌≡◌, ℕ, Bool, false, List, Option, None, Result, Ok, Err}
 use Rattle.std.specs.List.{AllByRecursion}
 use Rattle.at_model.specs.Classes.{Classes}
 use Rattle.at_model.specs.Trees.{Tree}
@@ -7,7 +7,7 @@ use Rattle.at_model.specs.Rules.{Rules}
 use Rattle.at_model.specs.Replies.{Reply}
 use Rattle.at_model.specs.Machine.{State, Outputs, text_of}
 use Rattle.at_cache.specs.Kept.{Entries}
-use Rattle.at_engine.specs.Engines.{rules_of, slice_of, state_of}
+use Rattle.at_engine.specs.Engines.{most_of, rules_of, slice_of, state_of}
 use Rattle.at_engine.specs.Keeping.{IsSpare, work_of}
 use Rattle.at_engine.specs.Running.{Ran, RunsFor, max_reads}
 use Rattle.at_engine.specs.declared.engine.Engine.{Engine}
@@ -31,18 +31,19 @@ pub record Answers (files : Files) (slice : ℕ) (run : Result Report RunFault) 
   pub starts : Starts files rules old
   pub ran : Ran max_reads run rules slice old new readable left before after
 
--- The files make an engine, with so many turns behind each line, and all that a run promises holds of the run of that, which
--- leaves the engine that is given.
-pub record RunsFiles {K R W : Type 0} (exact : Bool) (entries : K → Entries) (memories : K → Memories)
+-- The files make an engine, with so many turns behind each line and that bound on what edits leave in memory, and all that a run promises
+-- holds of the run of that, which leaves the engine that is given. Where there is no bound what is kept is spare from the start.
+pub record RunsFiles {K R W : Type 0} (entries : K → Entries) (memories : K → Memories)
     (remaining : R → Option (List ℕ)) (misread ending : R → Option Bool) (count : R → Option ℕ) (contents : W → Option (List ℕ))
-    (failure : W → Option Bool) (waiting : W → Bool) (files : Files) (slice : ℕ) (gathers : Bool) (reader left : R) (writer later : W)
-    (answered : Answered K) : Type 0 where
+    (failure : W → Option Bool) (waiting : W → Bool) (files : Files) (slice : ℕ) (most : Option ℕ) (gathers : Bool)
+    (reader left : R) (writer later : W) (answered : Answered K) : Type 0 where
   pub made : Engine K
   pub starts : Starts files (rules_of made) (state_of made)
-  pub spare : IsSpare entries made
+  pub spare : most ≡ None → IsSpare entries made
   pub idle : work_of made ≡ 0
   pub turns : slice_of made ≡ slice
-  pub runs : RunsFor exact entries memories remaining misread ending count contents failure waiting max_reads gathers made
+  pub bound : most_of made ≡ most
+  pub runs : RunsFor entries memories remaining misread ending count contents failure waiting max_reads gathers made
       answered.engine reader left writer later answered.run
 
 -- So it is; or the fault is that of the first file that is refused, and nothing was read or written.

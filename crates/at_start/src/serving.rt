@@ -22,8 +22,8 @@ pub struct Answered<K> {
 }
 
 /// Serves the lines that the reader gives by the engine that the files make, over an empty keeper, with so many turns behind
-/// each line, and writes what they are told; where it gathers replies, as `run_gathering` does. The bytes of the tree are given
-/// back, as by `start`.
+/// each line and, where there is a bound, so many entries in memory behind an edit at most; and writes what they are told, where it gathers
+/// replies as `run_gathering` does. The bytes of the tree are given back, as by `start`.
 ///
 /// # Errors
 ///
@@ -33,19 +33,21 @@ pub fn answer<K: Keeper, R: Input, W: Output>(
     files: &mut Files,
     keeper: K,
     slice: u32,
+    most: Option<usize>,
     reader: &mut R,
     writer: &mut W,
     gathers: bool,
 ) -> Result<Answered<K>, StartFault>
     requires { KeepsNothing K.contents K.memories keeper }
     ensures answers { AnswersFiles files.old slice result (R.remaining reader.old) (R.remaining reader.new) (W.contents writer.old) (W.contents writer.new) }
-    ensures runs { IfOk result (RunsFiles K.exact K.contents K.memories R.remaining R.failed R.ended R.reads W.contents W.failed W.waits files.old slice
-        gathers reader.old reader.new writer.old writer.new) }
+    ensures runs { IfOk result (RunsFiles K.contents K.memories R.remaining R.failed R.ended R.reads W.contents W.failed W.waits files.old slice
+        most gathers reader.old reader.new writer.old writer.new) }
     ensures none { IfErr result (λ _. (reader.new ≡ reader.old) × (writer.new ≡ writer.old)) }
     ensures rest { AreSameButTree files.old files.new }
 {
     let mut engine = start_with(alloc, files, keeper)?;
     engine.set_slice(slice);
+    engine.set_most(most);
     let run = run_gathering(&mut engine, reader, writer, gathers);
     Ok(Answered { run, engine })
 }

@@ -128,18 +128,18 @@ run_whole rules (Err fault) told is whole =
     subst (λ (t : Result Report ConnectionFault). KeepsWhole rules (lacks t)) is whole
 
 -- what a run promises is that of the door's way of sending
-pub runs_so : {K R W : Type 0} {exact : Bool} {entries : K → Entries} {memories : K → Memories}
+pub runs_so : {K R W : Type 0} {entries : K → Entries} {memories : K → Memories}
     {remaining : R → Option (List ℕ)} {misread ended : R → Option Bool} {count : R → Option ℕ}
     {contents : W → Option (List ℕ)} {failure : W → Option Bool} {waiting : W → Bool} {most_reads : ℕ}
     {asked gathers : Bool} {old new : Engine K} {reader left : R} {writer later : W} {result : Result Report RunFault}
     → asked ≡ gathers
-    → RunsFor exact entries memories remaining misread ended count contents failure waiting most_reads asked
+    → RunsFor entries memories remaining misread ended count contents failure waiting most_reads asked
     old new reader left writer later result
-    → RunsFor exact entries memories remaining misread ended count contents failure waiting most_reads gathers
+    → RunsFor entries memories remaining misread ended count contents failure waiting most_reads gathers
     old new reader left writer later result
-runs_so {exact = exact} {entries = entries} {memories = memories} {remaining = remaining} {misread = misread}
+runs_so {entries = entries} {memories = memories} {remaining = remaining} {misread = misread}
     {ended = ended} {count = count} {contents = contents} {failure = failure} {waiting = waiting}
     {most_reads = most_reads} {old = old} {new = new} {reader = reader} {left = left} {writer = writer} {later = later}
     {result = result} same runs =
-    subst (λ (b : Bool). RunsFor exact entries memories remaining misread ended count contents failure waiting
+    subst (λ (b : Bool). RunsFor entries memories remaining misread ended count contents failure waiting
     most_reads b old new reader left writer later result) same runs

@@ -19,26 +19,26 @@ ending (Err fault) = Err (Run fault)
 
 -- One has come, all that a run promises holds of the one that has served it, and what that has written was sent to it; or the door
 -- refused it, and nothing was done. Either is reported.
-pub data ServesNext {K R W : Type 0} (exact : Bool) (entries : K → Entries) (memories : K → Memories)
+pub data ServesNext {K R W : Type 0} (entries : K → Entries) (memories : K → Memories)
     (remaining : R → Option (List ℕ)) (misread ended : R → Option Bool) (count : R → Option ℕ) (contents : W → Option (List ℕ))
     (failure : W → Option Bool) (waiting : W → Bool) (gathers : Bool) (old new : Engine K) (door later : Seen)
     (told : Result Report ConnectionFault) : Type 0 where
   by_run : (run : Result Report RunFault) (reader left : R) (writer written : W) (opened : Seen)
       → Comes door opened (remaining reader) (contents writer) → AreFresh (misread reader) (ended reader) (failure writer) (waiting writer)
-      → RunsFor exact entries memories remaining misread ended count contents failure waiting max_reads gathers old new
+      → RunsFor entries memories remaining misread ended count contents failure waiting max_reads gathers old new
       reader left writer written run
       → IsServed opened later (contents written) → told ≡ ending run
-      → ServesNext exact entries memories remaining misread ended count contents failure waiting gathers old new door later told
+      → ServesNext entries memories remaining misread ended count contents failure waiting gathers old new door later told
   not_accepted : new ≡ old → IsRefused door later → told ≡ Err Socket
-      → ServesNext exact entries memories remaining misread ended count contents failure waiting gathers old new door later told
+      → ServesNext entries memories remaining misread ended count contents failure waiting gathers old new door later told
 
 -- So many were served so, each by the engine as the one before it has left that, and it was counted how they ended.
-pub data ServesAll {K R W : Type 0} (exact : Bool) (entries : K → Entries) (memories : K → Memories)
+pub data ServesAll {K R W : Type 0} (entries : K → Entries) (memories : K → Memories)
     (remaining : R → Option (List ℕ)) (misread ended : R → Option Bool) (count : R → Option ℕ) (contents : W → Option (List ℕ))
     (failure : W → Option Bool) (waiting : W → Bool) (gathers : Bool) (old : Engine K) (door : Seen)
     : (connections : ℕ) → Engine K → (later : Seen) → Served → Type 0 where
-  none : ServesAll exact entries memories remaining misread ended count contents failure waiting gathers old door 0 old door nobody
+  none : ServesAll entries memories remaining misread ended count contents failure waiting gathers old door 0 old door nobody
   one_more : {n : ℕ} {mid new : Engine K} {between later : Seen} {served : Served} {told : Result Report ConnectionFault}
-      → ServesAll exact entries memories remaining misread ended count contents failure waiting gathers old door n mid between served
-      → ServesNext exact entries memories remaining misread ended count contents failure waiting gathers mid new between later told
-      → ServesAll exact entries memories remaining misread ended count contents failure waiting gathers old door (n + 1) new later (counted told served)
+      → ServesAll entries memories remaining misread ended count contents failure waiting gathers old door n mid between served
+      → ServesNext entries memories remaining misread ended count contents failure waiting gathers mid new between later told
+      → ServesAll entries memories remaining misread ended count contents failure waiting gathers old door (n + 1) new later (counted told served)

@@ -12,14 +12,13 @@
 //! `at_engine`'s `run`, each in the state in which the one before it has left the engine. Nothing else is written.
 #![tactic(auto)]
 
-ghost use Rattle.std.specs.Prelude.{◌≡◌, None, IfOk, IfSome, false, is_none, option_map};
+ghost use Rattle.std.specs.Prelude.{◌≡◌, None, IfErr, IfOk};
 ghost use Rattle.std.specs.Option.{unwrap_or};
 ghost use Rattle.at_model.specs.Edits.{usual_nodes};
-ghost use Rattle.at_cache.specs.Bound.{bounded_by, remembered_by};
-ghost use Rattle.at_cache.specs.Kept.{KeepsAll};
-ghost use Rattle.at_cache.specs.Traced.{TracesNothing};
-ghost use Rattle.at_engine.specs.Engines.{IsSound, KeepsNothing};
-ghost use Rattle.at_start.specs.Starts.{IsFaultOf};
+ghost use Rattle.at_engine.specs.Engines.{most_of, rules_of, slice_of, state_of, IsSound, KeepsNothing};
+ghost use Rattle.at_engine.specs.Keeping.{IsSpare};
+ghost use Rattle.at_start.specs.Starts.{AreSameButTree, IsFaultOf, IsStartFault, Starts};
+ghost use Rattle.at_start.specs.Whole.{AnswersFiles, RunsFiles};
 
 mod door;
 mod failure;
@@ -29,8 +28,8 @@ mod serving;
 mod socket;
 mod stack;
 
-use at_cache::{KeepCutOff, KeepCutOffAtMost, KeepInTurns, Keeper};
-use at_engine::{Engine, Output, Watched};
+use at_cache::{KeepInTurns, KeepRecorded, Keeper};
+use at_engine::{Engine, Input, Output, Watched};
 use at_start::{
     Answered, Files, MAX_FILE, Source, StartFault, USUAL_NODES, answer, start_with, tree_bytes,
 };
@@ -104,50 +103,20 @@ fn work_of<K: Keeper>(options: &Options, engine: &Engine<K>) -> Work {
     }
 }
 
-/// Serves what the words of the command line ask for, and notes the engine's work, where they ask for that.
+/// Serves what the words of the command line ask for, over a cache with which turns reuse just where cut-off is asked for; and notes the
+/// engine's work, where they ask for that.
 fn serve_words(rt: &HostRuntime, work: &mut Option<Work>) -> Result<(), Failure> {
     let options = asked(rt)?;
     let mut files = read_files(rt, &options)?;
-    match bounded(rt.alloc(), &options) {
-        Some(keeper) => serve_kept(rt, &options, &mut files, keeper, work),
-        None => serve_kept(rt, &options, &mut files, KeepCutOff::new(rt.alloc()), work),
-    }
-}
-
-/// An empty cache with the bound that is asked for, where there is one.
-fn bounded(alloc: Global, options: &Options) -> Option<KeepCutOffAtMost>
-    ensures bound { option_map (λ k. k.most) result ≡ options.now.keep }
-    ensures none { is_none result ≡ is_none options.now.keep }
-    ensures empty { IfSome result (λ k. KeepsAll (λ _. None) (bounded_by k)) }
-    ensures traces { IfSome result (λ k. TracesNothing (remembered_by k)) }
-{
-    match options.keep {
-        Some(most) => Some(KeepCutOffAtMost::new(alloc, most as usize)),
-        None => None,
-    }
-}
-
-/// Serves what is asked for over an empty cache with which turns reuse nothing, or over one in which it is, and with which they do: just
-/// where cut-off is asked for.
-fn serve_kept<K: Keeper>(
-    rt: &HostRuntime,
-    options: &Options,
-    files: &mut Files,
-    keeper: K,
-    work: &mut Option<Work>,
-) -> Result<(), Failure>
-    requires empty { KeepsNothing K.contents K.memories keeper }
-    requires unbounded { K.exact ≡ is_none options.now.keep }
-    requires plain { (K.memories keeper).in_turns ≡ false }
-{
+    let keeper = KeepRecorded::new(rt.alloc());
     if options.cut_off {
-        return serve_over(rt, options, files, KeepInTurns { keeper }, work);
+        return serve_over(rt, &options, &mut files, KeepInTurns { keeper }, work);
     }
-    serve_over(rt, options, files, keeper, work)
+    serve_over(rt, &options, &mut files, keeper, work)
 }
 
-/// Serves what is asked for over an empty cache, which is exact just where no bound is asked for, and with which turns reuse just where
-/// cut-off is; and notes the engine's work, where that is asked for, too.
+/// Serves what is asked for over an empty cache, with which turns reuse just where cut-off is asked for; and notes the engine's work, where
+/// that is, too.
 fn serve_over<K: Keeper>(
     rt: &HostRuntime,
     options: &Options,
@@ -156,7 +125,6 @@ fn serve_over<K: Keeper>(
     work: &mut Option<Work>,
 ) -> Result<(), Failure>
     requires empty { KeepsNothing K.contents K.memories keeper }
-    requires unbounded { K.exact ≡ is_none options.now.keep }
     requires turning { (K.memories keeper).in_turns ≡ options.now.cut_off }
 {
     let mut done = None;
@@ -236,15 +204,7 @@ fn serve_lines<K: Keeper, W: Output>(
     requires { KeepsNothing K.contents K.memories keeper }
 {
     let mut reader = Watched::new(rt.reader());
-    match answer(
-        rt.alloc(),
-        files,
-        keeper,
-        options.slice,
-        &mut reader,
-        writer,
-        options.gather,
-    ) {
+    match answer_asked(rt.alloc(), options, files, keeper, &mut reader, writer) {
         Ok(answered) => {
             let Answered { run, engine } = answered;
             *work = Some(work_of(options, &engine));
@@ -256,6 +216,67 @@ fn serve_lines<K: Keeper, W: Output>(
             }
         }
         Err(fault) => Err(refused(rt, files, &fault)),
+    }
+}
+
+/// Serves the lines that the reader gives by the engine that the files make over the empty cache, as is asked for.
+fn answer_asked<K: Keeper, R: Input, W: Output>(
+    alloc: Global,
+    options: &Options,
+    files: &mut Files,
+    keeper: K,
+    reader: &mut R,
+    writer: &mut W,
+) -> Result<Answered<K>, StartFault>
+    requires { KeepsNothing K.contents K.memories keeper }
+    ensures answers { AnswersFiles files.old options.now.slice result (R.remaining reader.old) (R.remaining reader.new)
+        (W.contents writer.old) (W.contents writer.new) }
+    ensures runs { IfOk result (RunsFiles K.contents K.memories R.remaining R.failed R.ended R.reads W.contents W.failed W.waits files.old
+        options.now.slice options.now.keep options.now.gather reader.old reader.new writer.old writer.new) }
+    ensures rest { AreSameButTree files.old files.new }
+{
+    let most = most_asked(options);
+    answer(
+        alloc,
+        files,
+        keeper,
+        options.slice,
+        most,
+        reader,
+        writer,
+        options.gather,
+    )
+}
+
+/// The engine that the files make over the empty cache, with the turns and the bound that are asked for.
+fn start_asked<K: Keeper>(
+    alloc: Global,
+    options: &Options,
+    files: &mut Files,
+    keeper: K,
+) -> Result<Engine<K>, StartFault>
+    requires { KeepsNothing K.contents K.memories keeper }
+    ensures started { IfOk result (λ e. Starts files.old (rules_of e) (state_of e)) }
+    ensures sound { IfOk result (IsSound K.contents K.memories) }
+    ensures slice { IfOk result (λ e. slice_of e ≡ options.now.slice) }
+    ensures most { IfOk result (λ e. most_of e ≡ options.now.keep) }
+    ensures spare { IfOk result (λ e. options.now.keep ≡ None → IsSpare K.contents e) }
+    ensures refused { IfErr result (IsStartFault files.old) }
+    ensures rest { AreSameButTree files.old files.new }
+{
+    let mut engine = start_with(alloc, files, keeper)?;
+    engine.set_slice(options.slice);
+    engine.set_most(most_asked(options));
+    Ok(engine)
+}
+
+/// How many entries of the cache an edit leaves in memory at most, where a bound is asked for.
+fn most_asked(options: &Options) -> Option<usize>
+    ensures { result ≡ options.now.keep }
+{
+    match options.keep {
+        Some(most) => Some(most as usize),
+        None => None,
     }
 }
 
@@ -271,11 +292,10 @@ fn serve_connections<K: Keeper>(
 ) -> Result<(), Failure>
     requires { KeepsNothing K.contents K.memories keeper }
 {
-    let mut engine = match start_with(rt.alloc(), files, keeper) {
+    let mut engine = match start_asked(rt.alloc(), options, files, keeper) {
         Ok(engine) => engine,
         Err(fault) => return Err(refused(rt, files, &fault)),
     };
-    engine.set_slice(options.slice);
     let served = serve_socket(rt, path, options, &mut engine);
     *work = Some(work_of(options, &engine));
     mem::forget(engine);

@@ -1,6 +1,6 @@
 //! The connections of a socket, served one after the other.
-ghost use Rattle.std.specs.Prelude.{◌≡◌, ◌≤◌, ◌+◌, ◌<◌, ◌^◌, ◌==◌, IsTrue, Some};
-ghost use Rattle.at_engine.specs.Engines.{rules_of, slice_of, IsSound};
+ghost use Rattle.std.specs.Prelude.{◌≡◌, ◌≤◌, ◌+◌, ◌<◌, ◌^◌, ◌==◌, Some};
+ghost use Rattle.at_engine.specs.Engines.{rules_of, settings_of, IsSound};
 ghost use Rattle.at_engine.specs.Keeping.{IsSpare, KeepsWhole};
 ghost use Rattle.attrd.specs.Connections.{counted, faults, lack, lacks, nobody};
 ghost use Rattle.attrd.specs.Failures.{connection_fault_text, fault_line, served_text};
@@ -166,14 +166,14 @@ impl Served {
 /// ends that connection alone; one that isn't accepted counts, too.
 pub fn serve<K: Keeper, D: Door>(engine: &mut Engine<K>, door: &mut D, n: u16) -> Served
     requires sound { IsSound K.contents K.memories engine.old }
-    ensures serves { ServesAll K.exact K.contents K.memories D.Reader.remaining D.Reader.failed D.Reader.ended D.Reader.reads
+    ensures serves { ServesAll K.contents K.memories D.Reader.remaining D.Reader.failed D.Reader.ended D.Reader.reads
         D.Writer.contents D.Writer.failed D.Writer.waits D.gathering
         engine.old (D.seen door.old) n engine.new (D.seen door.new) result }
-    ensures spare { KeepsWhole (rules_of engine.old) (lack result) → IsTrue K.exact → IsSpare K.contents engine.old → IsSpare K.contents engine.new }
+    ensures spare { KeepsWhole (rules_of engine.old) (lack result) → IsSpare K.contents engine.old → IsSpare K.contents engine.new }
     ensures ended { result.ended ≡ n }
     ensures faults { faults result + result.lacking ≤ n }
     ensures rules { rules_of engine.new ≡ rules_of engine.old }
-    ensures slice { slice_of engine.new ≡ slice_of engine.old }
+    ensures settings { settings_of engine.new ≡ settings_of engine.old }
     ensures sound { IsSound K.contents K.memories engine.new }
 {
     let mut served = Served::none();
@@ -190,12 +190,12 @@ fn serve_next<K: Keeper, D: Door>(
     door: &mut D,
 ) -> Result<Report, ConnectionFault>
     requires sound { IsSound K.contents K.memories engine.old }
-    ensures serves { ServesNext K.exact K.contents K.memories D.Reader.remaining D.Reader.failed D.Reader.ended D.Reader.reads
+    ensures serves { ServesNext K.contents K.memories D.Reader.remaining D.Reader.failed D.Reader.ended D.Reader.reads
         D.Writer.contents D.Writer.failed D.Writer.waits D.gathering
         engine.old engine.new (D.seen door.old) (D.seen door.new) result }
-    ensures spare { KeepsWhole (rules_of engine.old) (lacks result) → IsTrue K.exact → IsSpare K.contents engine.old → IsSpare K.contents engine.new }
+    ensures spare { KeepsWhole (rules_of engine.old) (lacks result) → IsSpare K.contents engine.old → IsSpare K.contents engine.new }
     ensures rules { rules_of engine.new ≡ rules_of engine.old }
-    ensures slice { slice_of engine.new ≡ slice_of engine.old }
+    ensures settings { settings_of engine.new ≡ settings_of engine.old }
     ensures sound { IsSound K.contents K.memories engine.new }
 {
     let Ok(mut ends) = door.open() else {

@@ -1,4 +1,4 @@
-//! starve: answers lines with a keeper that a word names, also with those that `attrd` has no option for, and tells how
+//! starve: answers lines with a keeper and a bound that a word names, also with one that `attrd` has no option for, and tells how
 //! many were answered `memory`. `tools/starve.py` has a request for memory refused in each run, and
 //! `tools/of_the_program` plays sessions.
 //!
@@ -7,10 +7,7 @@
 
 ghost use Rattle.at_engine.specs.Engines.{KeepsNothing};
 
-use at_cache::{
-    KeepAtMost, KeepCutOff, KeepCutOffAtMost, KeepInTurns, KeepNone, KeepRecorded, KeepUntilEdit,
-    Keeper,
-};
+use at_cache::{KeepInTurns, KeepRecorded, Keeper};
 use at_engine::{RunFault, Watched};
 use at_start::{Files, Forms, MAX_FILE, Source, StartFault, USUAL_NODES, answer};
 use std::alloc::{AllocError, AllocFailed};
@@ -19,8 +16,15 @@ use std::io::{ErrorKind, Read};
 use std::process::ExitCode;
 use std::{env, io};
 
-/// How many entries a keeper with a bound may have from one edit to the next: so few that edits fold what is kept.
+/// How many entries an edit leaves in memory at most where there is a bound: so few that edits fold what is kept.
 const FEW: usize = 4;
+
+/// How many entries an edit leaves in memory at most, where there is a bound, and whether turns keep again what they can.
+#[derive(Clone, Copy)]
+struct Way {
+    most: Option<usize>,
+    in_turns: bool,
+}
 
 /// Why lines weren't answered to their end.
 enum Stop {
@@ -61,44 +65,36 @@ fn serve(rt: &HostRuntime) -> Result<(), Stop> {
     };
     let words: Vec<String> = words.skip(1).collect(rt.alloc())?;
     let (forms, words) = forms_of(words.as_slice());
-    let [keeper, slice, grammar, tree, aspects @ ..] = words else {
+    let [word, slice, grammar, tree, aspects @ ..] = words else {
+        return Err(Stop::Fault);
+    };
+    let Some(way) = way_of(word.as_str()) else {
         return Err(Stop::Fault);
     };
     let Ok(slice) = slice.parse::<u32>() else {
         return Err(Stop::Fault);
     };
     let mut files = read_files(rt, forms, grammar, tree, aspects)?;
-    match keeper.as_str() {
-        "nothing" => serve_with(rt, slice, &mut files, KeepNone::new(rt.alloc())),
-        "until-edit" => serve_with(rt, slice, &mut files, KeepUntilEdit::new(rt.alloc())),
-        "over-edits" => serve_with(rt, slice, &mut files, KeepRecorded::new(rt.alloc())),
-        "few" => serve_with(rt, slice, &mut files, KeepAtMost::new(rt.alloc(), FEW)),
-        _ => serve_verified(rt, slice, &mut files, keeper.as_str()),
+    let keeper = KeepRecorded::new(rt.alloc());
+    if way.in_turns {
+        return serve_with(rt, slice, way.most, &mut files, KeepInTurns { keeper });
     }
+    serve_with(rt, slice, way.most, &mut files, keeper)
 }
 
-/// Answers the lines over a keeper that takes what an edit may have changed as changed only where it did: as `attrd` does, or as it does
-/// with cut-off.
-fn serve_verified(
-    rt: &HostRuntime,
-    slice: u32,
-    files: &mut Files,
-    keeper: &str,
-) -> Result<(), Stop> {
-    let alloc = rt.alloc();
-    match keeper {
-        "verified" => serve_with(rt, slice, files, KeepCutOff::new(alloc)),
-        "few-verified" => serve_with(rt, slice, files, KeepCutOffAtMost::new(alloc, FEW)),
-        "cut-off" => {
-            let keeper = KeepCutOff::new(alloc);
-            serve_with(rt, slice, files, KeepInTurns { keeper })
-        }
-        "few-cut-off" => {
-            let keeper = KeepCutOffAtMost::new(alloc, FEW);
-            serve_with(rt, slice, files, KeepInTurns { keeper })
-        }
-        _ => Err(Stop::Fault),
-    }
+/// What the word names: a keeper as `attrd` has it, or as it has it with cut-off; each with no bound, with one of few entries, or with one of
+/// none.
+fn way_of(word: &str) -> Option<Way> {
+    let (most, in_turns) = match word {
+        "verified" => (None, false),
+        "few-verified" => (Some(FEW), false),
+        "until-edit" => (Some(0), false),
+        "cut-off" => (None, true),
+        "few-cut-off" => (Some(FEW), true),
+        "until-edit-cut-off" => (Some(0), true),
+        _ => return None,
+    };
+    Some(Way { most, in_turns })
 }
 
 /// The forms of aspects that the words name in front, and the words behind these.
@@ -112,11 +108,12 @@ fn forms_of(words: &[String]) -> (Forms, &[String]) {
     (Forms::NONE, words)
 }
 
-/// Answers the lines over an empty keeper, with so many turns behind each. On standard error it tells how many lines
+/// Answers the lines over an empty keeper, with so many turns behind each, and that bound. On standard error it tells how many lines
 /// and questions were answered `memory`, and the work.
 fn serve_with<K: Keeper>(
     rt: &HostRuntime,
     slice: u32,
+    most: Option<usize>,
     files: &mut Files,
     keeper: K,
 ) -> Result<(), Stop>
@@ -129,6 +126,7 @@ fn serve_with<K: Keeper>(
         files,
         keeper,
         slice,
+        most,
         &mut reader,
         &mut writer,
         false,

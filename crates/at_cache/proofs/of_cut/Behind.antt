@@ -29,36 +29,37 @@ next_on m old new q _ on (below j u t front back comes traced is all) =
 -- an instance that is put had no entry
 pub puts_on : (old new : Entries) (i : Instance ℕ) (v : Option (Value ℕ)) (reads : Location ℕ → Bool)
     (uses : List (Instance ℕ))
-    → old i ≡ None → PutsBy true old i v reads uses new → KeepsOn old new
+    → old i ≡ None → PutsBy old i v reads uses new → KeepsOn old new
 puts_on old new i v reads uses none puts j k there = puts.adds j ∙ by (same_instance i j) refl
   where
     by : (b : Bool) → same_instance i j ≡ b → (if b then Some puts.entry else old j) ≡ Some k
     by true is = absurd (none-some k (sym none ∙ ap old (same_true i j is) ∙ there))
     by false is = there
 
-pub settled_on : (m : Memories) (q : Instance ℕ) (n : ℕ) (old new : Entries) → Settled true m q n old new
+pub settled_on : (m : Memories) (q : Instance ℕ) (n : ℕ) (old new : Entries) → Settled m q n old new
     → KeepsOn old new
 settled_on m q _ _ _ (nothing entries) i k there = there
 settled_on m q _ _ _ (one_more n old mid new j t rest comes traced none all puts) i k there =
     puts_on mid new j (Some t.value) t.reads t.uses none puts i k (settled_on m q n old mid rest i k there)
 
+-- nothing was settled
+pub settles_nothing : (m : Memories) (q : Instance ℕ) (entries : Entries) (work : ℕ) → work < 2 ^ 64
+    → (n : ℕ) × Settled m q n entries entries × (work ≡ min (work + n) (2 ^ 64 - 1))
+settles_nothing m q entries work fits = (zero, nothing entries, omega (arith, fits))
+
 -- two behind each other
-settled_behind : (m : Memories) (q : Instance ℕ) (n k : ℕ) (old mid new : Entries) → Settled true m q n old mid
-    → Settled true m q k mid new
-    → (s : ℕ) × Settled true m q s old new × (s ≡ n + k)
+settled_behind : (m : Memories) (q : Instance ℕ) (n k : ℕ) (old mid new : Entries) → Settled m q n old mid
+    → Settled m q k mid new
+    → (s : ℕ) × Settled m q s old new × (s ≡ n + k)
 settled_behind m q n _ old mid _ first (nothing entries) = (n, first, omega arith)
 settled_behind m q n _ old mid _ first (one_more k from to new j t rest comes traced none all puts) =
     let (s, before, sum) = settled_behind m q n k old from to first rest in
     (suc s, one_more s old to new j t before comes traced none all puts, omega (arith, sum))
 
--- how much work was done, behind so much
-abbrev pub Grows : ℕ → ℕ → ℕ → Type 0
-Grows work n done = done ≡ min (work + n) (2 ^ 64 - 1)
-
 module _ (m : Memories) (i : Instance ℕ) where
   -- nothing is settled
   pub settles_none : (entries : Entries) (work : ℕ) → work < 2 ^ 64 → Settles m i entries entries work work
-  settles_none entries work fits q comes = (zero, nothing entries, omega (arith, fits))
+  settles_none entries work fits q comes = settles_nothing m q entries work fits
 
   pub settles_on : (old new : Entries) (work done : ℕ) → Settles m i old new work done → KeepsOn old new
   settles_on old new work done settles = let (n, settled, grows) = settles i itself in settled_on m i n old new settled
@@ -78,7 +79,7 @@ module _ (m : Memories) (i : Instance ℕ) where
   -- of i all uses are kept, and it comes itself
   pub settles_itself : (t : Trace) (old mid new : Entries) (work half done : ℕ) → m.traced i ≡ Some t → mid i ≡ None
       → AreAllKept mid t.uses
-      → PutsBy true mid i (Some t.value) t.reads t.uses new → done ≡ min (half + 1) (2 ^ 64 - 1)
+      → PutsBy mid i (Some t.value) t.reads t.uses new → done ≡ min (half + 1) (2 ^ 64 - 1)
       → Settles m i old mid work half → Settles m i old new work done
   settles_itself t old mid new work half done traced none all puts more first q comes =
       let (n, before, grows) = first q comes in (

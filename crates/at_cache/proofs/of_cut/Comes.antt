@@ -244,13 +244,13 @@ module _ {lists : Location ℕ → List Edge} (later : Location ℕ → List Edg
       covers_here c tied indexed later r listed l
       ∙ ap (λ b. list_any (same_location l) reads || b) (sym (covers_slots lists told st puts e.links c.links l))
 
-  pub puts_comes : Puts true (kept_held lists told st puts) e.instance e.value reads
+  pub puts_comes : Puts (kept_held lists told st puts) e.instance e.value reads
       (instances_in (memory_of told) e.links) (kept_held later tnew ts (puts + 1))
   puts_comes = record {
     entry = entry;
     value = refl;
     covers = λ l h. covers_put l ∙ h;
-    only = λ t l h. sym (covers_put l) ∙ h;
+    only = λ l h. sym (covers_put l) ∙ h;
     adds = λ j. by j (same_instance e.instance j) refl;
   }
     where

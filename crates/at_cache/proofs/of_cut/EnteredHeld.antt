@@ -152,7 +152,7 @@ pub record HasEntered (lists later : Location ℕ → List Edge) (told tnew : Ta
   pub indexed : IsIndexed later (number + 1) (held after (memory_of tnew))
   pub tied : IsTied later (number + 1) (memory_of tnew)
   pub valued : AreValued after (memory_of tnew)
-  pub puts : Puts true (kept_held lists told before number) inst value reads uses (kept_held later tnew after
+  pub puts : Puts (kept_held lists told before number) inst value reads uses (kept_held later tnew after
       (number + 1))
   pub traces : PutsTrace inst value reads uses o (remembered lists told before) (remembered later tnew after)
   pub spares : SparesOthers inst (kept_held later tnew after (number + 1)) (remembered lists told before) (remembered later tnew after)
@@ -196,7 +196,7 @@ module _ (lists later : Location ℕ → List Edge) (told tnew : Table) (mid : M
             standing o indexed tied valued absent named hold room r listed u1 used1 p stand since holds ordered has;
         valued = enters_valued lists later told tnew mid zero_st one_st two_st ts puts slot inst value links reads
             standing o indexed tied valued absent named hold room r listed u1 used1 p stand since holds ordered has;
-        puts = subst (λ us. Puts true (kept_held lists told zero_st puts) inst value reads us
+        puts = subst (λ us. Puts (kept_held lists told zero_st puts) inst value reads us
             (kept_held later tnew ts (puts + 1))) are
             (enters_puts lists later told tnew mid zero_st one_st two_st ts puts slot inst value links reads
             standing o indexed tied valued absent named hold room r listed u1 used1 p stand since holds ordered has);

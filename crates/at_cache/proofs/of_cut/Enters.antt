@@ -198,14 +198,14 @@ module _ (lists later : Location ℕ → List Edge) (told tnew : Table) (mid : M
             ∙ p.put.0);
       }
 
-  pub enters_puts : Puts true (kept_held lists told zero_st puts) inst value reads
+  pub enters_puts : Puts (kept_held lists told zero_st puts) inst value reads
       (instances_in (memory_of told) links) (kept_held later tnew ts (puts + 1))
   enters_puts =
-      subst (λ i. Puts true (kept_held lists told zero_st puts) i value reads (instances_in (memory_of told) links)
+      subst (λ i. Puts (kept_held lists told zero_st puts) i value reads (instances_in (memory_of told) links)
       (kept_held later tnew ts (puts + 1))) its_instance
-      (subst (λ v. Puts true (kept_held lists told zero_st puts) p.entry.instance v reads
+      (subst (λ v. Puts (kept_held lists told zero_st puts) p.entry.instance v reads
       (instances_in (memory_of told) links) (kept_held later tnew ts (puts + 1))) p.put.0
-      (subst (λ ls. Puts true (kept_held lists told zero_st puts) p.entry.instance p.entry.value reads
+      (subst (λ ls. Puts (kept_held lists told zero_st puts) p.entry.instance p.entry.value reads
       (instances_in (memory_of told) ls) (kept_held later tnew ts (puts + 1))) p.put.1
       (puts_comes later told tnew comes tied indexed (subst (λ x. Reads (memory_of told) x reads lists later)
       edge_is r) (subst (λ x. AreListed x reads later) edge_is listed)

@@ -38,17 +38,11 @@ module _ (lists : Location ℕ → List Edge) (t : Table) (ss : List Standing) (
   abbrev H : Memory
   H k = held ss (memory_of t) k
 
-  as_kept : Entry → Kept
-  as_kept e = record { value = option_map value_view e.value; covers = covers lists H puts e.slot }
-
   held_is : (o : Option Entry) (k : Kept) → option_map (λ (e : Entry). let k : Kept = record { value = option_map value_view e.value; covers = covers lists H puts e.slot } in k) (held_of ss o) ≡ Some k
       → (e : Entry) × (o ≡ Some e) × ((standing_of ss e.slot).holds ≡ true) × ((let k : Kept = record { value = option_map value_view e.value; covers = covers lists H puts e.slot } in k) ≡ k)
   held_is None k h = absurd (none-some k h)
   held_is (Some e) k h = by (standing_of ss e.slot).holds refl
     where
-      shape_of : Entry → Kept
-      shape_of e = record { value = option_map value_view e.value; covers = covers lists H puts e.slot }
-
       by : (b : Bool) → (standing_of ss e.slot).holds ≡ b → (f : Entry) × (Some e ≡ Some f) × ((standing_of ss f.slot).holds ≡ true) × ((let k : Kept = record { value = option_map value_view f.value; covers = covers lists H puts f.slot } in k) ≡ k)
       by true on = (e, refl, on, same_Some _ k (sym (ap (λ b. option_map (λ (e : Entry). let k : Kept = record { value = option_map value_view e.value; covers = covers lists H puts e.slot } in k) (if b then Some e else None)) on) ∙ h))
       by false off = absurd (none-some k (sym (ap (λ b. option_map (λ (e : Entry). let k : Kept = record { value = option_map value_view e.value; covers = covers lists H puts e.slot } in k) (if b then Some e else None)) off) ∙ h))

@@ -220,10 +220,10 @@ module _ (lists : Location ℕ → List Edge) (t : Table) where
               (are e.instance ∙ trace_slot a s e v there traced valued)
               (off_slot lists t a x.puts s e there off)
               (all e there)
-              (subst (λ n. PutsBy true (kept_held lists t a x.puts) e.instance (Some v)
+              (subst (λ n. PutsBy (kept_held lists t a x.puts) e.instance (Some v)
               (λ l. is_listed (edge_to s e) (lists l)) (instances_in (memory_of t) e.links)
               (kept_held lists t b n)) (sym puts)
-              (subst (λ o. PutsBy true (kept_held lists t a x.puts) e.instance o
+              (subst (λ o. PutsBy (kept_held lists t a x.puts) e.instance o
               (λ l. is_listed (edge_to s e) (lists l)) (instances_in (memory_of t) e.links)
               (kept_held lists t b (x.puts + 1))) valued puts_it))
               work
@@ -293,7 +293,7 @@ module _ (lists : Location ℕ → List Edge) (t : Table) (i : Instance ℕ) (s 
       let (e, there, is) = slot_of t i has.entry has.found in
       subst (λ j. GoesOn lists t j a y b z) is (settled e (subst (λ n. memory_of t n ≡ Some e) has.there there)).0
 
-  pub settled_from : (n : ℕ) × Settled true (remembered lists t a) i n (kept_held lists t a y.puts)
+  pub settled_from : (n : ℕ) × Settled (remembered lists t a) i n (kept_held lists t a y.puts)
       (kept_held lists t b z.puts) × (z.work ≡ min (y.work + n) (2 ^ 64 - 1))
   settled_from = goes_from.settles (remembered lists t a) (λ j. refl) i itself
 

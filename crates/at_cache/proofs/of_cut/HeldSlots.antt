@@ -190,13 +190,13 @@ module _ (lists : Location ℕ → List Edge) (t : Table) (old new : List Standi
       covers_it lists m old new puts s e there off here others indexed tied on l
       ∙ ap (λ b. is_listed (edge_to s e) (lists l) || b) (sym (covers_slots lists t old puts e.links links l))
 
-  pub puts_again : PutsBy true (kept_held lists t old puts) e.instance e.value (λ l. is_listed (edge_to s e) (lists l))
+  pub puts_again : PutsBy (kept_held lists t old puts) e.instance e.value (λ l. is_listed (edge_to s e) (lists l))
       (instances_in m e.links)
       (kept_held lists t new (puts + 1))
   puts_again = record {
     entry = entry;
     value = refl;
     covers = λ l h. covers_all l ∙ h;
-    only = λ t l h. sym (covers_all l) ∙ h;
+    only = λ l h. sym (covers_all l) ∙ h;
     adds = adds;
   }

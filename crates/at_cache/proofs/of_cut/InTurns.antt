@@ -1,6 +1,6 @@
 -- Memories that differ in whether turns keep again what can be.
-use Rattle.std.proofs.Common.{◌≡◌, ℕ, Bool, inl, inr}
-use Rattle.at_model.specs.Run.{Instance, Location, Value}
+use Rattle.std.proofs.Common.{ℕ, Bool, inl, inr}
+use Rattle.at_model.specs.Run.{Instance}
 use Rattle.at_cache.specs.Kept.{Entries}
 use Rattle.at_cache.specs.Traced.{IsNext, IsOutdated, IsSpared, Memories, Settled, SparesOthers, Trace, below, itself, nothing, one_more}
 
@@ -13,10 +13,10 @@ module _ (b : Bool) (m : Memories) where
   next_in_turns entries q _ itself = itself
   next_in_turns entries q _ (below j u t front back n traced uses kept) = below j u t front back (next_in_turns entries q j n) traced uses kept
 
-  pub settled_in_turns : (exact : Bool) (q : Instance ℕ) (n : ℕ) (old new : Entries) → Settled exact m q n old new → Settled exact (with_turns b m) q n old new
-  settled_in_turns exact q _ old _ (nothing _) = nothing old
-  settled_in_turns exact q _ old new (one_more n _ mid _ i t front next traced none kept puts) =
-      one_more n old mid new i t (settled_in_turns exact q n old mid front) (next_in_turns mid q i next) traced none kept puts
+  pub settled_in_turns : (q : Instance ℕ) (n : ℕ) (old new : Entries) → Settled m q n old new → Settled (with_turns b m) q n old new
+  settled_in_turns q _ old _ (nothing _) = nothing old
+  settled_in_turns q _ old new (one_more n _ mid _ i t front next traced none kept puts) =
+      one_more n old mid new i t (settled_in_turns q n old mid front) (next_in_turns mid q i next) traced none kept puts
 
 -- what the other one spares
 module _ (b c : Bool) (old new : Memories) where

@@ -1,5 +1,5 @@
 -- What stays where an entry that was to come doesn't.
-use Rattle.std.proofs.Common.{◌≡◌, inl, ℕ, ◌+◌, List, true, Option, None, Some, Result, Ok, Err, IfOk, OnErr, is_some, option_map, if◌then◌else◌, refl, sym, ap, ◌∙◌, subst}
+use Rattle.std.proofs.Common.{◌≡◌, inl, ℕ, ◌+◌, List, Option, None, Some, Result, Ok, Err, OnOk, OnErr, is_some, option_map, if◌then◌else◌, refl, sym, ap, ◌∙◌, subst}
 use Rattle.std.specs.Map.{lookup}
 use Rattle.std.specs.Option.{option_and_then}
 use Rattle.std.proofs.lemmas.Option.{none-some, same_Some}
@@ -11,11 +11,10 @@ use Rattle.at_cache.specs.declared.cut.Pass.TheVariants as pass
 use Rattle.at_cache.specs.declared.edge.Edge.{Edge}
 use Rattle.at_cache.specs.declared.entry.Entry.{Entry}
 use Rattle.at_cache.specs.declared.keeper.Order.{Order}
-use Rattle.at_cache.specs.declared.keeper.Put.{Put}
 use Rattle.at_cache.specs.declared.standing.Standing.{Standing}
 use Rattle.at_cache.specs.declared.table.Table.{Table}
 use Rattle.at_cache.specs.Info.{Info, Memory, memory_of}
-use Rattle.at_cache.specs.Kept.{Entries, HasPut, Kept, KeepsAll}
+use Rattle.at_cache.specs.Kept.{Entries, Kept, KeepsAll, Puts}
 use Rattle.at_cache.specs.Putting.{Reads, Uses, with_users}
 use Rattle.at_cache.specs.Recorded.{IsIndexed, covers}
 use Rattle.at_cache.specs.Renewing.{EntersHeld}
@@ -130,7 +129,7 @@ pub enters_none : {E : Type 0} (i : Instance ℕ) (v : Option (Value ℕ)) (look
     (taken : List (Instance ℕ)) (o : Order) (number : ℕ) (lists : Location ℕ → List Edge) (old : Cut)
     (later : Location ℕ → List Edge) (new : Cut)
     → Left lists later old.entries new.entries old.standings.items new.standings.items number
-    → (r : Result Put E) → IfOk r (λ p. ⊥) → EntersHeld i v looked taken o number lists old later new r
+    → (r : Result (Unit {0}) E) → OnOk r ⊥ → EntersHeld i v looked taken o number lists old later new r
 enters_none {E = E} i v looked taken o number lists old later new k r off = record {
   indexed = k.indexed;
   tied = k.tied;
@@ -141,11 +140,11 @@ enters_none {E = E} i v looked taken o number lists old later new k r off = reco
   spares = k.spares i (kept_cut later new (number + 1));
 }
   where
-    puts : (r : Result Put E) → IfOk r (λ p. ⊥)
-        → IfOk r (HasPut true (kept_cut lists old number) i v looked taken (kept_cut later new (number + 1)))
+    puts : (r : Result (Unit {0}) E) → OnOk r ⊥
+        → OnOk r (Puts (kept_cut lists old number) i v looked taken (kept_cut later new (number + 1)))
     puts (Ok p) off = absurd off
     puts (Err e) off = tt
 
-    err : (r : Result Put E) → OnErr r (KeepsAll (kept_cut lists old number) (kept_cut later new (number + 1)))
+    err : (r : Result (Unit {0}) E) → OnErr r (KeepsAll (kept_cut lists old number) (kept_cut later new (number + 1)))
     err (Ok p) = tt
     err (Err e) = k.err

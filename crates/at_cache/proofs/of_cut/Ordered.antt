@@ -1,16 +1,18 @@
 -- The slots of instances, in order.
-use Rattle.std.proofs.Common.{◌≡◌, [], ◌∷◌, ◌++◌, ◌<◌, ◌+◌, ℕ, List, length, get_or, take, Some, None, is_some, Contains, sym, ap, ◌∙◌, subst, true≢false}
+use Rattle.std.proofs.Common.{◌≡◌, [], ◌∷◌, ◌++◌, ◌<◌, ◌+◌, inl, inr, ℕ, List, length, get_or, take, Some, None, IsSome, is_some, Contains, sym, ap, ◌∙◌, subst, true≢false}
 use Rattle.std.specs.Map.{lookup}
 use Rattle.std.proofs.lemmas.List.{take_more}
-use Rattle.std.proofs.lemmas.List.Elements.{Contains-append_left, Contains-append_right}
+use Rattle.std.proofs.lemmas.List.Elements.{Contains-append_left, Contains-append_right, Contains-push_cases}
 use Rattle.at_model.specs.Run.{Instance}
 use Rattle.at_body.specs.Same.{same_instance}
 use Rattle.at_cache.specs.declared.entry.Entry.{Entry}
 use Rattle.at_cache.specs.declared.table.Table.{Table}
 use Rattle.at_cache.specs.Info.{memory_of}
+use Rattle.at_cache.specs.Putting.{AreTaken}
 use Rattle.at_cache.specs.Standings.{instances_in}
 use Rattle.at_cache.specs.Theirs.{AreTheirs}
 use Rattle.at_cache.proofs.Dooming.{head_of}
+use Rattle.at_cache.proofs.Shown.{slot_there}
 use Rattle.at_cache.proofs.of_cut.Goes.{instances_at}
 use Rattle.at_cache.proofs.of_cut.HeldSlots.{slot_of}
 
@@ -35,3 +37,10 @@ module _ (t : Table) (uses : List (Instance ℕ)) (i : ℕ) (u : Instance ℕ) (
   theirs_none after none same all =
       absurd (true≢false (sym (all u (subst (λ us. Contains us u) one_more
       (Contains-append_right (take i uses) (u ∷ []) u (head_of u [])))) ∙ ap is_some none))
+
+pub taken_more : (t : Table) (u : Instance ℕ) (e : Entry) (slots after : List ℕ) → lookup (same_instance u) t.entries.entries ≡ Some e
+    → after ≡ slots ++ e.slot ∷ [] → AreTaken (memory_of t) slots → AreTaken (memory_of t) after
+taken_more t u e slots after found pushed taken s c = elim (Contains-push_cases slots e.slot s (subst (λ ss. Contains ss s) pushed c)) [
+  | inl d ↦ taken s d
+  | inr same ↦ subst (λ s. IsSome (memory_of t s)) same (slot_there t u e found)
+]

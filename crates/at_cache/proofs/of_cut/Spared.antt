@@ -10,12 +10,10 @@ use Rattle.at_body.proofs.SamenessLemmas.{same_true}
 use Rattle.at_cache.specs.declared.edge.Edge.{Edge}
 use Rattle.at_cache.specs.declared.entry.Entry.{Entry}
 use Rattle.at_cache.specs.declared.keeper.Order.{Order}
-use Rattle.at_cache.specs.declared.keeper.Put.{Put}
-use Rattle.at_cache.specs.declared.keeper.Put.TheVariants as put
 use Rattle.at_cache.specs.declared.standing.Standing.{Standing}
 use Rattle.at_cache.specs.declared.table.Table.{Table}
 use Rattle.at_cache.specs.Info.{Info, memory_of}
-use Rattle.at_cache.specs.Kept.{Entries, HasPut}
+use Rattle.at_cache.specs.Kept.{Entries, Puts}
 use Rattle.at_cache.specs.Standings.{last_of, remembered, standing_of, trace_at, trace_of}
 use Rattle.at_cache.specs.Traced.{AreAlike, IsSpared, IsStill, IsTraceOf, KeepsTrace, Memories, PutsTrace, SparesOthers, Trace, TracesKept}
 use Rattle.at_cache.proofs.of_cut.HeldSlots.{entry_in, slot_of}
@@ -120,10 +118,9 @@ untraced_sure entries m kept i absent = by (m.traced i) refl
 
 -- so it is once one more was put
 pub sure_put : (old new : Entries) (m n : Memories) (i : Instance ℕ) (v : Option (Value ℕ)) (ls : List (Location ℕ))
-    (us : List (Instance ℕ)) (o : Order) (p : Put) → HasPut true old i v ls us new p → PutsTrace i v ls us o m n →
+    (us : List (Instance ℕ)) (o : Order) → Puts old i v ls us new → PutsTrace i v ls us o m n →
     TracesKept old m → TracesKept new n
-sure_put old new m n i v ls us o put.Left h traces kept = λ j t is. absurd (true≢false h.0)
-sure_put old new m n i v ls us o put.Kept h traces kept = λ j t is. by j t (traces j t is)
+sure_put old new m n i v ls us o h traces kept = λ j t is. by j t (traces j t is)
   where
     here : IsSome (new i)
     here = ap is_some (h.adds i ∙ ap (λ b. if b then Some h.entry else old i) (instances_equiv.refl i))

@@ -5,9 +5,6 @@ use Rattle.std.proofs.lemmas.List.Kept.{Contains-dedup_nat, Contains-from_dedup}
 use Rattle.std.proofs.lemmas.List.Sorted.{Contains-permutation, IsPermutation-sym}
 use Rattle.at_cache.specs.Folding.{HasSame, Linked}
 
-pub same_then : (xs ys zs : List ℕ) → HasSame xs ys → HasSame ys zs → HasSame xs zs
-same_then xs ys zs a b = record { kept = λ p c. b.kept p (a.kept p c); from = λ p c. a.from p (b.from p c) }
-
 -- in order, and each once
 pub same_sorted : (xs sorted : List ℕ) → IsPermutation xs sorted → HasSame xs (dedup eqb sorted)
 same_sorted xs sorted moved = record {

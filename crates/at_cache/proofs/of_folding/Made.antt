@@ -4,15 +4,12 @@ use Rattle.std.proofs.lemmas.Bool.{cases_eq}
 use Rattle.std.proofs.lemmas.Option.{none-some, same_Some}
 use Rattle.at_model.specs.Run.{Location}
 use Rattle.at_cache.specs.declared.edge.Edge.{Edge}
-use Rattle.at_cache.specs.declared.table.Table.{Table}
-use Rattle.at_cache.specs.Folding.{AreLinks, Folded, Folds, IsLeft, IsRelinked, LeavesKept, Linked, Refolded, Relinks, Remains, Rewritten, Stays}
-use Rattle.at_cache.specs.Info.{Info, Memory, memory_of}
+use Rattle.at_cache.specs.Folding.{AreLinks, Folded, Folds, IsLeft, IsRelinked, Linked, Refolded, Relinks, Remains, Rewritten, Stays}
+use Rattle.at_cache.specs.Info.{Info, Memory}
 use Rattle.at_cache.specs.Putting.{is_current}
-use Rattle.at_cache.specs.Recorded.{edge_to, kept_in}
+use Rattle.at_cache.specs.Recorded.{edge_to}
 use Rattle.at_cache.proofs.Index.{Index, Standing, kept_at}
 use Rattle.at_cache.proofs.Listing.{current}
-use Rattle.at_cache.proofs.Showing.{leaves_of}
-use Rattle.at_cache.proofs.Shown.{shown_table}
 use Rattle.at_cache.proofs.of_folding.Folded.{folded_indexed, kept_folded}
 use Rattle.at_cache.proofs.of_folding.Gathering.{told}
 
@@ -105,9 +102,3 @@ module _ {lists later : Location ℕ → List Edge} {puts : ℕ} {m mid n : Memo
 
   pub kept_then : (s : ℕ) (x : Standing) → kept_at later n puts s ≡ Some x → kept_at lists m puts s ≡ Some x
   kept_then = kept_folded i plan folded_by
-
--- so it is of instances
-pub leaves_folded : (lists later : Location ℕ → List Edge) (old new : Table) (puts : ℕ)
-    → ((s : ℕ) (x : Standing) → kept_at later (memory_of new) puts s ≡ Some x → kept_at lists (memory_of old) puts s ≡ Some x)
-    → LeavesKept (kept_in lists old puts) (kept_in later new puts)
-leaves_folded lists later old new puts h i k is = (leaves_of (shown_table lists old puts) (shown_table later new puts) (λ l b. Unit {0}) (λ s x there. (h s x there, λ l c. tt)) i k is).0

@@ -1,6 +1,6 @@
 -- A flush goes over the seats of nodes, beside their own facets.
-use Rattle.std.proofs.Common.{◌≡◌, ◌⊎◌, inl, inr, ℕ, ◌+◌, ◌<◌, ◌≤◌, List, [], ◌∷◌, ◌++◌, append-nil, ◌&&◌, ◌||◌, Bool, true, false, true≢false, not, cond, Option, None, Some, Contains, slice_get, length, nat_eq, nat_lt, if◌then◌else◌, refl, sym, ap, ◌∙◌, subst, append_assoc, arith, eqb-true}
-use Rattle.std.proofs.lemmas.Bool.{cases_lt, cases_Bool, eq-eqb, lt-ltb, ltb-true}
+use Rattle.std.proofs.Common.{◌≡◌, ◌⊎◌, inl, inr, ℕ, ◌+◌, ◌≤◌, List, [], ◌∷◌, ◌++◌, append-nil, ◌&&◌, Bool, true, false, true≢false, not, cond, Option, None, Some, Contains, slice_get, length, nat_eq, if◌then◌else◌, refl, sym, ap, ◌∙◌, subst, append_assoc, arith, eqb-true}
+use Rattle.std.proofs.lemmas.Bool.{cases_Bool}
 use Rattle.std.proofs.lemmas.Option.{slice_get_past}
 use Rattle.at_model.specs.Run.{Location, Idx}
 use Rattle.smallvec.specs.SmallVec.{SmallVec}
@@ -11,9 +11,8 @@ use Rattle.at_cache.specs.declared.run.Reach.{Reach}
 use Rattle.at_cache.specs.declared.run.Run.{Run}
 use Rattle.at_cache.specs.declared.run.Seat.{Seat}
 use Rattle.at_cache.specs.declared.scope.Scope.{Scope}
-use Rattle.at_cache.specs.declared.scope.Scope.TheVariants as scope
 use Rattle.at_cache.specs.Asking.{AreNoted, Asked, GoesOn, is_index, looks_at, sees}
-use Rattle.at_cache.specs.Flushing.{Begins, IsIdle, Work}
+use Rattle.at_cache.specs.Flushing.{Work}
 use Rattle.at_cache.specs.Info.{Memory}
 use Rattle.at_cache.specs.Kept.{node_at}
 use Rattle.at_cache.specs.Recorded.{is_listed}
@@ -21,13 +20,13 @@ use Rattle.at_cache.specs.Readers.{edges_at, is_of_index, stands_for}
 use Rattle.at_cache.specs.Finding.{edges_to}
 use Rattle.at_cache.specs.Runs.{edges_on, edges_over, edges_past, is_seen, lies}
 use Rattle.at_cache.proofs.Beginning.{asked_both}
-use Rattle.at_cache.proofs.Ending.{and, both, on_left, on_right}
+use Rattle.at_cache.proofs.Ending.{and, both}
 use Rattle.at_cache.proofs.of_runs.Following.{lies_in, no_index}
 use Rattle.at_cache.proofs.Listed.{no_edges}
 use Rattle.at_cache.proofs.Locations.{stands_at, stands_index}
 use Rattle.at_cache.proofs.of_runs.Reaching.{on_are}
-use Rattle.at_cache.proofs.Naming.{goes_as, goes_further, goes_nowhere}
-use Rattle.at_cache.proofs.Taking.{begun, none_in}
+use Rattle.at_cache.proofs.Naming.{goes_nowhere}
+use Rattle.at_cache.proofs.Taking.{none_in}
 
 seen_node : (node : ℕ) (s : Scope) (l : Location ℕ) → sees s node l ≡ true → node_at l ≡ node
 seen_node node s l h = sym (eqb-true node (node_at l) (both _ _ h).0)
@@ -165,36 +164,3 @@ module _ {says : Location ℕ → Bool → Type 0} (rs : AllReaders) where
   goes_unread count own seats none first m = goes_nowhere first m (λ l h x c.
       let all : count ≤ node_at l = omega (arith, none) in
       none_in x (subst (λ es. Contains es x) (beyond rs count own seats l all) c))
-
-  -- no node yet
-  pub goes_first : (first : Option ℕ) (m : Memory) → GoesOn says (λ l. nat_lt (node_at l) 0) (edges_to rs) first m first m
-  goes_first first m = goes_nowhere first m (λ l h. absurd (let less = ltb-true (node_at l) 0 h in omega (arith, less)))
-
-  -- one node more
-  pub goes_node : (number node : ℕ) → node ≡ number → {first mid later : Option ℕ} {m n o : Memory}
-      → GoesOn says (λ l. nat_lt (node_at l) number) (edges_to rs) first m mid n → GoesOn says (sees scope.All node) (edges_to rs) mid n later o
-      → GoesOn says (λ l. nat_lt (node_at l) (number + 1)) (edges_to rs) first m later o
-  goes_node number node is a b = goes_as (λ l h. inl (within l (ltb-true (node_at l) (number + 1) h))) (goes_further a b)
-    where
-      within : (l : Location ℕ) → node_at l < number + 1 → (nat_lt (node_at l) number || sees scope.All node l) ≡ true
-      within l less = elim (cases_lt (node_at l) number) [
-        | inl before ↦ on_left (nat_lt (node_at l) number) (sees scope.All node l) (lt-ltb (node_at l) number before)
-        | inr after ↦ on_right (nat_lt (node_at l) number) (sees scope.All node l)
-            (and (nat_eq node (node_at l)) true (eq-eqb node (node_at l) (let e : node_at l ≡ number = omega (arith, less, after) in is ∙ sym e)) refl)
-      ]
-
-  -- all nodes
-  pub goes_through : (number : ℕ) → length rs.own.items ≤ number → length rs.seats.items ≤ number → {later : Option ℕ} {m n : Memory}
-      → GoesOn says (λ l. nat_lt (node_at l) number) (edges_to rs) None m later n → IsIdle m
-      → (start : List Edge) × Work m start [] later n × Begins says (edges_to rs) start
-  goes_through number own seats {later} {m} {n} goes idle =
-      let (start, work, asked) = goes m [] (begun m idle) in
-      (start, work, record { from = asked.from; all = λ l. by l start asked (nat_lt (node_at l) number) refl })
-    where
-      by : (l : Location ℕ) (start : List Edge) → Asked says (λ k. nat_lt (node_at k) number) (edges_to rs) start → (b : Bool) → nat_lt (node_at l) number ≡ b
-          → says l false ⊎ ((x : Edge) → Contains (edges_to rs l) x → Contains start x)
-      by l start asked true h = asked.all l h
-      by l start asked false h = inr (λ x c. absurd (none_in x (subst (λ es. Contains es x) (beyond rs number own seats l (past (node_at l) number h)) c)))
-        where
-          past : (a b : ℕ) → nat_lt a b ≡ false → b ≤ a
-          past a b off = elim (cases_lt a b) [ inl less ↦ absurd (let on = lt-ltb a b less in cc) | inr more ↦ more ]

@@ -8,7 +8,7 @@ use Rattle.at_cache.specs.declared.run.Reach.{Reach}
 use Rattle.at_cache.specs.declared.run.Run.{Run}
 use Rattle.at_cache.specs.declared.run.Seat.{Seat}
 use Rattle.at_cache.specs.Info.{Memory}
-use Rattle.at_cache.specs.Runs.{Adds, Gains, Holds, HoldsReach, edges_on, edges_past, is_live, is_within, lies}
+use Rattle.at_cache.specs.Runs.{Adds, Gains, Holds, edges_on, edges_past, is_live, is_within, lies}
 use Rattle.at_cache.proofs.Dooming.{head_of}
 use Rattle.at_cache.proofs.Ending.{and, both}
 use Rattle.at_cache.proofs.Gained.{get_other, get_same}
@@ -30,13 +30,6 @@ module _ {X : Type 0} {live : X → Bool} where
     ];
     from = λ y c. subst (λ ys. Contains ys y) (sym is) (Contains-append_left new (x ∷ []) y c);
   }
-
-pub gains_none : {m : Memory} {x : Reach} {old new : List Reach} → HoldsReach m x.edge old new → Gains m x old new
-gains_none h = record { keeps = h.keeps; only = λ r c. inl (h.from r c) }
-
--- one edge over a place
-over_one : ℕ → Reach → List Edge
-over_one place r = if lies r.behind r.last place then r.edge ∷ [] else []
 
 pub past_from : (place : ℕ) (rs : List Reach) (y : Edge) → Contains (edges_past place rs) y
     → (r : Reach) × Contains rs r × (lies r.behind r.last place ≡ true) × (r.edge ≡ y)

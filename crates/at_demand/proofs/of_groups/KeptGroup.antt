@@ -2,7 +2,7 @@
 use Rattle.std.proofs.Common.{◌≡◌, ◌⊎◌, ◌<◌, ◌^◌, ◌+◌, ℕ, zero, suc, arith, get_or, nat_lt, take, Bool, true, false, true≢false, List, [], ◌∷◌, ◌++◌, length, slice_get, Option, Some, None, Result, Ok, Err, OnOk, inl, inr, refl, sym, ap, ◌∙◌, subst}
 use Rattle.std.proofs.lemmas.Bool.{ltb-false}
 use Rattle.std.proofs.lemmas.List.{take_more}
-use Rattle.std.specs.Prelude.{IsErrAnd, IsSome, IsTrue}
+use Rattle.std.specs.Prelude.{IsErrAnd, IsSome}
 use Rattle.at_model.specs.Run.{Instance, Contents}
 use Rattle.at_model.specs.Meaning.{Among}
 use Rattle.at_model.specs.Rules.{Rules, is_lazy, start_of}
@@ -142,14 +142,14 @@ fails_too rules r e (Ok u) Q is b k = absurd b
 fails_too {T = T} {E = E} rules r e (Err d) Q is b k = subst (λ (z : Result T E). KeepsGroups rules z) (sym is) k
 
 -- What became of a group since its first member was kept: these members are known.
-pub record AreKeptSince (rules : Rules) (s : Shown) (exact : Bool) (insts : List (Instance ℕ)) (group ms : List Solved)
+pub record AreKeptSince (rules : Rules) (s : Shown) (insts : List (Instance ℕ)) (group ms : List Solved)
     (begun now : Entries) (former latter : Memories)
     (earlier later : ℕ) (old new : Question) : Type 0 where
-  pub tells : Tells rules s exact begun now former latter earlier later old new (members insts group) ⊥
+  pub tells : Tells rules s begun now former latter earlier later old new (members insts group) ⊥
   pub same : new.ended.entries ≡ old.ended.entries
   pub told : (i : Instance ℕ) (b : Bool) → IsMember insts ms i b → IsSome (known_to now new i)
 
-module _ (rules : Rules) (s : Shown) (exact : Bool) (before : Entries) (former : Memories) (earlier : ℕ)
+module _ (rules : Rules) (s : Shown) (before : Entries) (former : Memories) (earlier : ℕ)
     (old : Question) (insts : List (Instance ℕ))
     (group : List Solved) (can : CanKeepGroup rules s before old insts group) where
   abbrev IsOf : Instance ℕ → Type 0
@@ -168,7 +168,7 @@ module _ (rules : Rules) (s : Shown) (exact : Bool) (before : Entries) (former :
   -- How far a group is kept: these members are known, by the first one.
   pub record IsKeptSoFar (first : Instance ℕ) (place : Option ℕ) (ms : List Solved) (now : Entries) (latter : Memories)
       (later : ℕ) (new : Question) : Type 0 where
-    pub tells : Tells rules s exact before now former latter earlier later old new (members insts group) ⊥
+    pub tells : Tells rules s before now former latter earlier later old new (members insts group) ⊥
     pub same : new.ended.entries ≡ old.ended.entries
     pub known : IsFirstOf first now new place
     pub told : (i : Instance ℕ) (b : Bool) → IsMember insts ms i b → IsSome (known_to now new i)
@@ -187,9 +187,9 @@ module _ (rules : Rules) (s : Shown) (exact : Bool) (before : Entries) (former :
     }
 
     module _ {E : Type 0} (after : Entries) (latter : Memories) (later : ℕ) (new : Question) (r : Result (Option ℕ) E)
-        (h : HasKeptFirst rules exact before after former latter earlier later old new first f r) where
-      pub tells_first : Tells rules s exact before after former latter earlier later old new (members insts group) ⊥
-      tells_first = tells_one rules s exact before after former latter earlier later old new first f h.kept
+        (h : HasKeptFirst rules before after former latter earlier later old new first f r) where
+      pub tells_first : Tells rules s before after former latter earlier later old new (members insts group) ⊥
+      tells_first = tells_one rules s before after former latter earlier later old new first f h.kept
           (can.unknown first b m) (members insts group) here
           (member_lazy first here) (subst (λ v. HasValue (contents s) (meaning rules) first (value_view v))
           (sym is.value) (can.values first b m))
@@ -203,7 +203,7 @@ module _ (rules : Rules) (s : Shown) (exact : Bool) (before : Entries) (former :
       same_first = ap (λ (q : Question). q.ended.entries) h.kept.same
 
       -- so it is known
-      first_at : (place : Option ℕ) → HasKeptFirst {E = E} rules exact before after former latter earlier later old new
+      first_at : (place : Option ℕ) → HasKeptFirst {E = E} rules before after former latter earlier later old new
           first f (Ok place) → IsFirstOf first after new place
       first_at None x = is_there (kept_values after first) (value_view f.value) x.place.0
       first_at (Some p) x =
@@ -223,7 +223,7 @@ module _ (rules : Rules) (s : Shown) (exact : Bool) (before : Entries) (former :
       kept_first place ok = record {
         tells = tells_first;
         same = same_first;
-        known = first_at place (subst (HasKeptFirst {E = E} rules exact before after former latter earlier later old new
+        known = first_at place (subst (HasKeptFirst {E = E} rules before after former latter earlier later old new
             first f) ok h);
         told = λ i c (y, none, at, is). absurd none;
       }
@@ -242,7 +242,7 @@ module _ (rules : Rules) (s : Shown) (exact : Bool) (before : Entries) (former :
   same_then : {E : Type 0} (first : Instance ℕ) (place : Option ℕ) (now : Entries) (among' : Memories) (meanwhile : ℕ)
       (mid : Question) (m : Solved) (after : Entries)
       (latter : Memories) (later : ℕ) (new : Question) (r : Result (Unit {0}) E) →
-      HasKeptOther rules exact now after among' latter meanwhile later mid new insts first place m r →
+      HasKeptOther rules now after among' latter meanwhile later mid new insts first place m r →
       new.ended.entries ≡ mid.ended.entries
   same_then first place now among' meanwhile mid m after latter later new r h = elim h.kept [
     | inl same ↦ ap (λ (q : Question). q.ended.entries) same.question
@@ -263,7 +263,7 @@ module _ (rules : Rules) (s : Shown) (exact : Bool) (before : Entries) (former :
     module _ (m : Solved) (mine : Among m group) (after : Entries) (latter : Memories) (later : ℕ) (new : Question)
       where
         -- by the use of the first one
-        module _ (k : KeepsOther rules exact now after among' latter meanwhile later mid new insts first place m) where
+        module _ (k : KeepsOther rules now after among' latter meanwhile later mid new insts first place m) where
           it : IsMember insts group k.inst m.value
           it = (m, mine, k.at, refl)
 
@@ -310,8 +310,8 @@ module _ (rules : Rules) (s : Shown) (exact : Bool) (before : Entries) (former :
                 ];
               }
 
-          tells_it : Tells rules s exact now after among' latter meanwhile later mid new (members insts group) ⊥
-          tells_it = tells_one rules s exact now after among' latter meanwhile later mid new k.inst k.find k.kept
+          tells_it : Tells rules s now after among' latter meanwhile later mid new (members insts group) ⊥
+          tells_it = tells_one rules s now after among' latter meanwhile later mid new k.inst k.find k.kept
               k.unknown (members insts group) its
               (member_lazy k.inst its) (subst (λ v. HasValue (contents s) (meaning rules) k.inst (value_view v))
               (sym k.is.value) (can.values k.inst m.value it))
@@ -321,16 +321,16 @@ module _ (rules : Rules) (s : Shown) (exact : Bool) (before : Entries) (former :
               x.tells.took x.tells.values
 
         module _ {E : Type 0} (few : meanwhile < 2 ^ 64) (r : Result (Unit {0}) E)
-            (h : HasKeptOther rules exact now after among' latter meanwhile later mid new insts first place m r) where
-          step : Tells rules s exact now after among' latter meanwhile later mid new (members insts group) ⊥
+            (h : HasKeptOther rules now after among' latter meanwhile later mid new insts first place m r) where
+          step : Tells rules s now after among' latter meanwhile later mid new (members insts group) ⊥
           step = elim h.kept [
-            | inl same ↦ tells_same rules s exact now after among' latter meanwhile later mid new (members insts group) ⊥
+            | inl same ↦ tells_same rules s now after among' latter meanwhile later mid new (members insts group) ⊥
                 same few x.tells.values x.tells.took x.tells.plain
             | inr k ↦ tells_it k
           ]
 
-          pub tells_other : Tells rules s exact before after former latter earlier later old new (members insts group) ⊥
-          tells_other = tells_then rules s exact before now after former among' latter earlier meanwhile later old mid new
+          pub tells_other : Tells rules s before after former latter earlier later old new (members insts group) ⊥
+          tells_other = tells_then rules s before now after former among' latter earlier meanwhile later old mid new
               (members insts group) member_lazy ⊥ ⊥ x.tells step ⊥
               (λ none. absurd none)
 
@@ -352,20 +352,20 @@ module _ (rules : Rules) (s : Shown) (exact : Bool) (before : Entries) (former :
   module _ (first : Instance ℕ) (a : IsOf first) (place : Option ℕ) (begun : Entries) (among' : Memories)
       (meanwhile : ℕ) (mid : Question)
       (x : IsKeptSoFar first place [] begun among' meanwhile mid) where
-    pub since_none : meanwhile < 2 ^ 64 → AreKeptSince rules s exact insts group [] begun begun among' among' meanwhile
+    pub since_none : meanwhile < 2 ^ 64 → AreKeptSince rules s insts group [] begun begun among' among' meanwhile
         meanwhile mid mid
     since_none few = record {
-      tells = tells_none rules s exact begun among' meanwhile mid (members insts group) ⊥ few x.tells.values
+      tells = tells_none rules s begun among' meanwhile mid (members insts group) ⊥ few x.tells.values
           x.tells.took x.tells.plain;
       same = refl;
       told = λ i b (y, none, at, is). absurd none;
     }
 
     module _ (ms : List Solved) (now : Entries) (last : Memories) (spent : ℕ) (q : Question)
-        (y : AreKeptSince rules s exact insts group ms begun now among' last meanwhile spent mid q) where
+        (y : AreKeptSince rules s insts group ms begun now among' last meanwhile spent mid q) where
       pub so_far : IsKeptSoFar first place ms now last spent q
       so_far = record {
-        tells = tells_then rules s exact before begun now former among' last earlier meanwhile spent old mid q
+        tells = tells_then rules s before begun now former among' last earlier meanwhile spent old mid q
             (members insts group) member_lazy ⊥ ⊥ x.tells y.tells ⊥
             (λ none. absurd none);
         same = y.same ∙ x.same;
@@ -375,14 +375,14 @@ module _ (rules : Rules) (s : Shown) (exact : Bool) (before : Entries) (former :
 
       module _ {E : Type 0} (few : spent < 2 ^ 64) (m : Solved) (mine : Among m group) (after : Entries)
           (latter : Memories) (later : ℕ) (new : Question)
-          (r : Result (Unit {0}) E) (h : HasKeptOther rules exact now after last latter spent later q new insts first
+          (r : Result (Unit {0}) E) (h : HasKeptOther rules now after last latter spent later q new insts first
           place m r) where
-        since_more : (u : Unit {0}) → r ≡ Ok u → AreKeptSince rules s exact insts group (ms ++ m ∷ []) begun after
+        since_more : (u : Unit {0}) → r ≡ Ok u → AreKeptSince rules s insts group (ms ++ m ∷ []) begun after
             among' latter meanwhile later mid new
         since_more u ok =
             let t = step first a place ms now last spent q so_far m mine after latter later new few r h in
             record {
-              tells = tells_then rules s exact begun now after among' last latter meanwhile spent later mid q new
+              tells = tells_then rules s begun now after among' last latter meanwhile spent later mid q new
                   (members insts group) member_lazy ⊥ ⊥ y.tells t ⊥
                   (λ none. absurd none);
               same = same_then first place now last spent q m after latter later new r h ∙ y.same;
@@ -391,24 +391,24 @@ module _ (rules : Rules) (s : Shown) (exact : Bool) (before : Entries) (former :
 
     -- over the list of them
     module _ (n : ℕ) (less : n < length group) (now : Entries) (last : Memories) (spent : ℕ) (q : Question)
-        (y : AreKeptSince rules s exact insts group (take n group) begun now among' last meanwhile spent mid q)
+        (y : AreKeptSince rules s insts group (take n group) begun now among' last meanwhile spent mid q)
         {E : Type 0} (few : spent < 2 ^ 64) (d : Solved)
         (after : Entries) (latter : Memories) (later : ℕ) (new : Question) (r : Result (Unit {0}) E)
-        (h : HasKeptOther rules exact now after last latter spent later q new insts first place (get_or group n d) r)
+        (h : HasKeptOther rules now after last latter spent later q new insts first place (get_or group n d) r)
       where
-        pub since_next : (u : Unit {0}) → r ≡ Ok u → AreKeptSince rules s exact insts group (take (n + 1) group) begun
+        pub since_next : (u : Unit {0}) → r ≡ Ok u → AreKeptSince rules s insts group (take (n + 1) group) begun
             after among' latter meanwhile later mid new
-        since_next u ok = subst (λ ms. AreKeptSince rules s exact insts group ms begun after among' latter meanwhile later
+        since_next u ok = subst (λ ms. AreKeptSince rules s insts group ms begun after among' latter meanwhile later
             mid new) (sym (take_more group n d less))
             (since_more (take n group) now last spent q y few (get_or group n d) (item_among group n d less) after latter
             later new r h u ok)
 
   -- what is left of a group
   module _ (after : Entries) (latter : Memories) (later : ℕ) (new : Question)
-      (t : Tells rules s exact before after former latter earlier later old new (members insts group) ⊥)
+      (t : Tells rules s before after former latter earlier later old new (members insts group) ⊥)
       (same : new.ended.entries ≡ old.ended.entries) where
     abbrev pub Leaves : {E : Type 0} → Result (Unit {0}) E → Type 0
-    Leaves {E} r = HasKeptGroup {E = E} rules s exact before after former latter earlier later old new insts group r
+    Leaves {E} r = HasKeptGroup {E = E} rules s before after former latter earlier later old new insts group r
 
     wider : (i : Instance ℕ) → Among i (members insts group) → Among i insts
     wider i a = let (b, (m, c, at, is)) = listed_member insts group i a in get_among insts m.position i at
@@ -421,7 +421,7 @@ module _ (rules : Rules) (s : Shown) (exact : Bool) (before : Entries) (former :
     pub group_failed : {E : Type 0} (r : Result (Unit {0}) E) (Q : E → Type 0) → IsErrAnd r Q → (first : Instance ℕ) →
         IsOf first → Leaves r
     group_failed r Q failed first a = record {
-      tells = tells_so rules s exact before after former latter earlier later old new (members insts group) insts wider
+      tells = tells_so rules s before after former latter earlier later old new (members insts group) insts wider
           ⊥ t (KeepsGroups rules r)
           (λ whole. absurd (not_none (start_of rules first.attribute) (member_circular rules s before old insts group
           can first a)
@@ -444,11 +444,11 @@ module _ (rules : Rules) (s : Shown) (exact : Bool) (before : Entries) (former :
         | inr (inr (p, g, n, at)) ↦ inr (inr (p, g, at))
       ]
 
-      pub spare_group : IsTrue exact → AreSpare rules (contents s) before →
+      pub spare_group : AreSpare rules (contents s) before →
           AreLean rules (contents s) old.found.entries → AreSettled rules before old.found.entries →
           AreSpare rules (contents s) after
-      spare_group ex spare lean settled = record {
-        only = t.only ex lean spare.only;
+      spare_group spare lean settled = record {
+        only = t.only lean spare.only;
         lazy = λ i some. elim (t.kept i some) [ inl was ↦ spare.lazy i was | inr (a, lazy) ↦ lazy ];
         deep = deep_group rules (contents s) before after old.found.entries (members insts group)
             can.can.answerable.basis.circular.lazy t.stays can.can.finds settled
@@ -459,7 +459,7 @@ module _ (rules : Rules) (s : Shown) (exact : Bool) (before : Entries) (former :
           all i a = let (c, n) = listed_member insts group i a in elim (known_cases after new.found.entries i
               (told i c n)) [
                 | inl k ↦ k
-                | inr (p, g, at) ↦ (let x = t.settled ex settled p i g at in x.lazy (member_lazy i a))
+                | inr (p, g, at) ↦ (let x = t.settled settled p i g at in x.lazy (member_lazy i a))
               ]
 
           entries : (i : Instance ℕ) → IsSome (before i) ⊎ (IsKept after i ⊎ IsFound old.found.entries i) →
@@ -474,7 +474,7 @@ module _ (rules : Rules) (s : Shown) (exact : Bool) (before : Entries) (former :
 
       pub group_kept : {E : Type 0} (u : Unit {0}) → Leaves {E = E} (Ok u)
       group_kept {E} u = record {
-        tells = tells_so rules s exact before after former latter earlier later old new (members insts group) insts
+        tells = tells_so rules s before after former latter earlier later old new (members insts group) insts
             wider ⊥ t (KeepsGroups {E = E} rules (Ok u)) (λ whole. spare_group);
         same = same;
         told = told;
@@ -483,12 +483,12 @@ module _ (rules : Rules) (s : Shown) (exact : Bool) (before : Entries) (former :
 
     -- where it has no members nothing came
     pub group_none : {E : Type 0} (u : Unit {0}) → ((m : Solved) → Among m group → ⊥) →
-        (IsTrue exact → AreSpare rules (contents s) before → AreSpare rules (contents s) after) →
+        (AreSpare rules (contents s) before → AreSpare rules (contents s) after) →
         Leaves {E = E} (Ok u)
     group_none {E} u none stays = record {
-      tells = tells_so rules s exact before after former latter earlier later old new (members insts group) insts wider
+      tells = tells_so rules s before after former latter earlier later old new (members insts group) insts wider
           ⊥ t (KeepsGroups {E = E} rules (Ok u))
-          (λ whole ex spare lean settled. stays ex spare);
+          (λ whole spare lean settled. stays spare);
       same = same;
       told = λ i b (m, a, at, is). absurd (none m a);
       only = only;
@@ -499,13 +499,13 @@ module _ (rules : Rules) (s : Shown) (exact : Bool) (before : Entries) (former :
       (meanwhile : ℕ) (mid : Question)
       (x : IsKeptSoFar first place [] begun among' meanwhile mid) where
     module _ {E : Type 0} (n : ℕ) (less : n < length group) (now : Entries) (last : Memories) (spent : ℕ) (q : Question)
-        (y : AreKeptSince rules s exact insts group (take n group) begun now among' last meanwhile spent mid q)
+        (y : AreKeptSince rules s insts group (take n group) begun now among' last meanwhile spent mid q)
         (few : spent < 2 ^ 64) (d : Solved)
         (after : Entries) (latter : Memories) (later : ℕ) (new : Question) (r : Result (Unit {0}) E)
-        (h : HasKeptOther rules exact now after last latter spent later q new insts first place (get_or group n d) r)
+        (h : HasKeptOther rules now after last latter spent later q new insts first place (get_or group n d) r)
       where
         pub other_failed : (o : Result (Unit {0}) E) (Q : E → Type 0) → IsErrAnd o Q →
-            HasKeptGroup {E = E} rules s exact before after former latter earlier later old new insts group o
+            HasKeptGroup {E = E} rules s before after former latter earlier later old new insts group o
         other_failed o Q failed =
             let so = so_far first a place begun among' meanwhile mid x (take n group) now last spent q y in
             let m = get_or group n d in
@@ -517,9 +517,9 @@ module _ (rules : Rules) (s : Shown) (exact : Bool) (before : Entries) (former :
 
     pub all_others : {E : Type 0} (now : Entries) (last : Memories) (spent : ℕ) (q : Question) (ms : List Solved) →
         ms ≡ group →
-        AreKeptSince rules s exact insts group ms begun now among' last meanwhile spent mid q → (f : Find) (b : Bool) →
+        AreKeptSince rules s insts group ms begun now among' last meanwhile spent mid q → (f : Find) (b : Bool) →
         IsFindOf before old insts group b f → (u : Unit {0}) →
-        HasKeptGroup {E = E} rules s exact before now former last earlier spent old q insts group (Ok u)
+        HasKeptGroup {E = E} rules s before now former last earlier spent old q insts group (Ok u)
     all_others now last spent q ms all y f b is u =
         let so = so_far first a place begun among' meanwhile mid x ms now last spent q y in
         group_kept now last spent q so.tells so.same f b is

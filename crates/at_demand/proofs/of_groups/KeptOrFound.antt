@@ -1,22 +1,20 @@
 -- A find's value is kept, or the find comes to those that were found: what that says of what is known.
-use Rattle.std.proofs.Common.{◌≡◌, ◌⊎◌, ℕ, Bool, true, false, List, [], ◌∷◌, ◌++◌, Option, Some, None, Result, Ok, Err, IfOk, inl, inr, refl, sym, ap, ◌∙◌, subst, if◌then◌else◌, true≢false, arith}
-use Rattle.std.specs.Prelude.{IsErrAnd, IsSome, IsTrue}
+use Rattle.std.proofs.Common.{◌≡◌, ℕ, Bool, true, false, List, [], ◌∷◌, ◌++◌, Option, Some, None, Result, Ok, Err, IfOk, inl, inr, refl, sym, ap, ◌∙◌, subst, if◌then◌else◌, true≢false, arith}
+use Rattle.std.specs.Prelude.{IsErrAnd, IsSome}
 use Rattle.std.specs.Map.{lookup}
 use Rattle.std.specs.Option.{option_map}
 use Rattle.std.proofs.lemmas.List.Elements.{Contains-push_cases}
 use Rattle.indexmap.specs.IndexMap.{insert_entry}
 use Rattle.at_model.specs.Run.{Value, Instance}
-use Rattle.at_model.specs.Rules.{Rules, is_lazy}
+use Rattle.at_model.specs.Rules.{Rules}
 use Rattle.at_body.specs.Same.{same_instance}
 use Rattle.at_body.specs.Values.{value_view}
 use Rattle.at_cache.specs.Kept.{Entries}
 use Rattle.at_cache.specs.Traced.{Memories}
-use Rattle.at_cache.specs.declared.keeper.Put.TheVariants as put
 use Rattle.at_demand.specs.declared.evaluation.Demanded.{Demanded}
 use Rattle.at_demand.specs.declared.evaluation.Find.{Find}
 use Rattle.at_demand.specs.declared.question.Question.{Question}
-use Rattle.at_demand.specs.Answerable.{CanBeKept}
-use Rattle.at_demand.specs.Groups.{CanBeFirst, CanBeOther, HasKeptFirst, HasPutLast, IsFirstAt, IsOtherFind, UsesFirst}
+use Rattle.at_demand.specs.Groups.{CanBeFirst, CanBeOther, HasKeptFirst, IsFirstAt, IsOtherFind, UsesFirst}
 use Rattle.at_demand.specs.Known.{AreValued, IsKept, found_values, kept_values, known_in}
 use Rattle.at_demand.specs.Levels.{known_to}
 use Rattle.at_demand.proofs.Entered.{is_there}
@@ -92,10 +90,7 @@ first_valued : (entries : Entries) (q : Question) (first : Instance ℕ) (place 
 first_valued entries q first None d here (kept, finds) = subst (AreValued entries) (sym kept) (valued_one entries first here)
 first_valued entries q first (Some p) d there (kept, finds) = subst (AreValued entries) (sym kept) (valued_none entries)
 
--- what can be first can be kept, and so can another member's find
-pub can_keep : (rules : Rules) (entries : Entries) (q : Question) (i : Instance ℕ) (f : Find) → CanBeFirst rules entries q i f → CanBeKept rules entries q.found.entries i f
-can_keep rules entries q i f can = record { rests = can.rests; unkept = none_kept entries q.found.entries i can.unknown; plain = can.plain }
-
+-- another member's find can be first, too
 pub can_follow : (rules : Rules) (entries : Entries) (q : Question) (first : Instance ℕ) (place : Option ℕ) (b : Bool) (i : Instance ℕ) (f : Find) →
     CanBeOther rules entries q first place → known_to entries q i ≡ None → IsOtherFind first place b f → CanBeFirst rules entries q i f
 can_follow rules entries q first place b i f can none is = record {
@@ -104,20 +99,15 @@ can_follow rules entries q first place b i f can none is = record {
   plain = can.plain;
 }
 
-pub put_behind : {E : Type 0} (rules : Rules) (exact : Bool) (after : Entries) (old new : Question) (i : Instance ℕ) (f : Find) (r : Result ℕ E) → HasPutLast old new i f r →
-    (IsTrue exact → is_lazy rules i.attribute ≡ true → IsKept after i) →
-    (new.found.entries ≡ old.found.entries) ⊎ ((new.found.entries ≡ insert_entry same_instance old.found.entries i f) × (IsTrue exact → is_lazy rules i.attribute ≡ true → IsKept after i))
-put_behind rules exact after old new i f r h keeps = elim h.finds [ inl e ↦ inl e | inr e ↦ inr (e, keeps) ]
-
 -- the instance is known then
-pub known_after : {E : Type 0} (rules : Rules) (exact : Bool) (before after : Entries) (former latter : Memories) (earlier later : ℕ) (old new : Question)
+pub known_after : {E : Type 0} (rules : Rules) (before after : Entries) (former latter : Memories) (earlier later : ℕ) (old new : Question)
     (i : Instance ℕ) (f : Find) (r : Result (Option ℕ) E) (p : Option ℕ) → r ≡ Ok p → known_to before old i ≡ None →
-    HasKeptFirst rules exact before after former latter earlier later old new i f r → IsSome (known_to after new i)
-known_after rules exact before after former latter earlier later old new i f (Ok None) p is none h =
+    HasKeptFirst rules before after former latter earlier later old new i f r → IsSome (known_to after new i)
+known_after rules before after former latter earlier later old new i f (Ok None) p is none h =
     let (v, same) = h.place in
     kept_known after new.found.entries i (is_there (kept_values after i) (value_view f.value) v)
-known_after rules exact before after former latter earlier later old new i f (Ok (Some n)) p is none h =
+known_after rules before after former latter earlier later old new i f (Ok (Some n)) p is none h =
     let (e, last) = h.place in
     found_known after new.found.entries i f
     (ap (λ (fs : List (Instance ℕ × Find)). lookup (same_instance i) fs) last ∙ lookup_put old.found.entries i f (none_there before old.found.entries i none))
-known_after rules exact before after former latter earlier later old new i f (Err e) p is none h = absurd cc
+known_after rules before after former latter earlier later old new i f (Err e) p is none h = absurd cc

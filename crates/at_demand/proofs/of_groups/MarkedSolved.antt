@@ -1,5 +1,5 @@
 -- What is solved and marked whole then.
-use Rattle.std.proofs.Common.{◌≡◌, ℕ, Bool, true, List, ◌++◌, Some, Result, Ok, Err, inl, inr, refl, sym, ap, ◌∙◌, subst}
+use Rattle.std.proofs.Common.{◌≡◌, ℕ, true, List, ◌++◌, Some, Result, Ok, Err, inl, inr, refl, sym, ap, ◌∙◌, subst}
 use Rattle.std.proofs.lemmas.Option.{same_Some}
 use Rattle.std.specs.Prelude.{IsErrAnd, IsSome}
 use Rattle.std.specs.Map.{lookup}
@@ -49,7 +49,7 @@ module _ (these : List (Instance ℕ)) (mid new : Question) (m : HasMarkedAll th
       let (z, here, same) = ending_on i x there in
       (x, there, ap (λ (w : Ended). w.ending) (same_Some y z (sym at ∙ here)) ∙ same)
 
-module _ (rules : Rules) (s : Shown) (exact : Bool) (before after : Entries) (former latter : Memories)
+module _ (rules : Rules) (s : Shown) (before after : Entries) (former latter : Memories)
     (earlier later : ℕ) (old mid new : Question)
     (these : List (Instance ℕ)) (m : HasMarkedAll these mid new) where
   facts_marked : AreFactsOf rules (contents s) after mid → AreFactsOf rules (contents s) after new
@@ -72,9 +72,9 @@ module _ (rules : Rules) (s : Shown) (exact : Bool) (before after : Entries) (fo
       }
 
   -- what was told before is told then
-  pub tells_marked : (Whole : Type 0) → Tells rules s exact before after former latter earlier later old mid these
+  pub tells_marked : (Whole : Type 0) → Tells rules s before after former latter earlier later old mid these
       Whole →
-      Tells rules s exact before after former latter earlier later old new these Whole
+      Tells rules s before after former latter earlier later old new these Whole
   tells_marked Whole t =
       let e : mid.found.entries ≡ new.found.entries = sym m.found in
       record {
@@ -96,8 +96,8 @@ module _ (rules : Rules) (s : Shown) (exact : Bool) (before after : Entries) (fo
         took = subst (FoundKept after) e t.took;
         right = t.right;
         plain = t.plain;
-        lean = λ ex h. subst (AreLean rules (contents s)) e (t.lean ex h);
-        settled = λ ex h. subst (AreSettled rules after) e (t.settled ex h);
+        lean = λ h. subst (AreLean rules (contents s)) e (t.lean h);
+        settled = λ h. subst (AreSettled rules after) e (t.settled h);
         only = t.only;
         spare = t.spare;
         counts = t.counts;
@@ -105,14 +105,14 @@ module _ (rules : Rules) (s : Shown) (exact : Bool) (before after : Entries) (fo
       }
 
   pub marked_solved : {E : Type 0} (r : Result (Unit {0}) E) (u : Unit {0}) → r ≡ Ok u →
-      HasSolved {E = E} rules s exact before after former latter earlier later old mid these r →
-      HasMarkedSolved {E = E} rules s exact before after former latter earlier later old new these (Ok (tt {0}))
-  marked_solved {E = E} r u ok h = by u (subst (HasSolved {E = E} rules s exact before after former latter earlier later
+      HasSolved {E = E} rules s before after former latter earlier later old mid these r →
+      HasMarkedSolved {E = E} rules s before after former latter earlier later old new these (Ok (tt {0}))
+  marked_solved {E = E} r u ok h = by u (subst (HasSolved {E = E} rules s before after former latter earlier later
       old mid these) ok h)
     where
-      by : (u : Unit {0}) → HasSolved {E = E} rules s exact before after former latter earlier later old mid these
+      by : (u : Unit {0}) → HasSolved {E = E} rules s before after former latter earlier later old mid these
           (Ok u) →
-          HasMarkedSolved {E = E} rules s exact before after former latter earlier later old new these (Ok (tt {0}))
+          HasMarkedSolved {E = E} rules s before after former latter earlier later old new these (Ok (tt {0}))
       by u x = record {
         tells = tells_marked (KeepsGroups {E = E} rules (Ok u)) x.tells;
         rest = λ closed i a. elim (x.rest closed i a) [
@@ -127,15 +127,15 @@ module _ (rules : Rules) (s : Shown) (exact : Bool) (before after : Entries) (fo
       }
 
 -- or it could not be
-module _ (rules : Rules) (s : Shown) (exact : Bool) (before after : Entries) (former latter : Memories)
+module _ (rules : Rules) (s : Shown) (before after : Entries) (former latter : Memories)
     (earlier later : ℕ) (old new : Question)
     (these : List (Instance ℕ)) {E : Type 0} where
   pub solving_broke : (r : Result (Unit {0}) E) (e : E) (q : Result (Unit {0}) E) (Q : E → Type 0) → r ≡ Err e →
       IsErrAnd q Q →
-      HasSolved {E = E} rules s exact before after former latter earlier later old new these r →
-      HasMarkedSolved {E = E} rules s exact before after former latter earlier later old new these q
+      HasSolved {E = E} rules s before after former latter earlier later old new these r →
+      HasMarkedSolved {E = E} rules s before after former latter earlier later old new these q
   solving_broke r e q Q broke failed h = record {
-    tells = tells_so rules s exact before after former latter earlier later old new these these (λ i a. a)
+    tells = tells_so rules s before after former latter earlier later old new these these (λ i a. a)
         (KeepsGroups rules r) h.tells (KeepsGroups rules q)
         (λ whole. h.tells.spare (fails_too rules r e q Q broke failed whole));
     rest = λ closed. err_ok _ q Q failed;

@@ -86,37 +86,37 @@ promised rules s before old insts can start starts known same groups are told or
     }
 
 -- a group that was kept, by another name of it
-pub kept_of : {E : Type 0} (rules : Rules) (s : Shown) (exact : Bool) (before after : Entries)
+pub kept_of : {E : Type 0} (rules : Rules) (s : Shown) (before after : Entries)
     (former latter : Memories) (earlier later : ℕ) (old new : Question)
     (r : Result (Unit {0}) E) (is insts : List (Instance ℕ)) (ms group : List Solved) → is ≡ insts → ms ≡ group →
-    HasKeptGroup {E = E} rules s exact before after former latter earlier later old new is ms r →
-    HasKeptGroup {E = E} rules s exact before after former latter earlier later old new insts group r
-kept_of {E = E} rules s exact before after former latter earlier later old new r is insts ms group one two h =
-    subst (λ (xs : List (Instance ℕ)). HasKeptGroup {E = E} rules s exact before after former latter earlier later old
+    HasKeptGroup {E = E} rules s before after former latter earlier later old new is ms r →
+    HasKeptGroup {E = E} rules s before after former latter earlier later old new insts group r
+kept_of {E = E} rules s before after former latter earlier later old new r is insts ms group one two h =
+    subst (λ (xs : List (Instance ℕ)). HasKeptGroup {E = E} rules s before after former latter earlier later old
     new xs group r) one
-    (subst (λ (xs : List Solved). HasKeptGroup {E = E} rules s exact before after former latter earlier later old new is
+    (subst (λ (xs : List Solved). HasKeptGroup {E = E} rules s before after former latter earlier later old new is
     xs r) two h)
 
 -- How far groups are kept: so many of them are known, and nothing else.
-pub record AreSolvedSoFar (rules : Rules) (s : Shown) (exact : Bool) (insts : List (Instance ℕ))
+pub record AreSolvedSoFar (rules : Rules) (s : Shown) (insts : List (Instance ℕ))
     (groups : List (Vec Solved Global)) (n : ℕ) (before now : Entries)
     (former latter : Memories) (earlier later : ℕ) (old new : Question) : Type 0 where
-  pub tells : Tells rules s exact before now former latter earlier later old new insts (Unit {0})
+  pub tells : Tells rules s before now former latter earlier later old new insts (Unit {0})
   pub same : new.ended.entries ≡ old.ended.entries
   pub told : (k : ℕ) (i : Instance ℕ) (b : Bool) → k < n → IsSolvedIn insts groups k i b → IsSome (known_to now new i)
   pub only : (i : Instance ℕ) → IsSome (known_to now new i) →
       IsSome (known_to before old i) ⊎ ((k : ℕ) × (b : Bool) × (k < n) × IsSolvedIn insts groups k i b)
 
-module _ (rules : Rules) (s : Shown) (exact : Bool) (before : Entries) (former : Memories) (earlier : ℕ)
+module _ (rules : Rules) (s : Shown) (before : Entries) (former : Memories) (earlier : ℕ)
     (old : Question) (insts : List (Instance ℕ))
     (groups : List (Vec Solved Global)) (can : CanSolve rules s before old insts) where
   abbrev SoFar : ℕ → Entries → Memories → ℕ → Question → Type 0
-  SoFar n now latter later new = AreSolvedSoFar rules s exact insts groups n before now former latter earlier later old
+  SoFar n now latter later new = AreSolvedSoFar rules s insts groups n before now former latter earlier later old
       new
 
   pub none_solved : earlier < 2 ^ 64 → SoFar 0 before former earlier old
   none_solved few = record {
-    tells = tells_none rules s exact before former earlier old insts (Unit {0}) few can.facts.values can.took
+    tells = tells_none rules s before former earlier old insts (Unit {0}) few can.facts.values can.took
         can.answerable.plain;
     same = refl;
     told = λ k i b less. absurd (omega (arith, less));
@@ -125,9 +125,9 @@ module _ (rules : Rules) (s : Shown) (exact : Bool) (before : Entries) (former :
 
   -- memory is wanting at once
   pub none_failed : {E : Type 0} (q : Result (Unit {0}) E) (Q : E → Type 0) → earlier < 2 ^ 64 → IsErrAnd q Q →
-      HasSolved {E = E} rules s exact before before former former earlier earlier old old insts q
+      HasSolved {E = E} rules s before before former former earlier earlier old old insts q
   none_failed q Q few failed = record {
-    tells = tells_none rules s exact before former earlier old insts (KeepsGroups rules q) few can.facts.values can.took
+    tells = tells_none rules s before former earlier old insts (KeepsGroups rules q) few can.facts.values can.took
         can.answerable.plain;
     same = refl;
     each = err_ok _ q Q failed;
@@ -209,9 +209,9 @@ module _ (rules : Rules) (s : Shown) (exact : Bool) (before : Entries) (former :
 
       -- it is kept
       module _ {E : Type 0} (after : Entries) (latter : Memories) (later : ℕ) (new : Question) (r : Result (Unit {0}) E)
-          (h : HasKeptGroup {E = E} rules s exact now after among' latter meanwhile later mid new insts g.items r) where
-        tells_on : Tells rules s exact before after former latter earlier later old new insts (KeepsGroups rules r)
-        tells_on = tells_then rules s exact before now after former among' latter earlier meanwhile later old mid new
+          (h : HasKeptGroup {E = E} rules s now after among' latter meanwhile later mid new insts g.items r) where
+        tells_on : Tells rules s before after former latter earlier later old new insts (KeepsGroups rules r)
+        tells_on = tells_then rules s before now after former among' latter earlier meanwhile later old mid new
             insts insts_lazy (Unit {0}) (KeepsGroups rules r)
             x.tells h.tells (KeepsGroups rules r) (λ whole. (tt, whole))
 
@@ -243,7 +243,7 @@ module _ (rules : Rules) (s : Shown) (exact : Bool) (before : Entries) (former :
 
         pub solved_next : (u : Unit {0}) → r ≡ Ok u → SoFar (n + 1) after latter later new
         solved_next u ok = record {
-          tells = tells_so rules s exact before after former latter earlier later old new insts insts (λ i a. a)
+          tells = tells_so rules s before after former latter earlier later old new insts insts (λ i a. a)
               (KeepsGroups rules r) tells_on (Unit {0})
               (λ whole. tells_on.spare (subst (KeepsGroups rules) (sym ok) tt));
           same = h.same ∙ x.same;
@@ -253,9 +253,9 @@ module _ (rules : Rules) (s : Shown) (exact : Bool) (before : Entries) (former :
 
         -- or memory is wanting
         pub solving_failed : (e : E) (q : Result (Unit {0}) E) (Q : E → Type 0) → r ≡ Err e → IsErrAnd q Q →
-            HasSolved {E = E} rules s exact before after former latter earlier later old new insts q
+            HasSolved {E = E} rules s before after former latter earlier later old new insts q
         solving_failed e q Q broke failed = record {
-          tells = tells_so rules s exact before after former latter earlier later old new insts insts (λ i a. a)
+          tells = tells_so rules s before after former latter earlier later old new insts insts (λ i a. a)
               (KeepsGroups rules r) tells_on (KeepsGroups rules q)
               (λ whole. tells_on.spare (fails_too rules r e q Q broke failed whole));
           same = h.same ∙ x.same;
@@ -266,9 +266,9 @@ module _ (rules : Rules) (s : Shown) (exact : Bool) (before : Entries) (former :
     -- all groups are kept
     pub all_solved : {E : Type 0} (u : Unit {0}) → length groups ≤ n →
         ArePromised rules s (known_to before old) old.ended.entries insts groups →
-        HasSolved {E = E} rules s exact before now former among' earlier meanwhile old mid insts (Ok u)
+        HasSolved {E = E} rules s before now former among' earlier meanwhile old mid insts (Ok u)
     all_solved {E} u past p = record {
-      tells = tells_so rules s exact before now former among' earlier meanwhile old mid insts insts (λ i a. a)
+      tells = tells_so rules s before now former among' earlier meanwhile old mid insts insts (λ i a. a)
           (Unit {0}) x.tells (KeepsGroups {E = E} rules (Ok u)) x.tells.spare;
       same = x.same;
       each = λ i a. elim (p.each i a) [

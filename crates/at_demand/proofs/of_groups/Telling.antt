@@ -1,6 +1,6 @@
 -- What becomes of what is kept and found, one step behind the other: nothing, or more.
 use Rattle.std.proofs.Common.{◌≡◌, ◌⊎◌, ◌<◌, ◌^◌, ℕ, suc, Bool, true, false, true≢false, List, [], ◌∷◌, Option, Some, None, inl, inr, refl, sym, ap, ◌∙◌, subst, append-nil, if◌then◌else◌}
-use Rattle.std.specs.Prelude.{IsSome, IsTrue}
+use Rattle.std.specs.Prelude.{IsSome}
 use Rattle.std.specs.Map.{lookup}
 use Rattle.std.specs.Option.{option_map}
 use Rattle.at_model.specs.Run.{Value, Instance}
@@ -63,13 +63,13 @@ pub circular_lazy : (rules : Rules) → AreCircularLazy rules → (i : Instance 
     is_lazy rules i.attribute ≡ true
 circular_lazy rules well i some = let (b, e) = there (start_of rules i.attribute) some in well i.attribute b e
 
-module _ (rules : Rules) (s : Shown) (exact : Bool) where
+module _ (rules : Rules) (s : Shown) where
   -- nothing has changed
   pub tells_none : (entries : Entries) (m : Memories) (w : ℕ) (q : Question) (these : List (Instance ℕ))
       (Whole : Type 0) → w < 2 ^ 64 →
       AreRightValues (contents s) (meaning rules) (known_to entries q) → FoundKept entries q.found.entries →
       ArePlain rules entries →
-      Tells rules s exact entries entries m m w w q q these Whole
+      Tells rules s entries entries m m w w q q these Whole
   tells_none entries m w q these Whole few values took plain = record {
     chain = record { waiting = refl; inst = refl };
     level = refl;
@@ -88,11 +88,11 @@ module _ (rules : Rules) (s : Shown) (exact : Bool) where
     took = took;
     right = λ there' all a. a;
     plain = plain;
-    lean = λ e h. h;
-    settled = λ e h. h;
-    only = λ e l h. h;
-    spare = λ whole e a l h. a;
-    counts = λ e. counts_none entries w few;
+    lean = λ h. h;
+    settled = λ h. h;
+    only = λ l h. h;
+    spare = λ whole a l h. a;
+    counts = counts_none entries w few;
     traces = puts_same m;
   }
 
@@ -101,15 +101,15 @@ module _ (rules : Rules) (s : Shown) (exact : Bool) where
       (these : List (Instance ℕ)) (Whole : Type 0) →
       StaysAsIs before after former latter earlier later old new → earlier < 2 ^ 64 →
       AreRightValues (contents s) (meaning rules) (known_to before old) →
-      FoundKept before old.found.entries → ArePlain rules before → Tells rules s exact before after former latter
+      FoundKept before old.found.entries → ArePlain rules before → Tells rules s before after former latter
       earlier later old new these Whole
   tells_same before after former latter earlier later old new these Whole same few values took plain =
-      subst (λ (e : Entries). Tells rules s exact before e former latter earlier later old new these Whole)
+      subst (λ (e : Entries). Tells rules s before e former latter earlier later old new these Whole)
       (sym same.entries)
-      (subst (λ (m : Memories). Tells rules s exact before before former m earlier later old new these Whole)
+      (subst (λ (m : Memories). Tells rules s before before former m earlier later old new these Whole)
       (sym same.memories)
-      (subst (λ (w : ℕ). Tells rules s exact before before former former earlier w old new these Whole) (sym same.work)
-      (subst (λ (q : Question). Tells rules s exact before before former former earlier earlier old q these Whole)
+      (subst (λ (w : ℕ). Tells rules s before before former former earlier w old new these Whole) (sym same.work)
+      (subst (λ (q : Question). Tells rules s before before former former earlier earlier old q these Whole)
       (sym same.question)
       (tells_none before former earlier old these Whole few values took plain))))
 
@@ -117,11 +117,11 @@ module _ (rules : Rules) (s : Shown) (exact : Bool) where
   module _ (before after : Entries) (former latter : Memories) (earlier later : ℕ) (old new : Question)
       (these those : List (Instance ℕ))
       (wider : (i : Instance ℕ) → Among i these → Among i those) (First : Type 0)
-      (t : Tells rules s exact before after former latter earlier later old new these First) where
-    pub tells_so : (Whole : Type 0) → (Whole → IsTrue exact → AreSpare rules (contents s) before →
+      (t : Tells rules s before after former latter earlier later old new these First) where
+    pub tells_so : (Whole : Type 0) → (Whole → AreSpare rules (contents s) before →
         AreLean rules (contents s) old.found.entries →
         AreSettled rules before old.found.entries → AreSpare rules (contents s) after) →
-        Tells rules s exact before after former latter earlier later old new those Whole
+        Tells rules s before after former latter earlier later old new those Whole
     tells_so Whole spare = record {
       chain = t.chain;
       level = t.level;
@@ -152,9 +152,9 @@ module _ (rules : Rules) (s : Shown) (exact : Bool) where
   module _ (before between after : Entries) (former among' latter : Memories) (earlier meanwhile later : ℕ)
       (old mid new : Question)
       (these : List (Instance ℕ)) (lazy : (i : Instance ℕ) → Among i these → is_lazy rules i.attribute ≡ true)
-      (First Second : Type 0) (p : Tells rules s exact before between former among' earlier meanwhile old mid these
+      (First Second : Type 0) (p : Tells rules s before between former among' earlier meanwhile old mid these
       First)
-      (q : Tells rules s exact between after among' latter meanwhile later mid new these Second) where
+      (q : Tells rules s between after among' latter meanwhile later mid new these Second) where
     -- what was found meanwhile was known before, or is one of these
     found_then : (i : Instance ℕ) → IsFound mid.found.entries i → (IsKept before i ⊎ IsFound old.found.entries i) ⊎
         Among i these
@@ -206,7 +206,7 @@ module _ (rules : Rules) (s : Shown) (exact : Bool) where
             let (v, e) = there (known_to between mid i) (known_found between mid.found.entries i h) in
             (stands i h, (v, p.values i v e))
 
-    pub tells_then : (Whole : Type 0) → (Whole → First × Second) → Tells rules s exact before after former latter
+    pub tells_then : (Whole : Type 0) → (Whole → First × Second) → Tells rules s before after former latter
         earlier later old new these Whole
     tells_then Whole both = record {
       chain = record { waiting = q.chain.waiting ∙ p.chain.waiting; inst = q.chain.inst ∙ p.chain.inst };
@@ -226,10 +226,10 @@ module _ (rules : Rules) (s : Shown) (exact : Bool) where
       took = q.took;
       right = right_then;
       plain = q.plain;
-      lean = λ e h. q.lean e (p.lean e h);
-      settled = λ e h. q.settled e (p.settled e h);
-      only = λ e l h. q.only e (p.lean e l) (p.only e l h);
-      spare = λ whole e a l h. let w = both whole in q.spare w.1 e (p.spare w.0 e a l h) (p.lean e l) (p.settled e h);
-      counts = λ e. counts_more before between after earlier meanwhile later (p.counts e) (q.counts e);
+      lean = λ h. q.lean (p.lean h);
+      settled = λ h. q.settled (p.settled h);
+      only = λ l h. q.only (p.lean l) (p.only l h);
+      spare = λ whole a l h. let w = both whole in q.spare w.1 (p.spare w.0 a l h) (p.lean l) (p.settled h);
+      counts = counts_more before between after earlier meanwhile later p.counts q.counts;
       traces = puts_then former among' latter p.traces q.traces;
     }

@@ -1,7 +1,7 @@
 -- What becomes of what is kept and found as one find's value is kept, or the find comes to those that were found.
-use Rattle.std.proofs.Common.{◌≡◌, ◌⊎◌, ℕ, Bool, true, List, [], ◌∷◌, ◌++◌, Option, Some, None, inl, inr, refl, sym, ap, ◌∙◌, subst, append-nil}
+use Rattle.std.proofs.Common.{◌≡◌, ◌⊎◌, ℕ, true, List, [], ◌∷◌, ◌++◌, Option, Some, None, inl, inr, refl, sym, ap, ◌∙◌, subst, append-nil}
 use Rattle.std.proofs.lemmas.Option.{same_Some}
-use Rattle.std.specs.Prelude.{IsSome, IsTrue}
+use Rattle.std.specs.Prelude.{IsSome}
 use Rattle.std.specs.Map.{keys_of, lookup}
 use Rattle.std.specs.Option.{option_map}
 use Rattle.at_model.specs.Run.{Value, Instance, Contents}
@@ -106,16 +106,16 @@ known_here entries found i f none at =
     none
     ∙ ap (option_map (λ (x : Find). value_view x.value)) at
 
-module _ (rules : Rules) (s : Shown) (exact : Bool) (before after : Entries) (former latter : Memories)
+module _ (rules : Rules) (s : Shown) (before after : Entries) (former latter : Memories)
     (earlier later : ℕ) (old new : Question)
-    (i : Instance ℕ) (f : Find) (h : IsKeptOrFound rules exact before after former latter earlier later old new i f)
+    (i : Instance ℕ) (f : Find) (h : IsKeptOrFound rules before after former latter earlier later old new i f)
     (unknown : known_to before old i ≡ None) where
   abbrev pub grown : List (Instance ℕ × Find)
   grown = old.found.entries ++ (i, f) ∷ []
 
-  -- the find comes last, and is kept by an exact keeper where it is lazy
+  -- the find comes last, and is kept where it is lazy
   abbrev pub ComesLast : Type 0
-  ComesLast = (new.found.entries ≡ grown) × (IsTrue exact → is_lazy rules i.attribute ≡ true → IsKept after i)
+  ComesLast = (new.found.entries ≡ grown) × (is_lazy rules i.attribute ≡ true → IsKept after i)
 
   pub found_same : (new.found.entries ≡ old.found.entries) ⊎ ComesLast
   found_same = elim h.finds [
@@ -196,15 +196,15 @@ module _ (rules : Rules) (s : Shown) (exact : Bool) (before after : Entries) (fo
     ]
   ]
 
-  settled_now : AreValued before f.demanded.kept.items → IsTrue exact → AreSettled rules before old.found.entries →
+  settled_now : AreValued before f.demanded.kept.items → AreSettled rules before old.found.entries →
       AreSettled rules after new.found.entries
-  settled_now one ex all = elim found_same [
+  settled_now one all = elim found_same [
     | inl e ↦ subst (AreSettled rules after) (sym e) still
     | inr (e, keeps) ↦ subst (AreSettled rules after) (sym e)
         (λ p j g is. elim (get_push old.found.entries (i, f) p (j, g) is) [
           | inl was ↦ still p j g was
           | inr (at, same) ↦ subst (λ (x : Instance ℕ × Find). IsSettled rules after x.0 x.1) same (record {
-            lazy = keeps ex;
+            lazy = keeps;
             took = λ u a. entered after u (kept_on before after h.adds.stays u (is_kept before f.demanded.kept.items u one
                 a));
           })
@@ -247,7 +247,7 @@ module _ (rules : Rules) (s : Shown) (exact : Bool) (before after : Entries) (fo
         }
 
     -- that tells its value
-    pub tells_one : Tells rules s exact before after former latter earlier later old new these ⊥
+    pub tells_one : Tells rules s before after former latter earlier later old new these ⊥
     tells_one = record {
       chain = record {
         waiting = ap (λ (q : Question). q.waiting.entries) h.same;
@@ -284,9 +284,9 @@ module _ (rules : Rules) (s : Shown) (exact : Bool) (before after : Entries) (fo
       right = λ found all r. right_stays rules before after i (value_view f.value) h.adds s old.found.entries h.gains
           h.plain has (h.covers (contents s) finds one) (all i a) found r;
       plain = h.plain;
-      lean = λ ex. lean_now (contents s) lean;
+      lean = lean_now (contents s) lean;
       settled = settled_now valued;
-      only = λ ex all. h.only (contents s) ex all lean;
+      only = λ all. h.only (contents s) all lean;
       spare = λ none. absurd none;
       counts = h.counts;
       traces = h.traces;

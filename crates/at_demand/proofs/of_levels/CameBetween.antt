@@ -29,8 +29,8 @@ value_found ((j, f) ∷ fs) i some = by (same_instance i j) refl some (value_fou
     by true is s on = (zero, f, ap (λ k. Some (k, f)) (sym (same_true i j is)))
     by false is s on = let (p, g, at) = on s in (suc p, g, at)
 
-module _ {Whole : Type 0} (rules : Rules) (s : Shown) (exact : Bool) (before after : Entries) (former latter : Memories) (earlier later : ℕ) (old new : Question)
-    (g : GainsBetween rules s exact before after former latter earlier later old new Whole) where
+module _ {Whole : Type 0} (rules : Rules) (s : Shown) (before after : Entries) (former latter : Memories) (earlier later : ℕ) (old new : Question)
+    (g : GainsBetween rules s before after former latter earlier later old new Whole) where
   pub others_before : (i : Instance ℕ) → IsSome (after i) → IsSome (before i) ⊎ (IsKept after i ⊎ (IsFound old.found.entries i ⊎ WasSeenBy old i))
   others_before i some = elim (g.others i some) [
     | inl b ↦ inl b

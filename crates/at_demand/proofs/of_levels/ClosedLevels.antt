@@ -81,20 +81,20 @@ close_solvable rules s entries q can = record {
 }
 
 -- What the last level had seen was solved.
-module _ {Whole : Type 0} (rules : Rules) (s : Shown) (exact : Bool) (before after : Entries) (former latter : Memories) (earlier later : ℕ) (old new : Question)
+module _ {Whole : Type 0} (rules : Rules) (s : Shown) (before after : Entries) (former latter : Memories) (earlier later : ℕ) (old new : Question)
     (can : CanClose rules s before old) (mid : Question) (lost : HasLostSeen old mid)
-    (t : Tells rules s exact before after former latter earlier later mid new (seen_in old.level) Whole) where
+    (t : Tells rules s before after former latter earlier later mid new (seen_in old.level) Whole) where
   abbrev as_before : Question
   as_before = record new { level = old.level }
 
-  told_before : Tells rules s exact before after former latter earlier later old as_before (seen_in old.level) Whole
-  told_before = tells_pending rules s exact before after former latter earlier later old mid new lost.chain lost.finds (seen_in old.level) t
+  told_before : Tells rules s before after former latter earlier later old as_before (seen_in old.level) Whole
+  told_before = tells_pending rules s before after former latter earlier later old mid new lost.chain lost.finds (seen_in old.level) t
 
   seen_under : (i : Instance ℕ) → Among i (seen_in old.level) → Among i (under (all_levels old))
   seen_under i a = inr (front_among i (seen_in old.level) (under (levels_of old.waiting.entries)) a)
 
-  pub gains_solved : (any : Question) → any.found.entries ≡ new.found.entries → GainsBetween rules s exact before after former latter earlier later old any Whole
-  gains_solved = gains_told rules s exact before after former latter earlier later old as_before (seen_in old.level) told_before can.answerable.basis.idle
+  pub gains_solved : (any : Question) → any.found.entries ≡ new.found.entries → GainsBetween rules s before after former latter earlier later old any Whole
+  gains_solved = gains_told rules s before after former latter earlier later old as_before (seen_in old.level) told_before can.answerable.basis.idle
       can.facts.values can.held seen_under (λ i a. can.led i (seen_under i a))
 
   pub asked_solved : asked_by new ≡ asked_by old
@@ -170,10 +170,10 @@ module _ {Whole : Type 0} (rules : Rules) (s : Shown) (exact : Bool) (before aft
         }
 
 -- A question is closed so far: what came to be kept meanwhile, and that the levels that are left are those that it had.
-pub record IsClosing (rules : Rules) (s : Shown) (exact : Bool) (before after : Entries) (former latter : Memories) (earlier later : ℕ)
+pub record IsClosing (rules : Rules) (s : Shown) (before after : Entries) (former latter : Memories) (earlier later : ℕ)
     (old new : Question) : Type 0 where
   pub can : CanClose rules s after new
-  pub gains : GainsBetween rules s exact before after former latter earlier later old new (Unit {0})
+  pub gains : GainsBetween rules s before after former latter earlier later old new (Unit {0})
   pub stays : StaysOn old new
   pub asked : asked_by new ≡ asked_by old
   pub levels : (i : Instance ℕ) → Among i (under (all_levels new)) → Among i (under (all_levels old))
@@ -181,11 +181,11 @@ pub record IsClosing (rules : Rules) (s : Shown) (exact : Bool) (before after : 
   pub told : (i : Instance ℕ) (v : Value ℕ) → IsSeenBy old i → HasValue (contents s) (meaning rules) i v
       → IsSome (known_to after new i) ⊎ IsSeenBy new i
 
-pub begins_closing : (rules : Rules) (s : Shown) (exact : Bool) (entries : Entries) (m : Memories) (w : ℕ) (q : Question) → CanClose rules s entries q →
-    w < 2 ^ 64 → IsClosing rules s exact entries entries m m w w q q
-begins_closing rules s exact entries m w q can small = record {
+pub begins_closing : (rules : Rules) (s : Shown) (entries : Entries) (m : Memories) (w : ℕ) (q : Question) → CanClose rules s entries q →
+    w < 2 ^ 64 → IsClosing rules s entries entries m m w w q q
+begins_closing rules s entries m w q can small = record {
   can = can;
-  gains = gains_nothing rules s exact entries m w q q can.answerable small refl;
+  gains = gains_nothing rules s entries m w q q can.answerable small refl;
   stays = stays_same q;
   asked = refl;
   levels = λ i h. h;
@@ -194,11 +194,11 @@ begins_closing rules s exact entries m w q can small = record {
 }
 
 -- no search was under way
-pub closed_plainly : (rules : Rules) (s : Shown) (exact : Bool) (entries : Entries) (m : Memories) (w : ℕ) (q : Question) (at : Instance ℕ) →
+pub closed_plainly : (rules : Rules) (s : Shown) (entries : Entries) (m : Memories) (w : ℕ) (q : Question) (at : Instance ℕ) →
     CanClose rules s entries q → w < 2 ^ 64 → q.ended.entries ≡ [] →
-    HasClosed {E = AllocError} rules s exact entries entries m m w w q q at (Ok (Some (answer.Circular at)))
-closed_plainly rules s exact entries m w q at can small none = record {
-  gains = gains_nothing rules s exact entries m w q q can.answerable small refl;
+    HasClosed {E = AllocError} rules s entries entries m m w w q q at (Ok (Some (answer.Circular at)))
+closed_plainly rules s entries m w q at can small none = record {
+  gains = gains_nothing rules s entries m w q q can.answerable small refl;
   stays = stays_same q;
   is = refl;
   told = λ i v (j, l, a, b) has. absurd (let x = can.levels j l a in subst (λ es. Among i (keys_of es)) none
@@ -206,12 +206,12 @@ closed_plainly rules s exact entries m w q at can small none = record {
   plainly = λ empty. (refl, refl);
 }
 
-module _ (rules : Rules) (s : Shown) (exact : Bool) (before mid after : Entries) (f m n : Memories) (w x y : ℕ) (old q new : Question)
-    (c : IsClosing rules s exact before mid f m w x old q) (r : Result Unit AllocError)
-    (h : HasSolvedLevel {E = AllocError} rules s exact mid after m n x y q new r) where
-  gained_so : (any : Question) → any.found.entries ≡ new.found.entries → GainsBetween rules s exact before after f n w y old any (KeepsGroups rules r)
-  gained_so any same = gains_then rules s exact before mid after f m n w x y old q any c.gains
-      (gains_solved rules s exact mid after m n x y q new c.can h.mid h.lost h.tells any same) c.asked
+module _ (rules : Rules) (s : Shown) (before mid after : Entries) (f m n : Memories) (w x y : ℕ) (old q new : Question)
+    (c : IsClosing rules s before mid f m w x old q) (r : Result Unit AllocError)
+    (h : HasSolvedLevel {E = AllocError} rules s mid after m n x y q new r) where
+  gained_so : (any : Question) → any.found.entries ≡ new.found.entries → GainsBetween rules s before after f n w y old any (KeepsGroups rules r)
+  gained_so any same = gains_then rules s before mid after f m n w x y old q any c.gains
+      (gains_solved rules s mid after m n x y q new c.can h.mid h.lost h.tells any same) c.asked
       (λ i a. inl (c.levels i a)) (λ i a. inr (subst (λ ks. Among i ks) c.ended a))
 
   waits_solved : new.waiting.entries ≡ q.waiting.entries
@@ -254,13 +254,13 @@ module _ (rules : Rules) (s : Shown) (exact : Bool) (before mid after : Entries)
 
   -- its last level is off
   pub closes_on : ToldLast → (Unit {0} → KeepsGroups rules r) → (t : Question) (i : Instance ℕ) → IsRisen new t i →
-      IsClosing rules s exact before after f n w y old t
+      IsClosing rules s before after f n w y old t
   closes_on told on t i risen = record {
-    can = can_close_on rules s exact mid after m n x y q new c.can h.mid h.lost h.tells t i risen;
-    gains = gains_where rules s exact before after f n w y old t on (gained_so t risen.finds.found);
+    can = can_close_on rules s mid after m n x y q new c.can h.mid h.lost h.tells t i risen;
+    gains = gains_where rules s before after f n w y old t on (gained_so t risen.finds.found);
     stays = stays_then old new t stays_solved (stays_risen new t i risen);
-    asked = asked_off rules s exact mid after m n x y q new c.can h.mid h.lost h.tells t i risen ∙ c.asked;
-    levels = λ j a. c.levels j (under_off rules s exact mid after m n x y q new c.can h.mid h.lost h.tells t i risen j a);
+    asked = asked_off rules s mid after m n x y q new c.can h.mid h.lost h.tells t i risen ∙ c.asked;
+    levels = λ j a. c.levels j (under_off rules s mid after m n x y q new c.can h.mid h.lost h.tells t i risen j a);
     ended = ap (λ es. keys_of es) risen.finds.ended ∙ tells_ended ∙ c.ended;
     told = λ j v seen has. elim (told_new told j v seen has) [
       | inl k ↦ inl (subst (λ fs. IsSome (known_in after fs j)) (sym risen.finds.found) k)
@@ -289,10 +289,10 @@ module _ (rules : Rules) (s : Shown) (exact : Bool) (before mid after : Entries)
   -- none waits for it: that was the answer
   pub closed_so : ToldLast → (Unit {0} → KeepsGroups rules r) → new.waiting.entries ≡ [] → (t : Question) →
       IsUnchanged new t → (at : Instance ℕ) →
-      (old.ended.entries ≡ [] → ⊥) → HasClosed {E = AllocError} rules s exact before after f n w y old t at (Ok (Some
+      (old.ended.entries ≡ [] → ⊥) → HasClosed {E = AllocError} rules s before after f n w y old t at (Ok (Some
       (answer.Circular at)))
   closed_so told on alone t same at some = record {
-    gains = gains_where rules s exact before after f n w y old t on (gained_so t same.finds.found);
+    gains = gains_where rules s before after f n w y old t on (gained_so t same.finds.found);
     stays = stays_then old new t stays_solved (stays_unchanged new t same);
     is = refl;
     told = λ i v seen has. elim (told_new told i v seen has) [
@@ -304,9 +304,9 @@ module _ (rules : Rules) (s : Shown) (exact : Bool) (before mid after : Entries)
 
   -- memory is wanting
   pub closing_failed : (at : Instance ℕ) → (old.ended.entries ≡ [] → ⊥) → (p : Result (Option Answer) AllocError) (e : AllocError) → p ≡ Err e →
-      HasClosed {E = AllocError} rules s exact before after f n w y old new at p
-  closing_failed at some p e is = subst (λ z. HasClosed {E = AllocError} rules s exact before after f n w y old new at z) (sym is) (record {
-    gains = gains_where rules s exact before after f n w y old new (keeps_groups rules r) (gained_so new refl);
+      HasClosed {E = AllocError} rules s before after f n w y old new at p
+  closing_failed at some p e is = subst (λ z. HasClosed {E = AllocError} rules s before after f n w y old new at z) (sym is) (record {
+    gains = gains_where rules s before after f n w y old new (keeps_groups rules r) (gained_so new refl);
     stays = tt;
     is = tt;
     told = tt;

@@ -1,5 +1,5 @@
 -- The equation of the last one has ended, in whatever way: the search goes along behind it.
-use Rattle.std.proofs.Common.{◌≡◌, ◌⊎◌, ℕ, ◌<◌, ◌^◌, Bool, Option, Some, None, Result, Ok, Err, inl, inr, sym, ◌∙◌, subst}
+use Rattle.std.proofs.Common.{◌≡◌, ◌⊎◌, ℕ, ◌<◌, ◌^◌, Option, Some, None, Result, Ok, Err, inl, inr, sym, ◌∙◌, subst}
 use Rattle.std.specs.Prelude.{IfOk, IfSome, OnOk}
 use Rattle.std.specs.declared.alloc.AllocError.{AllocError}
 use Rattle.std.specs.Map.{keys_of}
@@ -40,7 +40,7 @@ use Rattle.at_demand.proofs.of_levels.Behind.{IsFormHere, key_ended, stands_ende
 use Rattle.at_demand.proofs.of_levels.GainedBetween.{gains_nothing, gains_then}
 use Rattle.at_demand.proofs.of_searches.Moving.{asked_same}
 
-module _ (rules : Rules) (s : Shown) (exact : Bool) (entries : Entries) (m : Memories) (w : ℕ) (q : Question) (t : Trials)
+module _ (rules : Rules) (s : Shown) (entries : Entries) (m : Memories) (w : ℕ) (q : Question) (t : Trials)
     (turns : CanTurnWith rules s entries q t) (none : t.awaited ≡ None) (small : w < 2 ^ 64) (off : HasNoneCircular rules → ⊥)
     (mid : Question) (e : Ending) (h : HasEnded q e mid) (ends : EndsSo (contents s) (meaning rules) q.inst (end_of e))
     (form : (g : Formed) → e ≡ ending.Formed g → IsFormHere rules (contents s) entries q g)
@@ -119,13 +119,13 @@ module _ (rules : Rules) (s : Shown) (exact : Bool) (entries : Entries) (m : Mem
 
   -- and goes along so
   module _ (after : Entries) (n : Memories) (x : ℕ) (new : Question) (u : Trials) (r : Result (Option Answer) AllocError)
-      (g : HasGoneAlong {E = AllocError} rules s exact entries after m n w x mid new u r) where
-    pub gains_behind : GainsBetween rules s exact entries after m n w x q new (KeepsGroups rules r)
-    gains_behind = gains_then rules s exact entries entries after m m n w w x q mid new
-        (gains_nothing rules s exact entries m w q mid (let turn = turns.turns in turn.answerable) small h.found)
+      (g : HasGoneAlong {E = AllocError} rules s entries after m n w x mid new u r) where
+    pub gains_behind : GainsBetween rules s entries after m n w x q new (KeepsGroups rules r)
+    gains_behind = gains_then rules s entries entries after m m n w w x q mid new
+        (gains_nothing rules s entries m w q mid (let turn = turns.turns in turn.answerable) small h.found)
         g.gains (asked_same q mid h.chain.waiting h.root) (λ i a. was_mid i (inl a)) (λ i k. was_mid i (inr k))
 
-    pub leaves_behind : LeavesSo {E = AllocError} rules s exact entries after q new r
+    pub leaves_behind : LeavesSo {E = AllocError} rules s entries after q new r
     leaves_behind = let l = g.leaves in record {
       stays = stays_on r l.stays;
       last = λ i. elim (l.last i) [ inl d ↦ inl d | inr d ↦ inr (was_mid i d.0, d.1, d.2) ];
@@ -136,9 +136,9 @@ module _ (rules : Rules) (s : Shown) (exact : Bool) (entries : Entries) (m : Mem
           | inr z ↦ elim z [ inl y ↦ inr (inr (inl (subst (λ fs. IsFound fs i) h.found y))) | inr b ↦ inr (inr (inr (was_mid i b))) ]
         ]
       ];
-      all = λ k spare x. subst (λ j. IfOk r (λ o. IfSome o (λ a. HasWorthyFor rules (contents s) j (answer_view a) after)))
-          (asked_same q mid h.chain.waiting h.root) (l.all k spare (spares_mid x));
-      sparing = λ k spare x. l.sparing k spare (spares_mid x);
+      all = λ spare x. subst (λ j. IfOk r (λ o. IfSome o (λ a. HasWorthyFor rules (contents s) j (answer_view a) after)))
+          (asked_same q mid h.chain.waiting h.root) (l.all spare (spares_mid x));
+      sparing = λ spare x. l.sparing spare (spares_mid x);
     }
       where
         stays_on : (p : Result (Option Answer) AllocError) → OnOk p (StaysSo rules s after mid new) → OnOk p (StaysSo rules s after q new)

@@ -1,5 +1,5 @@
 -- What comes to be kept between two tries, and then more.
-use Rattle.std.proofs.Common.{◌≡◌, ◌⊎◌, ℕ, ◌<◌, ◌^◌, Bool, true, List, [], Option, Some, None, inl, inr, refl, sym, ◌∙◌, subst, append-nil}
+use Rattle.std.proofs.Common.{◌≡◌, ◌⊎◌, ℕ, ◌<◌, ◌^◌, true, List, [], Option, Some, None, inl, inr, refl, sym, ◌∙◌, subst, append-nil}
 use Rattle.std.specs.Prelude.{IsSome}
 use Rattle.std.specs.Map.{keys_of, lookup}
 use Rattle.at_model.specs.Meaning.{Among, Finds}
@@ -32,8 +32,8 @@ use Rattle.at_demand.proofs.There.{found_once, led_there}
 use Rattle.at_demand.proofs.of_traces.TurnsPut.{puts_same, puts_then}
 
 -- what is told is of instances that levels under way have seen, and to which what was asked leads
-module _ {Whole : Type 0} (rules : Rules) (s : Shown) (exact : Bool) (before after : Entries) (former latter : Memories) (earlier later : ℕ) (old new : Question)
-    (these : List (Instance ℕ)) (t : Tells rules s exact before after former latter earlier later old new these Whole) (idle : IsIdle s)
+module _ {Whole : Type 0} (rules : Rules) (s : Shown) (before after : Entries) (former latter : Memories) (earlier later : ℕ) (old new : Question)
+    (these : List (Instance ℕ)) (t : Tells rules s before after former latter earlier later old new these Whole) (idle : IsIdle s)
     (values : AreRightValues (contents s) (meaning rules) (known_to before old))
     (held : (i : Instance ℕ) → IsSome (known_to before old i) → IsKept before i ⊎ Leads (contents s) (meaning rules) (asked_by old) i)
     (inside : (i : Instance ℕ) → Among i these → Among i (under (all_levels old)))
@@ -80,7 +80,7 @@ module _ {Whole : Type 0} (rules : Rules) (s : Shown) (exact : Bool) (before aft
   ]
 
   pub gains_told : (any : Question) → any.found.entries ≡ new.found.entries →
-      GainsBetween rules s exact before after former latter earlier later old any Whole
+      GainsBetween rules s before after former latter earlier later old any Whole
   gains_told any same = record {
     stays = t.stays;
     finds = let (more, e) = t.finds in (more, same ∙ e);
@@ -96,8 +96,8 @@ module _ {Whole : Type 0} (rules : Rules) (s : Shown) (exact : Bool) (before aft
     others = λ i k. elim (t.entries i k) [ inl b ↦ inl b | inr d ↦ inr (elim d [ inl a ↦ inl a | inr f ↦ inr (found_on i f) ]) ];
     worthy = record { stays = t.stays; worthy = worth };
     spare = t.spare;
-    lean = λ on w. subst (λ fs. AreLean rules (contents s) fs) (sym same) (t.lean on w);
-    settled = λ on w. subst (λ fs. AreSettled rules after fs) (sym same) (t.settled on w);
+    lean = λ w. subst (λ fs. AreLean rules (contents s) fs) (sym same) (t.lean w);
+    settled = λ w. subst (λ fs. AreSettled rules after fs) (sym same) (t.settled w);
     counts = t.counts;
     traces = t.traces;
   }
@@ -115,10 +115,10 @@ held_told rules s entries q l st i some = by (there (known_to entries q i) some)
     by (v, e) = elim (st.is.known i v e) [ inl k ↦ inl (is_there (kept_values entries i) v k) | inr t ↦ inr (st.reached i (Finds v) t) ]
 
 -- nothing comes
-pub gains_nothing : {Whole : Type 0} → (rules : Rules) (s : Shown) (exact : Bool) (entries : Entries) (m : Memories) (w : ℕ) (old new : Question) →
+pub gains_nothing : {Whole : Type 0} → (rules : Rules) (s : Shown) (entries : Entries) (m : Memories) (w : ℕ) (old new : Question) →
     IsAnswerable rules s entries → w < 2 ^ 64 → new.found.entries ≡ old.found.entries →
-    GainsBetween rules s exact entries entries m m w w old new Whole
-gains_nothing rules s exact entries m w old new answerable small same = record {
+    GainsBetween rules s entries entries m m w w old new Whole
+gains_nothing rules s entries m w old new answerable small same = record {
   stays = λ i some. refl;
   finds = ([], same ∙ sym (append-nil old.found.entries));
   right = answerable.right;
@@ -132,16 +132,16 @@ gains_nothing rules s exact entries m w old new answerable small same = record {
   last = λ i. inl refl;
   others = λ i some. inl some;
   worthy = record { stays = λ i some. refl; worthy = λ i none some. absurd (not_none (kept_values entries i) some none) };
-  spare = λ whole on spare lean settled. spare;
-  lean = λ on z. subst (λ fs. AreLean rules (contents s) fs) (sym same) z;
-  settled = λ on z. subst (λ fs. AreSettled rules entries fs) (sym same) z;
-  counts = λ on. counts_none entries w small;
+  spare = λ whole spare lean settled. spare;
+  lean = λ z. subst (λ fs. AreLean rules (contents s) fs) (sym same) z;
+  settled = λ z. subst (λ fs. AreSettled rules entries fs) (sym same) z;
+  counts = counts_none entries w small;
   traces = puts_same m;
 }
 
 -- and then more
-module _ {Whole : Type 0} (rules : Rules) (s : Shown) (exact : Bool) (first mid last : Entries) (f m n : Memories) (w x y : ℕ) (p q r : Question)
-    (g : GainsBetween rules s exact first mid f m w x p q (Unit {0})) (h : GainsBetween rules s exact mid last m n x y q r Whole) (same : asked_by q ≡ asked_by p)
+module _ {Whole : Type 0} (rules : Rules) (s : Shown) (first mid last : Entries) (f m n : Memories) (w x y : ℕ) (p q r : Question)
+    (g : GainsBetween rules s first mid f m w x p q (Unit {0})) (h : GainsBetween rules s mid last m n x y q r Whole) (same : asked_by q ≡ asked_by p)
     (levels : (i : Instance ℕ) → Among i (under (all_levels q)) → WasSeenBy p i)
     (ended : (i : Instance ℕ) → Among i (keys_of q.ended.entries) → WasSeenBy p i) where
   early : (i : Instance ℕ) → WasSeenBy q i → WasSeenBy p i
@@ -158,7 +158,7 @@ module _ {Whole : Type 0} (rules : Rules) (s : Shown) (exact : Bool) (first mid 
       by None e = subst (λ z. IsWorthy rules (contents s) z i) same (h.worthy.worthy i e some)
       by (Some v) e = g.worthy.worthy i none (is_there (kept_values mid i) v e)
 
-  pub gains_then : GainsBetween rules s exact first last f n w y p r Whole
+  pub gains_then : GainsBetween rules s first last f n w y p r Whole
   gains_then = record {
     stays = λ i some. h.stays i (entered_on first mid g.stays i some) ∙ g.stays i some;
     finds = extends_on p.found.entries q.found.entries r.found.entries g.finds h.finds;
@@ -179,18 +179,18 @@ module _ {Whole : Type 0} (rules : Rules) (s : Shown) (exact : Bool) (first mid 
       | inr d ↦ inr d
     ];
     worthy = record { stays = λ i some. h.stays i (entered_on first mid g.stays i some) ∙ g.stays i some; worthy = worthy_then };
-    spare = λ whole on spare lean settled. h.spare whole on (g.spare tt on spare lean settled) (g.lean on lean) (g.settled on settled);
-    lean = λ on z. h.lean on (g.lean on z);
-    settled = λ on z. h.settled on (g.settled on z);
-    counts = λ on. counts_more first mid last w x y (g.counts on) (h.counts on);
+    spare = λ whole spare lean settled. h.spare whole (g.spare tt spare lean settled) (g.lean lean) (g.settled settled);
+    lean = λ z. h.lean (g.lean z);
+    settled = λ z. h.settled (g.settled z);
+    counts = counts_more first mid last w x y g.counts h.counts;
     traces = puts_then f m n g.traces h.traces;
   }
 
 -- under another condition
-pub gains_where : {V W : Type 0} (rules : Rules) (s : Shown) (exact : Bool) (before after : Entries) (former latter : Memories) (earlier later : ℕ)
-    (old new : Question) → (W → V) → GainsBetween rules s exact before after former latter earlier later old new V →
-    GainsBetween rules s exact before after former latter earlier later old new W
-gains_where rules s exact before after former latter earlier later old new on g = record {
+pub gains_where : {V W : Type 0} (rules : Rules) (s : Shown) (before after : Entries) (former latter : Memories) (earlier later : ℕ)
+    (old new : Question) → (W → V) → GainsBetween rules s before after former latter earlier later old new V →
+    GainsBetween rules s before after former latter earlier later old new W
+gains_where rules s before after former latter earlier later old new on g = record {
   stays = g.stays;
   finds = g.finds;
   right = g.right;

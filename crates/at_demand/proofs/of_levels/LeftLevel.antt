@@ -1,6 +1,6 @@
 -- A level whose search is over goes: the one that waits is told its value, or ends by its fault; where none waits, that is the answer.
-use Rattle.std.proofs.Common.{◌≡◌, ◌⊎◌, ℕ, ◌<◌, arith, Bool, length, List, [], ◌∷◌, ◌++◌, Option, Some, None, inl, inr, refl, sym, ap, ◌∙◌, subst}
-use Rattle.std.specs.Prelude.{IsSome, IsTrue, IfOk, Result, Ok, Err}
+use Rattle.std.proofs.Common.{◌≡◌, ◌⊎◌, ℕ, ◌<◌, arith, length, List, [], ◌∷◌, ◌++◌, Option, Some, None, inl, inr, refl, sym, ap, ◌∙◌, subst}
+use Rattle.std.specs.Prelude.{IsSome, IfOk, Result, Ok, Err}
 use Rattle.std.specs.declared.alloc.AllocError.{AllocError}
 use Rattle.std.specs.Map.{keys_of}
 use Rattle.at_model.proofs.of_searching.PassedCircles.{ends_one}
@@ -105,32 +105,32 @@ RisesSo entries old new t u o = elim o [
 ]
 
 -- what came to be kept as the level was solved
-pub gains_level : {Whole : Type 0} → (rules : Rules) (s : Shown) (exact : Bool) (before after : Entries) (former latter : Memories) (earlier later : ℕ) (old : Question) →
+pub gains_level : {Whole : Type 0} → (rules : Rules) (s : Shown) (before after : Entries) (former latter : Memories) (earlier later : ℕ) (old : Question) →
     CanSearch rules s before old → (mid new : Question) → HasLostSeen old mid →
-    Tells rules s exact before after former latter earlier later mid new (seen_in old.level) Whole → (any : Question) → any.found.entries ≡ new.found.entries →
-    GainsBetween rules s exact before after former latter earlier later old any Whole
-gains_level rules s exact before after former latter earlier later old can mid new lost t =
+    Tells rules s before after former latter earlier later mid new (seen_in old.level) Whole → (any : Question) → any.found.entries ≡ new.found.entries →
+    GainsBetween rules s before after former latter earlier later old any Whole
+gains_level rules s before after former latter earlier later old can mid new lost t =
     let st = can.stands in
-    gains_told rules s exact before after former latter earlier later old (record new { level = old.level }) (seen_in old.level)
-    (tells_pending rules s exact before after former latter earlier later old mid new lost.chain lost.finds (seen_in old.level) t) st.can.answerable.basis.idle
+    gains_told rules s before after former latter earlier later old (record new { level = old.level }) (seen_in old.level)
+    (tells_pending rules s before after former latter earlier later old mid new lost.chain lost.finds (seen_in old.level) t) st.can.answerable.basis.idle
     st.can.facts.values (held_told rules s before old can.looked st)
     (λ i a. inr (front_among i (seen_in old.level) (under (levels_of old.waiting.entries)) a))
     (λ i a. led_under rules s before old can.looked st i (inr (front_among i (seen_in old.level) (under (levels_of old.waiting.entries)) a)))
 
 -- What the level had seen was solved, and is marked whole.
-module _ (rules : Rules) (s : Shown) (exact : Bool) (before after : Entries) (former latter : Memories) (earlier later : ℕ) (old : Question)
+module _ (rules : Rules) (s : Shown) (before after : Entries) (former latter : Memories) (earlier later : ℕ) (old : Question)
     (can : CanSearch rules s before old) (done : IsDoneIn old.level) (mid new : Question) (lost : HasLostSeen old mid)
-    (t : Tells rules s exact before after former latter earlier later mid new (seen_in old.level) (Unit {0}))
+    (t : Tells rules s before after former latter earlier later mid new (seen_in old.level) (Unit {0}))
     (marked : (i : Instance ℕ) → Among i (seen_in old.level) → IsMarked new.ended.entries i) (resolve : CanResolve rules s after new) where
   -- the question with its level as it was
   abbrev pub with_it : Question
   with_it = record new { level = old.level }
 
-  told_with : Tells rules s exact before after former latter earlier later old with_it (seen_in old.level) (Unit {0})
-  told_with = tells_pending rules s exact before after former latter earlier later old mid new lost.chain lost.finds (seen_in old.level) t
+  told_with : Tells rules s before after former latter earlier later old with_it (seen_in old.level) (Unit {0})
+  told_with = tells_pending rules s before after former latter earlier later old mid new lost.chain lost.finds (seen_in old.level) t
 
-  gains_left : (any : Question) → any.found.entries ≡ new.found.entries → GainsBetween rules s exact before after former latter earlier later old any (Unit {0})
-  gains_left = gains_level rules s exact before after former latter earlier later old can mid new lost t
+  gains_left : (any : Question) → any.found.entries ≡ new.found.entries → GainsBetween rules s before after former latter earlier later old any (Unit {0})
+  gains_left = gains_level rules s before after former latter earlier later old can mid new lost t
 
   none_seen : (i : Instance ℕ) → Among i (seen_in new.level) → ⊥
   none_seen i a = subst (λ is. Among i is) (ap (λ d. seen_in d) t.level ∙ lost.seen) a
@@ -166,11 +166,11 @@ module _ (rules : Rules) (s : Shown) (exact : Bool) (before after : Entries) (fo
         solvable = between_solvable rules s before old can
 
     pub stands_now : StandsBetween rules s after with_it now
-    stands_now = stands_told rules s exact before after former latter earlier later old with_it (seen_in old.level) told_with l st l.seen only
+    stands_now = stands_told rules s before after former latter earlier later old with_it (seen_in old.level) told_with l st l.seen only
         (λ i a. led_met rules s before old l st i (front_among i l.seen l.todo a)) had_ended resolve_with
 
     pub kept_now : AreKeptOrTold first after with_it now
-    kept_now = kept_or_told rules s exact before after former latter earlier later old with_it (seen_in old.level) told_with l st l.seen only first k
+    kept_now = kept_or_told rules s before after former latter earlier later old with_it (seen_in old.level) told_with l st l.seen only first k
 
     told_first : (u : Search ℕ) (o : Option (ModelAnswer ℕ)) → FollowsSo rules (contents s) first now u o → FollowsSo rules (contents s) first l u o
     told_first u o y = follows.tells now.told (adds_wide (contents s) (meaning rules) l.seen (l.seen ++ under l.below) l.told now.told
@@ -328,7 +328,7 @@ module _ (rules : Rules) (s : Shown) (exact : Bool) (before after : Entries) (fo
   key_was i k = subst (λ ks. Among i ks) told_with.ended k
 
   -- where none waits, all that is worthy is kept
-  module _ (alone : old.waiting.entries ≡ []) (k : IsTrue exact) (spare : AreSpare rules (contents s) before) (x : IsSparingTurns rules (contents s) before old) where
+  module _ (alone : old.waiting.entries ≡ []) (spare : AreSpare rules (contents s) before) (x : IsSparingTurns rules (contents s) before old) where
     -- what isn't known is marked
     marked_top : (i : Instance ℕ) → Among i (keys_of new.ended.entries) → known_to after new i ≡ None →
         IsMarked new.ended.entries i
@@ -382,7 +382,7 @@ module _ (rules : Rules) (s : Shown) (exact : Bool) (before after : Entries) (fo
     worthy_top : HasWorthy rules (contents s) (asked_by old) after
     worthy_top = subst (λ i. HasWorthy rules (contents s) i after) (sym asked_top)
         (all_worthy rules (contents s) after new (let st = can.stands in st.can.answerable.basis.circular.lazy) resolve.finds.whole
-        (told_with.settled k x.settled) (told_with.spare tt k spare x.lean x.settled) followed_top valueless_top (root_in old.level old.inst)
+        (told_with.settled x.settled) (told_with.spare tt spare x.lean x.settled) followed_top valueless_top (root_in old.level old.inst)
         (key_with (root_in old.level old.inst) (root_key rules s before old can.looked can.stands)))
       where
         asked_top : asked_by old ≡ root_in old.level old.inst
@@ -458,7 +458,7 @@ module _ (rules : Rules) (s : Shown) (exact : Bool) (before after : Entries) (fo
               (subst (λ r. known_in after new.found.entries r ≡ Some v) (root_taken ∙ sym st.is.root)
               (subst (λ fs. known_in after fs (root_in q2.level q2.inst) ≡ Some v) taken.finds.found known)))
 
-      pub left_told : (o : Option Answer) → RisesSo after q2 q3 trials u o → HasLeft {E = AllocError} rules s exact before after former latter earlier later old q3 u (Ok (left.Told o))
+      pub left_told : (o : Option Answer) → RisesSo after q2 q3 trials u o → HasLeft {E = AllocError} rules s before after former latter earlier later old q3 u (Ok (left.Told o))
       left_told o h = record {
         gains = gains_left q3 (same ∙ taken.finds.found);
         stays = stays_then old q2 q3 stays_off (rises o h);
@@ -466,19 +466,19 @@ module _ (rules : Rules) (s : Shown) (exact : Bool) (before after : Entries) (fo
         so = told_so o h;
       }
         where
-          all_told : (a : Option Answer) → RisesSo after q2 q3 trials u a → LeavesAll rules s exact before after old q3 (left.Told a)
+          all_told : (a : Option Answer) → RisesSo after q2 q3 trials u a → LeavesAll rules s before after old q3 (left.Told a)
           all_told None (risen, awaits) = λ x. followed_risen q3 (root_in q2.level q2.inst) risen x
-          all_told (Some a) (alone, unchanged, v, known, is) = λ k spare x. subst (λ z. HasWorthyFor rules (contents s) (asked_by old) z after) (sym is)
-              (worthy_top (sym waits_taken ∙ alone) k spare x)
+          all_told (Some a) (alone, unchanged, v, known, is) = λ spare x. subst (λ z. HasWorthyFor rules (contents s) (asked_by old) z after) (sym is)
+              (worthy_top (sym waits_taken ∙ alone) spare x)
 
           rises : (a : Option Answer) → RisesSo after q2 q3 trials u a → StaysOn q2 q3
           rises None (risen, awaits) = stays_risen q2 q3 (root_in q2.level q2.inst) risen
           rises (Some a) (alone, unchanged, v, known, is) = stays_unchanged q2 q3 unchanged
 
     pub left_failed : (q3 : Question) (u : Trials) → q3.found.entries ≡ q2.found.entries → (r : Result Left AllocError) (e : AllocError) → r ≡ Err e →
-        HasLeft {E = AllocError} rules s exact before after former latter earlier later old q3 u r
-    left_failed q3 u same r e is = subst (λ z. HasLeft {E = AllocError} rules s exact before after former latter earlier later old q3 u z) (sym is)
-        (record { gains = gains_where rules s exact before after former latter earlier later old q3 (λ none. tt) (gains_left q3 (same ∙ taken.finds.found)); stays = tt; all = tt; so = tt })
+        HasLeft {E = AllocError} rules s before after former latter earlier later old q3 u r
+    left_failed q3 u same r e is = subst (λ z. HasLeft {E = AllocError} rules s before after former latter earlier later old q3 u z) (sym is)
+        (record { gains = gains_where rules s before after former latter earlier later old q3 (λ none. tt) (gains_left q3 (same ∙ taken.finds.found)); stays = tt; all = tt; so = tt })
 
     -- a fault was met
     module _ (f : Fault) (some : fault_in old.level ≡ Some f) (trials : Trials) (along : CanGoAlong rules s before old trials) (q4 : Question) (u : Trials)
@@ -567,8 +567,8 @@ module _ (rules : Rules) (s : Shown) (exact : Bool) (before after : Entries) (fo
       fallen_so left.Fallen (q3, i, risen, ended, dropped) = goes_down q3 i risen ended dropped
 
       pub left_fallen : (r : Result Left AllocError) → IfOk r (HasFallen q2 q4 trials u f) →
-          HasLeft {E = AllocError} rules s exact before after former latter earlier later old q4 u r
-      left_fallen (Err e) h = record { gains = gains_where rules s exact before after former latter earlier later old q4 (λ none. tt) (gains_left q4 (same ∙ taken.finds.found)); stays = tt; all = tt; so = tt }
+          HasLeft {E = AllocError} rules s before after former latter earlier later old q4 u r
+      left_fallen (Err e) h = record { gains = gains_where rules s before after former latter earlier later old q4 (λ none. tt) (gains_left q4 (same ∙ taken.finds.found)); stays = tt; all = tt; so = tt }
       left_fallen (Ok x) h = record {
         gains = gains_left q4 (same ∙ taken.finds.found);
         stays = stays_then old q2 q4 stays_off (falls x h);
@@ -617,10 +617,10 @@ module _ (rules : Rules) (s : Shown) (exact : Bool) (before after : Entries) (fo
               settle (inr e) = inr (subst (λ z. Among z (keys_of q3.ended.entries)) (sym e) (subst (λ es. Among (root_in old.level old.inst) (keys_of es))
                   (sym finds_so.ended) (key_with (root_in old.level old.inst) (root_key rules s before old can.looked can.stands))))
 
-          all_fallen : (x : Left) → HasFallen q2 q4 trials u f x → LeavesAll rules s exact before after old q4 x
+          all_fallen : (x : Left) → HasFallen q2 q4 trials u f x → LeavesAll rules s before after old q4 x
           all_fallen (left.Told None) h = absurd h
-          all_fallen (left.Told (Some a)) (alone, unchanged, is) = λ k spare y.
-              subst (λ z. HasWorthyFor rules (contents s) (asked_by old) z after) (sym is) (worthy_top (sym waits_taken ∙ alone) k spare y)
+          all_fallen (left.Told (Some a)) (alone, unchanged, is) = λ spare y.
+              subst (λ z. HasWorthyFor rules (contents s) (asked_by old) z after) (sym is) (worthy_top (sym waits_taken ∙ alone) spare y)
           all_fallen left.Fallen (q3, i, risen, ended, dropped) = λ y.
               let (come, fresh, shut) = at_below q3 i risen in
               followed_ended q3 q4 (ending.Spoilt f) ended rules (contents s) after
@@ -641,32 +641,32 @@ module _ (rules : Rules) (s : Shown) (exact : Bool) (before after : Entries) (fo
               stays_then q2 q3 q4 (stays_risen q2 q3 i risen) (stays_ended q3 q4 (ending.Spoilt f) ended)
 
 -- the level wasn't solved, for want of memory
-pub leave_failed : (rules : Rules) (s : Shown) (exact : Bool) (before after : Entries) (former latter : Memories) (earlier later : ℕ) (old new : Question) →
-    CanSearch rules s before old → (q : Result Unit AllocError) → HasSolvedLevel {E = AllocError} rules s exact before after former latter earlier later old new q →
-    (u : Trials) (r : Result Left AllocError) (e : AllocError) → r ≡ Err e → HasLeft {E = AllocError} rules s exact before after former latter earlier later old new u r
-leave_failed rules s exact before after former latter earlier later old new can q h u r e is =
-    subst (λ z. HasLeft {E = AllocError} rules s exact before after former latter earlier later old new u z) (sym is)
+pub leave_failed : (rules : Rules) (s : Shown) (before after : Entries) (former latter : Memories) (earlier later : ℕ) (old new : Question) →
+    CanSearch rules s before old → (q : Result Unit AllocError) → HasSolvedLevel {E = AllocError} rules s before after former latter earlier later old new q →
+    (u : Trials) (r : Result Left AllocError) (e : AllocError) → r ≡ Err e → HasLeft {E = AllocError} rules s before after former latter earlier later old new u r
+leave_failed rules s before after former latter earlier later old new can q h u r e is =
+    subst (λ z. HasLeft {E = AllocError} rules s before after former latter earlier later old new u z) (sym is)
     (record {
-      gains = gains_where rules s exact before after former latter earlier later old new (keeps_groups rules q)
-          (gains_level rules s exact before after former latter earlier later old can h.mid new h.lost h.tells new refl);
+      gains = gains_where rules s before after former latter earlier later old new (keeps_groups rules q)
+          (gains_level rules s before after former latter earlier later old can h.mid new h.lost h.tells new refl);
       stays = tt;
       all = tt;
       so = tt;
     })
 
 -- what is kept is as it was
-left_same : (rules : Rules) (s : Shown) (exact : Bool) (before after next : Entries) (former latter following : Memories) (earlier later last : ℕ)
+left_same : (rules : Rules) (s : Shown) (before after next : Entries) (former latter following : Memories) (earlier later last : ℕ)
     (old new : Question) (u : Trials) (r : Result Left AllocError) → next ≡ after → following ≡ latter → last ≡ later →
-    HasLeft {E = AllocError} rules s exact before after former latter earlier later old new u r →
-    HasLeft {E = AllocError} rules s exact before next former following earlier last old new u r
-left_same rules s exact before after next former latter following earlier later last old new u r e f g h =
-    subst (λ z. HasLeft {E = AllocError} rules s exact before z former following earlier last old new u r) (sym e)
-    (subst (λ z. HasLeft {E = AllocError} rules s exact before after former z earlier last old new u r) (sym f)
-    (subst (λ z. HasLeft {E = AllocError} rules s exact before after former latter earlier z old new u r) (sym g) h))
+    HasLeft {E = AllocError} rules s before after former latter earlier later old new u r →
+    HasLeft {E = AllocError} rules s before next former following earlier last old new u r
+left_same rules s before after next former latter following earlier later last old new u r e f g h =
+    subst (λ z. HasLeft {E = AllocError} rules s before z former following earlier last old new u r) (sym e)
+    (subst (λ z. HasLeft {E = AllocError} rules s before after former z earlier last old new u r) (sym f)
+    (subst (λ z. HasLeft {E = AllocError} rules s before after former latter earlier z old new u r) (sym g) h))
 
 -- it was solved, and its fault is taken out
-module _ (rules : Rules) (s : Shown) (exact : Bool) (before after : Entries) (former latter : Memories) (earlier later : ℕ) (old new : Question) (trials : Trials)
-    (can : CanLeave rules s before old trials) (x : Unit) (h : HasSolvedLevel {E = AllocError} rules s exact before after former latter earlier later old new (Ok x))
+module _ (rules : Rules) (s : Shown) (before after : Entries) (former latter : Memories) (earlier later : ℕ) (old new : Question) (trials : Trials)
+    (can : CanLeave rules s before old trials) (x : Unit) (h : HasSolvedLevel {E = AllocError} rules s before after former latter earlier later old new (Ok x))
     (q2 : Question) (taken : HasLostFault new q2) (o : Option Fault) (is : o ≡ fault_in new.level) where
   search_is : CanSearch rules s before old
   search_is = let along = can.along in along.search
@@ -679,22 +679,22 @@ module _ (rules : Rules) (s : Shown) (exact : Bool) (before after : Entries) (fo
 
   module _ (next : Entries) (following : Memories) (last : ℕ) (q3 : Question) (u : Trials) (same : q3.found.entries ≡ q2.found.entries) where
     pub leaves_told : o ≡ None → (a : Option Answer) → HasRisenTo {E = AllocError} after next latter following later last q2 q3 trials u (Ok a) →
-        HasLeft {E = AllocError} rules s exact before next former following earlier last old q3 u (Ok (left.Told a))
-    leaves_told none a r = left_same rules s exact before after next former latter following earlier later last old q3 u (Ok (left.Told a)) r.entries r.traces
-        r.work (left_told rules s exact before after former latter earlier later old search_is can.done h.mid new h.lost h.tells h.marked resolved q2 taken
+        HasLeft {E = AllocError} rules s before next former following earlier last old q3 u (Ok (left.Told a))
+    leaves_told none a r = left_same rules s before after next former latter following earlier later last old q3 u (Ok (left.Told a)) r.entries r.traces
+        r.work (left_told rules s before after former latter earlier later old search_is can.done h.mid new h.lost h.tells h.marked resolved q2 taken
         (sym fault_was ∙ sym is ∙ none) trials can.along q3 u same a r.risen)
 
     pub leaves_failed : (p : Result (Option Answer) AllocError) → HasRisenTo {E = AllocError} after next latter following later last q2 q3 trials u p →
-        (r : Result Left AllocError) (e : AllocError) → r ≡ Err e → HasLeft {E = AllocError} rules s exact before next former following earlier last old q3 u r
-    leaves_failed p t r e failed = left_same rules s exact before after next former latter following earlier later last old q3 u r t.entries t.traces
-        t.work (left_failed rules s exact before after former latter earlier later old search_is can.done h.mid new h.lost h.tells h.marked resolved q2 taken
+        (r : Result Left AllocError) (e : AllocError) → r ≡ Err e → HasLeft {E = AllocError} rules s before next former following earlier last old q3 u r
+    leaves_failed p t r e failed = left_same rules s before after next former latter following earlier later last old q3 u r t.entries t.traces
+        t.work (left_failed rules s before after former latter earlier later old search_is can.done h.mid new h.lost h.tells h.marked resolved q2 taken
         q3 u same r e failed)
 
   pub leaves_unseen : IsLastUnseen q2.waiting.entries
-  leaves_unseen front i d e a = unseen_last rules s exact before after former latter earlier later old search_is can.done h.mid new h.lost h.tells h.marked
+  leaves_unseen front i d e a = unseen_last rules s before after former latter earlier later old search_is can.done h.mid new h.lost h.tells h.marked
       resolved front i d (sym taken.chain.waiting ∙ e) a
 
   pub leaves_fallen : (f : Fault) → o ≡ Some f → (q4 : Question) (u : Trials) → q4.found.entries ≡ q2.found.entries → (r : Result Left AllocError) →
-      IfOk r (HasFallen q2 q4 trials u f) → HasLeft {E = AllocError} rules s exact before after former latter earlier later old q4 u r
-  leaves_fallen f some q4 u same r fallen = left_fallen rules s exact before after former latter earlier later old search_is can.done h.mid new h.lost h.tells
+      IfOk r (HasFallen q2 q4 trials u f) → HasLeft {E = AllocError} rules s before after former latter earlier later old q4 u r
+  leaves_fallen f some q4 u same r fallen = left_fallen rules s before after former latter earlier later old search_is can.done h.mid new h.lost h.tells
       h.marked resolved q2 taken f (sym fault_was ∙ sym is ∙ some) trials can.along q4 u same r fallen

@@ -300,10 +300,10 @@ pub keeps_groups : {T E : Type 0} (rules : Rules) (r : Result T E) → HasNoneCi
 keeps_groups rules (Ok x) none = tt
 keeps_groups rules (Err e) none = none
 
-module _ (rules : Rules) (s : Shown) (exact : Bool) (before after : Entries) (former latter : Memories) (earlier later : ℕ) where
+module _ (rules : Rules) (s : Shown) (before after : Entries) (former latter : Memories) (earlier later : ℕ) where
   -- under another condition
   pub tells_where : {V W : Type 0} → (W → V) → (old new : Question) (these : List (Instance ℕ)) →
-      Tells rules s exact before after former latter earlier later old new these V → Tells rules s exact before after former latter earlier later old new these W
+      Tells rules s before after former latter earlier later old new these V → Tells rules s before after former latter earlier later old new these W
   tells_where on old new these t = record {
     chain = t.chain;
     level = t.level;
@@ -331,7 +331,7 @@ module _ (rules : Rules) (s : Shown) (exact : Bool) (before after : Entries) (fo
   }
 
   pub tells_more : {Whole : Type 0} → (old new : Question) (these those : List (Instance ℕ)) → ((i : Instance ℕ) → Among i these → Among i those) →
-      Tells rules s exact before after former latter earlier later old new these Whole → Tells rules s exact before after former latter earlier later old new those Whole
+      Tells rules s before after former latter earlier later old new these Whole → Tells rules s before after former latter earlier later old new those Whole
   tells_more old new these those on t = record {
     chain = t.chain;
     level = t.level;
@@ -363,7 +363,7 @@ module _ (rules : Rules) (s : Shown) (exact : Bool) (before after : Entries) (fo
     -- what was solved is placed
     pub solved_placed : (r : Result Unit AllocError) → AreClosedIn (known_to before old) old.ended.entries set →
         ((i : Instance ℕ) → Among i (under (all_levels old)) → Among i (under (all_levels new)) ⊎ Among i set) → AreWholeOrSeen rules (contents s) before old →
-        HasMarkedSolved {E = AllocError} rules s exact before after former latter earlier later mid new set r → OnOk r (AreWholeOrSeen rules (contents s) after new)
+        HasMarkedSolved {E = AllocError} rules s before after former latter earlier later mid new set r → OnOk r (AreWholeOrSeen rules (contents s) after new)
     solved_placed (Err e) closed seen w h = tt
     solved_placed (Ok u) closed seen w h =
         let (m, same, marks) = h.marked in
@@ -375,7 +375,7 @@ module _ (rules : Rules) (s : Shown) (exact : Bool) (before after : Entries) (fo
         (λ i a. known_same before after mid old new i ended found (h.rest (closed_same before mid old set ended found closed) i a)) w
 
     -- and each of these is marked
-    pub solved_marked : (r : Result Unit AllocError) → HasMarkedSolved {E = AllocError} rules s exact before after former latter earlier later mid new set r →
+    pub solved_marked : (r : Result Unit AllocError) → HasMarkedSolved {E = AllocError} rules s before after former latter earlier later mid new set r →
         OnOk r ((i : Instance ℕ) → Among i set → Among i (keys_of old.ended.entries) → IsMarked new.ended.entries i)
     solved_marked (Err e) h = tt
     solved_marked (Ok u) h = λ i a k.
@@ -389,7 +389,7 @@ module _ (rules : Rules) (s : Shown) (exact : Bool) (before after : Entries) (fo
 
   -- what can be told can be told still
   pub can_still : {Whole : Type 0} → (old new : Question) (these : List (Instance ℕ)) → IsAnswerable rules s before → AreFactsOf rules (contents s) before old →
-      AreSoundFinds rules s before old → Tells rules s exact before after former latter earlier later old new these Whole →
+      AreSoundFinds rules s before old → Tells rules s before after former latter earlier later old new these Whole →
       AreWholeOrSeen rules (contents s) after new → CanResolve rules s after new
   can_still old new these answerable facts finds t w = record {
     answerable = record {
@@ -464,9 +464,9 @@ tells_ended q i key (Ok resolved.Open) = tt
 tells_ended q i key (Err e) = tt
 
 -- where nothing changes
-module _ (rules : Rules) (s : Shown) (exact : Bool) (entries : Entries) (m : Memories) (w : ℕ) (q : Question) (can : CanResolve rules s entries q)
+module _ (rules : Rules) (s : Shown) (entries : Entries) (m : Memories) (w : ℕ) (q : Question) (can : CanResolve rules s entries q)
     (small : w < 2 ^ 64) where
-  pub tells_nothing : {Whole : Type 0} → (these : List (Instance ℕ)) → Tells rules s exact entries entries m m w w q q these Whole
+  pub tells_nothing : {Whole : Type 0} → (these : List (Instance ℕ)) → Tells rules s entries entries m m w w q q these Whole
   tells_nothing these = record {
     chain = record { waiting = refl; inst = refl };
     level = refl;
@@ -485,11 +485,11 @@ module _ (rules : Rules) (s : Shown) (exact : Bool) (entries : Entries) (m : Mem
     took = can.finds.took;
     right = λ finds there r. r;
     plain = can.answerable.plain;
-    lean = λ on l. l;
-    settled = λ on l. l;
-    only = λ on l all. all;
-    spare = λ whole on l lean settled. l;
-    counts = λ on. counts_none entries w small;
+    lean = λ l. l;
+    settled = λ l. l;
+    only = λ l all. all;
+    spare = λ whole l lean settled. l;
+    counts = counts_none entries w small;
     traces = puts_same m;
   }
 
@@ -498,7 +498,7 @@ module _ (rules : Rules) (s : Shown) (exact : Bool) (entries : Entries) (m : Mem
   on_ok (Err e) = tt
 
   pub nothing_resolved : (i : Instance ℕ) (r : Result Resolved AllocError) → IfOk r (IsResolved rules (contents s) entries entries q q i) →
-      IfOk r (TellsOfEnded q) → HasResolved {E = AllocError} rules s exact entries entries m m w w q q i r
+      IfOk r (TellsOfEnded q) → HasResolved {E = AllocError} rules s entries entries m m w w q q i r
   nothing_resolved i r is ended = record {
     tells = tells_nothing (under (all_levels q));
     can = on_ok r;
@@ -509,13 +509,13 @@ module _ (rules : Rules) (s : Shown) (exact : Bool) (entries : Entries) (m : Mem
   }
 
   pub nothing_looked : (i : Instance ℕ) (r : Result Look AllocError) → IfOk r (IsLookedAt rules (contents s) entries entries q q i) →
-      HasLookedAt {E = AllocError} rules s exact entries entries m m w w q q i r
+      HasLookedAt {E = AllocError} rules s entries entries m m w w q q i r
   nothing_looked i r is = record { tells = tells_nothing (under (all_levels q)); can = on_ok r; is = is; since = λ j k. inl k }
 
   -- one that is marked whole has the fault that is met
   pub marked_resolved : (i : Instance ℕ) → IsMarked q.ended.entries i → (r : Result Resolved AllocError) →
       ((look : Contents ℕ) (forms : Forms ℕ) → AreFacts look forms q.ended.entries → AreWhole look forms (known_to entries q) → IfOk r (IsMetFault look forms i)) →
-      HasResolved {E = AllocError} rules s exact entries entries m m w w q q i r
+      HasResolved {E = AllocError} rules s entries entries m m w w q q i r
   marked_resolved i marked r met = nothing_resolved i r
       (IfOk-weaker r _ _ (spoilt_resolved rules (contents s) entries entries q q i (can.whole.marked i marked) (marked_key q.ended.entries i marked))
       (met (contents s) (meaning rules) can.facts.ends can.facts.wholes))
@@ -542,22 +542,22 @@ module _ (rules : Rules) (s : Shown) (before : Entries) (old : Question) (set : 
     | inr d ↦ elim d [ inl m ↦ absurd (c.unsettled j a (inr m)) | inr u ↦ u ]
   ]
 
-  module _ (exact : Bool) (after : Entries) (former latter : Memories) (earlier later : ℕ) (new : Question) where
-    placed_now : (r : Result Unit AllocError) → HasMarkedSolved {E = AllocError} rules s exact before after former latter earlier later old new set r →
+  module _ (after : Entries) (former latter : Memories) (earlier later : ℕ) (new : Question) where
+    placed_now : (r : Result Unit AllocError) → HasMarkedSolved {E = AllocError} rules s before after former latter earlier later old new set r →
         OnOk r (AreWholeOrSeen rules (contents s) after new)
-    placed_now r h = solved_placed rules s exact before after former latter earlier later old old new set refl refl can.facts r c.closed
+    placed_now r h = solved_placed rules s before after former latter earlier later old old new set refl refl can.facts r c.closed
         (λ j u. inl (subst (λ ls. Among j (under ls)) (sym (same_levels old new h.tells.chain.waiting h.tells.chain.inst h.tells.level)) u)) can.whole h
 
-    still : {Whole : Type 0} → Tells rules s exact before after former latter earlier later old new set Whole → (j : Instance ℕ) → IsSome (known_to before old j) →
+    still : {Whole : Type 0} → Tells rules s before after former latter earlier later old new set Whole → (j : Instance ℕ) → IsSome (known_to before old j) →
         IsSome (known_to after new j)
     still t = let (more, grown) = t.finds in still_known before after old new t.stays more grown
 
     -- and it is marked, where it isn't known
-    marked_then : (u : Unit) → HasMarkedSolved {E = AllocError} rules s exact before after former latter earlier later old new set (Ok u) → known_to after new i ≡ None →
+    marked_then : (u : Unit) → HasMarkedSolved {E = AllocError} rules s before after former latter earlier later old new set (Ok u) → known_to after new i ≡ None →
         IsMarked new.ended.entries i
     marked_then u h none = elim c.first [
       | inl a ↦ let x = c.closed i a in
-          solved_marked rules s exact before after former latter earlier later old old new set refl refl can.facts (Ok u) h i a
+          solved_marked rules s before after former latter earlier later old old new set refl refl can.facts (Ok u) h i a
           (recorded_key old.ended.entries i x.end x.ends)
       | inr d ↦ elim d [
         | inl k ↦ absurd (not_none (known_to after new i) (still h.tells i k) none)
@@ -565,18 +565,18 @@ module _ (rules : Rules) (s : Shown) (before : Entries) (old : Question) (set : 
       ]
     ]
       where
-        stays_marked : (u : Unit) → HasMarkedSolved {E = AllocError} rules s exact before after former latter earlier later old new set (Ok u) → IsMarked old.ended.entries i →
+        stays_marked : (u : Unit) → HasMarkedSolved {E = AllocError} rules s before after former latter earlier later old new set (Ok u) → IsMarked old.ended.entries i →
             IsMarked new.ended.entries i
         stays_marked u h m =
             let (mid, same, marks) = h.marked in
             marked_on set old.ended.entries new.ended.entries (subst (λ es. AllMarked set es new.ended.entries) same (all_marked set mid new marks)) i m
 
-    told_where : {V W : Type 0} → (W → V) → Tells rules s exact before after former latter earlier later old new (under (all_levels old)) V →
-        Tells rules s exact before after former latter earlier later old new (under (all_levels old)) W
-    told_where on t = tells_where rules s exact before after former latter earlier later on old new (under (all_levels old)) t
+    told_where : {V W : Type 0} → (W → V) → Tells rules s before after former latter earlier later old new (under (all_levels old)) V →
+        Tells rules s before after former latter earlier later old new (under (all_levels old)) W
+    told_where on t = tells_where rules s before after former latter earlier later on old new (under (all_levels old)) t
 
     -- what is known since had ended
-    since_ended : {Whole : Type 0} → Tells rules s exact before after former latter earlier later old new set Whole → (j : Instance ℕ) → IsSome (known_to after new j) →
+    since_ended : {Whole : Type 0} → Tells rules s before after former latter earlier later old new set Whole → (j : Instance ℕ) → IsSome (known_to after new j) →
         IsSome (known_to before old j) ⊎ Among j (keys_of old.ended.entries)
     since_ended t j k = elim (t.told j k) [
       | inl b ↦ inl b
@@ -584,10 +584,10 @@ module _ (rules : Rules) (s : Shown) (before : Entries) (old : Question) (set : 
     ]
 
     pub solved_resolved : Among i (keys_of old.ended.entries) → (u : Unit) →
-        HasMarkedSolved {E = AllocError} rules s exact before after former latter earlier later old new set (Ok u) → (r : Result Resolved AllocError) →
-        IfOk r (IsResolved rules (contents s) before after old new i) → HasResolved {E = AllocError} rules s exact before after former latter earlier later old new i r
+        HasMarkedSolved {E = AllocError} rules s before after former latter earlier later old new set (Ok u) → (r : Result Resolved AllocError) →
+        IfOk r (IsResolved rules (contents s) before after old new i) → HasResolved {E = AllocError} rules s before after former latter earlier later old new i r
     solved_resolved key u h r is = record {
-      tells = told_where (λ whole. tt) (tells_more rules s exact before after former latter earlier later old new set (under (all_levels old)) set_seen h.tells);
+      tells = told_where (λ whole. tt) (tells_more rules s before after former latter earlier later old new set (under (all_levels old)) set_seen h.tells);
       can = by r;
       is = is;
       ended = tells_ended old i key r;
@@ -596,16 +596,16 @@ module _ (rules : Rules) (s : Shown) (before : Entries) (old : Question) (set : 
     }
       where
         by : (r : Result Resolved AllocError) → OnOk r (CanResolve rules s after new)
-        by (Ok a) = can_still rules s exact before after former latter earlier later old new set can.answerable can.facts can.finds h.tells (placed_now (Ok u) h)
+        by (Ok a) = can_still rules s before after former latter earlier later old new set can.answerable can.facts can.finds h.tells (placed_now (Ok u) h)
         by (Err e) = tt
 
-    pub failed_resolved : Among i (keys_of old.ended.entries) → (r : Result Unit AllocError) → HasMarkedSolved {E = AllocError} rules s exact before after former latter earlier later old new set r →
+    pub failed_resolved : Among i (keys_of old.ended.entries) → (r : Result Unit AllocError) → HasMarkedSolved {E = AllocError} rules s before after former latter earlier later old new set r →
         (q : Result Resolved AllocError) (e : AllocError) → q ≡ Err e →
-        HasResolved {E = AllocError} rules s exact before after former latter earlier later old new i q
+        HasResolved {E = AllocError} rules s before after former latter earlier later old new i q
     failed_resolved key r h (Ok a) e is = absurd cc
     failed_resolved key r h (Err d) e is = record {
       tells = told_where (keeps_groups rules r)
-          (tells_more rules s exact before after former latter earlier later old new set (under (all_levels old)) set_seen h.tells);
+          (tells_more rules s before after former latter earlier later old new set (under (all_levels old)) set_seen h.tells);
       can = tt;
       is = tt;
       ended = tt;
@@ -613,9 +613,9 @@ module _ (rules : Rules) (s : Shown) (before : Entries) (old : Question) (set : 
       idle = λ none. absurd (some_ended old i key none);
     }
 
-    pub spoilt_then : Among i (keys_of old.ended.entries) → (u : Unit) → HasMarkedSolved {E = AllocError} rules s exact before after former latter earlier later old new set (Ok u) → known_to after new i ≡ None →
+    pub spoilt_then : Among i (keys_of old.ended.entries) → (u : Unit) → HasMarkedSolved {E = AllocError} rules s before after former latter earlier later old new set (Ok u) → known_to after new i ≡ None →
         (r : Result Resolved AllocError) → ((look : Contents ℕ) (forms : Forms ℕ) → AreFacts look forms new.ended.entries → AreWhole look forms (known_to after new) →
-        IfOk r (IsMetFault look forms i)) → HasResolved {E = AllocError} rules s exact before after former latter earlier later old new i r
+        IfOk r (IsMetFault look forms i)) → HasResolved {E = AllocError} rules s before after former latter earlier later old new i r
     spoilt_then key u h none r met =
         let marked = marked_then u h none in
         let w : AreWholeOrSeen rules (contents s) after new = placed_now (Ok u) h in
@@ -624,7 +624,7 @@ module _ (rules : Rules) (s : Shown) (before : Entries) (old : Question) (set : 
         (met (contents s) (meaning rules) facts.ends facts.wholes))
 
 -- what a search does with an instance of which that is known
-module _ (rules : Rules) (s : Shown) (exact : Bool) (before after : Entries) (former latter : Memories) (earlier later : ℕ) (old new : Question)
+module _ (rules : Rules) (s : Shown) (before after : Entries) (former latter : Memories) (earlier later : ℕ) (old new : Question)
     (i : Instance ℕ) (unseen : Among i (seen_in old.level) → ⊥) (unknown : known_to before old i ≡ None) where
   looked : (a : Resolved) → AreRightValues (contents s) (meaning rules) (known_to after new) → IsResolved rules (contents s) before after old new i a →
       IsLookedAt rules (contents s) before after old new i (look_of a)
@@ -638,8 +638,8 @@ module _ (rules : Rules) (s : Shown) (exact : Bool) (before after : Entries) (fo
   looked resolved.Back right (b, e) = (unseen, e ∙ unknown, b)
   looked resolved.Open right (t, n, e) = (unseen, t, n, e ∙ unknown)
 
-  pub looked_ok : (a : Resolved) → HasResolved {E = AllocError} rules s exact before after former latter earlier later old new i (Ok a) → (l : Look) → l ≡ look_of a →
-      HasLookedAt {E = AllocError} rules s exact before after former latter earlier later old new i (Ok l)
+  pub looked_ok : (a : Resolved) → HasResolved {E = AllocError} rules s before after former latter earlier later old new i (Ok a) → (l : Look) → l ≡ look_of a →
+      HasLookedAt {E = AllocError} rules s before after former latter earlier later old new i (Ok l)
   looked_ok a h l e = record {
     tells = h.tells;
     can = h.can;
@@ -686,8 +686,8 @@ module _ (rules : Rules) (s : Shown) (before : Entries) (old mid : Question) (se
         | inr d ↦ elim d [ inl h ↦ inl (to_set k h) | inr h ↦ absurd (subst (λ ts. Among k ts) over.done h) ]
       ]
 
-  module _ (exact : Bool) (after : Entries) (former latter : Memories) (earlier later : ℕ) (new : Question) where
-    still_seen : {Whole : Type 0} → Tells rules s exact before after former latter earlier later mid new set Whole → (i : Instance ℕ) → Among i (under (all_levels old)) →
+  module _ (after : Entries) (former latter : Memories) (earlier later : ℕ) (new : Question) where
+    still_seen : {Whole : Type 0} → Tells rules s before after former latter earlier later mid new set Whole → (i : Instance ℕ) → Among i (under (all_levels old)) →
         Among i (under (all_levels new)) ⊎ Among i set
     still_seen t i (inl e) = inl (inl (e ∙ sym (t.chain.inst ∙ lost.chain.inst)))
     still_seen t i (inr h) = elim (either_among i (seen_in old.level) (under (levels_of old.waiting.entries)) h) [
@@ -696,13 +696,13 @@ module _ (rules : Rules) (s : Shown) (before : Entries) (old mid : Question) (se
           (subst (λ ws. Among i (under (levels_of ws))) (sym (t.chain.waiting ∙ lost.chain.waiting)) b)))
     ]
 
-    pub level_solved : (r : Result Unit AllocError) → HasMarkedSolved {E = AllocError} rules s exact before after former latter earlier later mid new set r →
-        HasSolvedLevel {E = AllocError} rules s exact before after former latter earlier later old new r
+    pub level_solved : (r : Result Unit AllocError) → HasMarkedSolved {E = AllocError} rules s before after former latter earlier later mid new set r →
+        HasSolvedLevel {E = AllocError} rules s before after former latter earlier later old new r
     level_solved r h = record {
       mid = mid;
       lost = lost;
-      tells = tells_more rules s exact before after former latter earlier later mid new set (seen_in old.level) of_set h.tells;
-      marked = marked r (solved_marked rules s exact before after former latter earlier later old mid new set lost.finds.ended lost.finds.found can.facts r h);
+      tells = tells_more rules s before after former latter earlier later mid new set (seen_in old.level) of_set h.tells;
+      marked = marked r (solved_marked rules s before after former latter earlier later old mid new set lost.finds.ended lost.finds.found can.facts r h);
       can = by r h;
       told = told r h.each;
     }
@@ -728,11 +728,11 @@ module _ (rules : Rules) (s : Shown) (before : Entries) (old mid : Question) (se
         marked (Ok u) all = λ i a. all i (to_set i a) (can.last.recorded i a)
         marked (Err e) all = tt
 
-        by : (r : Result Unit AllocError) → HasMarkedSolved {E = AllocError} rules s exact before after former latter earlier later mid new set r →
+        by : (r : Result Unit AllocError) → HasMarkedSolved {E = AllocError} rules s before after former latter earlier later mid new set r →
             OnOk r (IsLevelOver rules (contents s) before old → CanResolve rules s after new)
         by (Err e) h = tt
-        by (Ok u) h = λ over. can_still rules s exact before after former latter earlier later mid new set can.answerable facts_now finds_now h.tells
-            (solved_placed rules s exact before after former latter earlier later old mid new set lost.finds.ended lost.finds.found can.facts (Ok u)
+        by (Ok u) h = λ over. can_still rules s before after former latter earlier later mid new set can.answerable facts_now finds_now h.tells
+            (solved_placed rules s before after former latter earlier later old mid new set lost.finds.ended lost.finds.found can.facts (Ok u)
             (closed_now over) (still_seen h.tells) over.whole h)
 
 -- none waits for the last level: its root's value is the answer

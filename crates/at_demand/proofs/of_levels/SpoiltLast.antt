@@ -1,5 +1,5 @@
 -- The equation of the last one has a fault: where no search is under way that is the answer, else the search goes along behind it.
-use Rattle.std.proofs.Common.{◌≡◌, ℕ, ◌<◌, ◌^◌, nat_eq, Bool, List, [], ◌∷◌, reverse, Option, Some, None, inl, inr, refl, sym, ap, ◌∙◌, subst}
+use Rattle.std.proofs.Common.{◌≡◌, ℕ, ◌<◌, ◌^◌, nat_eq, List, [], ◌∷◌, reverse, Option, Some, None, inl, inr, refl, sym, ap, ◌∙◌, subst}
 use Rattle.std.specs.Prelude.{Result, Ok, Err}
 use Rattle.std.specs.declared.alloc.AllocError.{AllocError}
 use Rattle.std.specs.Map.{keys_of}
@@ -112,7 +112,7 @@ unseen_inst rules s entries q sound standing a =
     let (come, fresh, shut) = on.last in
     fresh (subst (λ (l : Level ℕ). Among l.next l.seen) (sym st.is.last) a)
 
-module _ (rules : Rules) (s : Shown) (exact : Bool) (entries : Entries) (m : Memories) (w : ℕ) (q : Question) (t : Trials) (f : Fault)
+module _ (rules : Rules) (s : Shown) (entries : Entries) (m : Memories) (w : ℕ) (q : Question) (t : Trials) (f : Fault)
     (can : CanSpoil rules s entries q t f) (small : w < 2 ^ 64) where
   standing_is : IsStanding rules s entries q
   standing_is = let turns = can.turns in let turn = turns.turns in turn.standing
@@ -125,17 +125,17 @@ module _ (rules : Rules) (s : Shown) (exact : Bool) (entries : Entries) (m : Mem
 
   -- no search is under way
   pub spoilt_plainly : q.ended.entries ≡ [] → (u : Trials) (a : Answer) → answer_view a ≡ Outcomes (Faults (fault_view f.kind) f.at) →
-      HasSpoilt {E = AllocError} rules s exact entries entries m m w w q q u f (Ok (Some a))
+      HasSpoilt {E = AllocError} rules s entries entries m m w w q q u f (Ok (Some a))
   spoilt_plainly empty u a is = record {
-    gains = gains_nothing rules s exact entries m w q q (let turns = can.turns in let turn = turns.turns in turn.answerable) small refl;
+    gains = gains_nothing rules s entries m w q q (let turns = can.turns in let turn = turns.turns in turn.answerable) small refl;
     turned = record { plainly = λ none. by_chain none; searched = λ first v stay st k. by_search first v st };
     fit = tt;
     leaves = record {
       stays = record { turns = refl; passed = refl; finds = record { whole = standing_is.whole; took = standing_is.kept } };
       last = λ i. inl refl;
       others = λ i h. inl h;
-      all = λ k spare x. subst (λ z. HasWorthyFor rules (contents s) (asked_by q) z entries) (sym is) (worthy spare x);
-      sparing = λ k spare x none. x;
+      all = λ spare x. subst (λ z. HasWorthyFor rules (contents s) (asked_by q) z entries) (sym is) (worthy spare x);
+      sparing = λ spare x none. x;
     };
     plainly = λ none. (refl, refl);
   }
@@ -175,17 +175,17 @@ module _ (rules : Rules) (s : Shown) (exact : Bool) (entries : Entries) (m : Mem
   module _ (some : q.ended.entries ≡ [] → ⊥) (mid : Question) where
     -- memory is wanting before it does
     pub spoilt_failed : mid.found.entries ≡ q.found.entries → (u : Trials) (r : Result (Option Answer) AllocError) (e : AllocError) → r ≡ Err e →
-        HasSpoilt {E = AllocError} rules s exact entries entries m m w w q mid u f r
-    spoilt_failed same u r e is = subst (λ z. HasSpoilt {E = AllocError} rules s exact entries entries m m w w q mid u f z) (sym is) (record {
-      gains = gains_nothing rules s exact entries m w q mid (let turns = can.turns in let turn = turns.turns in turn.answerable) small same;
+        HasSpoilt {E = AllocError} rules s entries entries m m w w q mid u f r
+    spoilt_failed same u r e is = subst (λ z. HasSpoilt {E = AllocError} rules s entries entries m m w w q mid u f z) (sym is) (record {
+      gains = gains_nothing rules s entries m w q mid (let turns = can.turns in let turn = turns.turns in turn.answerable) small same;
       turned = record { plainly = λ none. tt; searched = λ first v stay st k. tt };
       fit = tt;
       leaves = record {
         stays = tt;
         last = λ i. inl refl;
         others = λ i h. inl h;
-        all = λ k spare x. tt;
-        sparing = λ k spare x. tt;
+        all = λ spare x. tt;
+        sparing = λ spare x. tt;
       };
       plainly = λ none. absurd (some none);
     })
@@ -203,18 +203,18 @@ module _ (rules : Rules) (s : Shown) (exact : Bool) (entries : Entries) (m : Mem
       demands j reaches = can.followed j (inl reaches)
 
       pub can_along : CanGoAlong rules s entries mid t
-      can_along = can_along_behind rules s exact entries m w q t can.turns can.none small off mid
+      can_along = can_along_behind rules s entries m w q t can.turns can.none small off mid
           (ending.Spoilt f) h can.ends no_form demands
 
       pub spoilt_along : (after : Entries) (n : Memories) (x : ℕ) (new : Question) (u : Trials) (r : Result (Option Answer) AllocError) →
-          HasGoneAlong {E = AllocError} rules s exact entries after m n w x mid new u r → HasSpoilt {E = AllocError} rules s exact entries after m n w x q new u f r
+          HasGoneAlong {E = AllocError} rules s entries after m n w x mid new u r → HasSpoilt {E = AllocError} rules s entries after m n w x q new u f r
       spoilt_along after n x new u r g = record {
-        gains = gains_behind rules s exact entries m w q t can.turns can.none small off mid
+        gains = gains_behind rules s entries m w q t can.turns can.none small off mid
             (ending.Spoilt f) h can.ends no_form demands after n x new u r g;
-        turned = turns_behind rules s exact entries m w q t can.turns can.none small off mid
+        turned = turns_behind rules s entries m w q t can.turns can.none small off mid
             (ending.Spoilt f) h can.ends no_form demands after n x new u r g;
         fit = g.fit;
-        leaves = leaves_behind rules s exact entries m w q t can.turns can.none small off mid
+        leaves = leaves_behind rules s entries m w q t can.turns can.none small off mid
             (ending.Spoilt f) h can.ends no_form demands after n x new u r g;
         plainly = λ none. absurd (some none);
       }

@@ -1,5 +1,5 @@
 -- What an instance is told where its evaluation in one go has come to its value, and what came to what is kept for it.
-use Rattle.std.proofs.Common.{◌≡◌, ℕ, Bool, false, List, [], ◌++◌, drop, length, take, ◌+◌, Option, None, Some, Result, Ok, Err, IfOk, OnOk, refl, ap, sym, ◌∙◌, subst}
+use Rattle.std.proofs.Common.{◌≡◌, ℕ, false, List, [], ◌++◌, drop, length, take, ◌+◌, Option, None, Some, Result, Ok, Err, IfOk, OnOk, refl, ap, sym, ◌∙◌, subst}
 use Rattle.std.proofs.Math.Seq.{take-append_seam, drop-append_seam}
 use Rattle.std.proofs.lemmas.List.{length-append}
 use Rattle.at_model.specs.Run.{Value, Instance, Location}
@@ -22,11 +22,11 @@ use Rattle.at_demand.proofs.There.{led_there}
 use Rattle.at_demand.proofs.of_nesting.InnerGains.{leads_next, told_inner}
 use Rattle.at_demand.proofs.of_nesting.Remembered.{ground_by}
 
-module _ (rules : Rules) (s : Shown) (exact : Bool) where
+module _ (rules : Rules) (s : Shown) where
   -- what came for the evaluation of an instance came for the instance
   pub gains_evaluated : IsIdle s → (i : Instance ℕ) (old new : Held) → start_of rules i.attribute ≡ None →
-      HasGained rules s exact (equations rules i) old new →
-      Gains rules s exact i old.entries new.entries old.found new.found old.work new.work
+      HasGained rules s (equations rules i) old new →
+      Gains rules s i old.entries new.entries old.found new.found old.work new.work
   gains_evaluated idle i old new own h = record {
     worthy = record {
       stays = h.keeps;
@@ -46,7 +46,7 @@ module _ (rules : Rules) (s : Shown) (exact : Bool) where
 
   -- and so did what can be kept again
   pub traced_evaluated : IsIdle s → (i : Instance ℕ) (old new : Held) → start_of rules i.attribute ≡ None →
-      HasGained rules s exact (equations rules i) old new → StayJustified rules s i old.memories new.memories
+      HasGained rules s (equations rules i) old new → StayJustified rules s i old.memories new.memories
   traced_evaluated idle i old new own h = record {
     justified = h.right.justified;
     there = λ there all. h.there (λ m d. led_there rules s idle i m there (leads_next rules (contents s) i m own d)) all;
@@ -54,7 +54,7 @@ module _ (rules : Rules) (s : Shown) (exact : Bool) where
 
   -- no value of an instance that comes to one itself came for its evaluation: nothing that this demands leads to the instance
   pub unkept_evaluated : (i : Instance ℕ) (v : Value ℕ) (old new : Held) (before after : Level) →
-      start_of rules i.attribute ≡ None → HasGained rules s exact (equations rules i) old new →
+      start_of rules i.attribute ≡ None → HasGained rules s (equations rules i) old new →
       HasCome rules (contents s) new before after (equations rules i) v → IsUnkept old i → IsUnkept new i
   unkept_evaluated i v old new before after own g come none = by (kept_values new.entries i) refl
     where
@@ -73,7 +73,7 @@ module _ (rules : Rules) (s : Shown) (exact : Bool) where
           (meaning rules) (values_in new) (is_inner rules) ground i m own demanded) (stays m) worth.reached has)
 
   pub unkept_result : {E : Type 0} (r : Result ValueCode E) (i : Instance ℕ) (old new : Held) (before after : Level) →
-      start_of rules i.attribute ≡ None → HasGained rules s exact (equations rules i) old new →
+      start_of rules i.attribute ≡ None → HasGained rules s (equations rules i) old new →
       IfOk r (λ v. HasCome rules (contents s) new before after (equations rules i) (value_view v)) →
       OnOk r (IsUnkept old i → IsUnkept new i)
   unkept_result (Ok v) i old new before after own g come =

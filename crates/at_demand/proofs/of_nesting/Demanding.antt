@@ -5,9 +5,7 @@ use Rattle.at_model.specs.of_fixpoints.Formulas.{Forms}
 use Rattle.at_model.specs.of_fixpoints.Resting.{Leads}
 use Rattle.at_model.specs.of_fixpoints.Resting as led
 use Rattle.at_body.specs.Same.{same_instance}
-use Rattle.at_cache.specs.Kept.{Entries, HasPut, KeepsAll, value_at}
-use Rattle.at_cache.specs.declared.keeper.Put.{Put}
-use Rattle.at_cache.specs.declared.keeper.Put.TheVariants as put
+use Rattle.at_cache.specs.Kept.{Entries, KeepsAll, Puts, value_at}
 use Rattle.at_demand.specs.Known.{kept_values}
 use Rattle.at_demand.specs.Reasons.{AddsDemanded, DemandsOn, stays, goes}
 use Rattle.at_demand.proofs.Entered.{is_there, not_none}
@@ -47,11 +45,10 @@ module _ (look : Contents ℕ) (forms : Forms ℕ) where
       AddsDemanded look forms i (kept_values old) (kept_values new)
   demanded_same i old new same j absent some = absurd (not_none (kept_values new j) some (ap value_at (same j) ∙ absent))
 
-  pub demanded_put : (exact : Bool) (old new : Entries) (i : Instance ℕ) (o : Option (Value ℕ)) (ls : List (Location ℕ))
-      (us : List (Instance ℕ)) (p : Put) → HasPut exact old i o ls us new p →
+  pub demanded_put : (old new : Entries) (i : Instance ℕ) (o : Option (Value ℕ)) (ls : List (Location ℕ))
+      (us : List (Instance ℕ)) → Puts old i o ls us new →
       AddsDemanded look forms i (kept_values old) (kept_values new)
-  demanded_put exact old new i o ls us put.Left h j absent some = demanded_same i old new h.1 j absent some
-  demanded_put exact old new i o ls us put.Kept h j absent some = by (same_instance i j) refl
+  demanded_put old new i o ls us h j absent some = by (same_instance i j) refl
     where
       by : (b : Bool) → same_instance i j ≡ b → DemandsOn look forms i j
       by true at = subst (λ (x : Instance ℕ). DemandsOn look forms i x) (same_true i j at) (stays i)

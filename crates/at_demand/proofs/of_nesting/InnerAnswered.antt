@@ -1,6 +1,6 @@
 -- What a question is answered where an evaluation in one go came to its value, and where it gave up.
-use Rattle.std.proofs.Common.{◌≡◌, ℕ, ◌<◌, ◌^◌, Bool, [], Option, None, Some, Ok, Err, refl}
-use Rattle.std.specs.Prelude.{IfOk, IsTrue, Result}
+use Rattle.std.proofs.Common.{◌≡◌, ℕ, ◌<◌, ◌^◌, [], Option, None, Some, Ok, Err, refl}
+use Rattle.std.specs.Prelude.{IfOk, Result}
 use Rattle.std.proofs.lemmas.Result.{IfOk-weaker}
 use Rattle.at_model.specs.Run.{Contents, Instance, Value}
 use Rattle.at_model.specs.Rules.{Rules}
@@ -40,18 +40,18 @@ met_then rules look i first next last a b c j circle none kept = by (kept_values
     by None is = b c j circle is kept
     by (Some v) is = a c j circle none (is_there (kept_values next j) v is)
 
-module _ {E : Type 0} (rules : Rules) (s : Shown) (exact : Bool) (i : Instance ℕ) (r : Result Answer E) where
+module _ {E : Type 0} (rules : Rules) (s : Shown) (i : Instance ℕ) (r : Result Answer E) where
   kept_for : (x : Result Answer E) (entries : Entries) → IfOk x (λ a. Answers (contents s) (meaning rules) i (answer_view a)) →
       IfOk x (λ a. HasWorthyFor rules (contents s) i (answer_view a) entries) → IfOk x (IsKeptFor rules s i entries)
   kept_for (Ok a) entries answers all = (answers, all)
   kept_for (Err e) entries answers all = tt
 
   -- by what came, where it is right and all that is worthy is kept
-  pub answered_by : (old new : Entries) (w x : ℕ) → Gains rules s exact i old new [] [] w x →
+  pub answered_by : (old new : Entries) (w x : ℕ) → Gains rules s i old new [] [] w x →
       IfOk r (λ a. Answers (contents s) (meaning rules) i (answer_view a)) →
-      (IsTrue exact → AreSpare rules (contents s) old → IfOk r (λ a. HasWorthyFor rules (contents s) i (answer_view a) new)) →
-      (IsTrue exact → AreSpare rules (contents s) old → AddsMet rules (contents s) i old new) →
-      HasAnswered rules s exact old new w x i r
+      (AreSpare rules (contents s) old → IfOk r (λ a. HasWorthyFor rules (contents s) i (answer_view a) new)) →
+      (AreSpare rules (contents s) old → AddsMet rules (contents s) i old new) →
+      HasAnswered rules s old new w x i r
   answered_by old new w x g answers all met = record {
     answers = answers;
     worthy = g.worthy;
@@ -59,44 +59,44 @@ module _ {E : Type 0} (rules : Rules) (s : Shown) (exact : Bool) (i : Instance �
     spare = λ whole. g.spare;
     all = all;
     counts = g.counts;
-    work = λ k spare. IfOk-weaker r _ _ (λ a h. work_is rules (contents s) i (answer_view a) old new w x (g.counts k) g.worthy (met k spare) h.0 h.1)
-        (kept_for r new answers (all k spare));
+    work = λ spare. IfOk-weaker r _ _ (λ a h. work_is rules (contents s) i (answer_view a) old new w x g.counts g.worthy (met spare) h.0 h.1)
+        (kept_for r new answers (all spare));
     right = g.stays;
     plain = g.known.plain;
   }
 
   -- behind what came while an evaluation in one go gave up
-  pub answered_after : (old mid new : Entries) (w x y : ℕ) → Gains rules s exact i old mid [] [] w x →
+  pub answered_after : (old mid new : Entries) (w x y : ℕ) → Gains rules s i old mid [] [] w x →
       (AreSpare rules (contents s) old → AddsMet rules (contents s) i old mid) →
-      HasAnswered rules s exact mid new x y i r → HasAnswered rules s exact old new w y i r
+      HasAnswered rules s mid new x y i r → HasAnswered rules s old new w y i r
   answered_after old mid new w x y g met h =
       let worthy : AddsWorthy rules (contents s) i old new = worthy_then rules (contents s) i old mid new g.worthy
       h.worthy in
-      let counts = λ (k : IsTrue exact). counts_more old mid new w x y (g.counts k) (h.counts k) in
-      let all_met : IsTrue exact → AreSpare rules (contents s) old → AddsMet rules (contents s) i old new =
-      λ k spare. met_then rules (contents s) i old mid new (met spare) (h.met k (g.spare k spare)) in
+      let counts = counts_more old mid new w x y g.counts h.counts in
+      let all_met : AreSpare rules (contents s) old → AddsMet rules (contents s) i old new =
+      λ spare. met_then rules (contents s) i old mid new (met spare) (h.met (g.spare spare)) in
       record {
         answers = h.answers;
         worthy = worthy;
         met = all_met;
-        spare = λ whole k spare. h.spare whole k (g.spare k spare);
-        all = λ k spare. h.all k (g.spare k spare);
+        spare = λ whole spare. h.spare whole (g.spare spare);
+        all = λ spare. h.all (g.spare spare);
         counts = counts;
-        work = λ k spare. IfOk-weaker r _ _ (λ a h. work_is rules (contents s) i (answer_view a) old new w y (counts k) worthy (all_met k spare) h.0 h.1)
-            (kept_for r new h.answers (h.all k (g.spare k spare)));
+        work = λ spare. IfOk-weaker r _ _ (λ a h. work_is rules (contents s) i (answer_view a) old new w y counts worthy (all_met spare) h.0 h.1)
+            (kept_for r new h.answers (h.all (g.spare spare)));
         right = λ there right. h.right there (g.stays there right);
         plain = h.plain;
       }
 
 -- a kept value is the answer, and nothing comes
-pub answered_kept : {E : Type 0} (rules : Rules) (s : Shown) (exact : Bool) (i : Instance ℕ) (entries : Entries) (w :
+pub answered_kept : {E : Type 0} (rules : Rules) (s : Shown) (i : Instance ℕ) (entries : Entries) (w :
     ℕ) (v : ValueCode) → w < 2 ^ 64 → AreCircularWell rules →
     AreRightValues (contents s) (meaning rules) (kept_values entries) →
     ArePlain rules entries →
-    kept_values entries i ≡ Some (value_view v) → HasAnswered {E = E} rules s exact entries entries w w i (Ok
+    kept_values entries i ≡ Some (value_view v) → HasAnswered {E = E} rules s entries entries w w i (Ok
     (answer.Value v))
-answered_kept {E} rules s exact i entries w v few circular right plain is =
-    answered_by rules s exact i (Ok (answer.Value v)) entries entries w w (gains_none rules s exact i entries [] w few
+answered_kept {E} rules s i entries w v few circular right plain is =
+    answered_by rules s i (Ok (answer.Value v)) entries entries w w (gains_none rules s i entries [] w few
     (known_none rules (contents s) entries circular right plain)) (right i (value_view v) is)
-    (λ k spare. asked_kept rules (contents s) i entries (is_there (kept_values entries i) (value_view v) is) spare.deep)
-    (λ k spare. met_none rules (contents s) i entries)
+    (λ spare. asked_kept rules (contents s) i entries (is_there (kept_values entries i) (value_view v) is) spare.deep)
+    (λ spare. met_none rules (contents s) i entries)

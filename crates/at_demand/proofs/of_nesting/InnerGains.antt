@@ -1,6 +1,6 @@
 -- What comes to what is kept while an instance is evaluated in one go.
 use Rattle.std.proofs.Common.{◌≡◌, ℕ, zero, suc, ◌^◌, ◌<◌, Bool, true, false, not, List, [], ◌∷◌, ◌++◌, Option, Some, None, inl, inr, refl, sym, ap, ◌∙◌, subst, append-nil, arith, if◌then◌else◌, true≢false}
-use Rattle.std.specs.Prelude.{Contains, IsSome, IsTrue}
+use Rattle.std.specs.Prelude.{Contains, IsSome}
 use Rattle.std.proofs.lemmas.List.Elements.{Contains-append_cases, Contains-push_cases}
 use Rattle.at_demand.specs.declared.direct.Level.{Level}
 use Rattle.at_body.specs.Same.{same_instance}
@@ -17,15 +17,13 @@ use Rattle.at_model.specs.of_fixpoints.Resting.{Leads, stays, goes}
 use Rattle.at_model.specs.Nested.{Tells}
 use Rattle.at_model.proofs.of_nesting.Nesting.{tells_hold, evaluates_value, taken_known, led}
 use Rattle.at_store.specs.Shown.{Shown, IsIdle, contents}
-use Rattle.at_cache.specs.Kept.{Kept, Entries, HasPut, KeepsAll, Puts, value_at}
-use Rattle.at_cache.specs.declared.keeper.Put.{Put}
-use Rattle.at_cache.specs.declared.keeper.Put.TheVariants as put
+use Rattle.at_cache.specs.Kept.{Kept, Entries, KeepsAll, Puts, value_at}
 use Rattle.at_demand.specs.Known.{equations, meaning, kept_values, ArePlain, IsKept}
 use Rattle.at_demand.specs.Meant.{AreCircularWell, AreRightValues}
 use Rattle.at_demand.specs.Right.{AreRight, IsThere, IsValued}
 use Rattle.at_demand.specs.Sparing.{AddsWorthy, AreSpare, Counts, HasWorthy, IsWorthy}
 use Rattle.at_demand.specs.Inner.{AreKnown, Gains, HasTold, IsEvaluated, IsGiven, is_inner, known_by}
-use Rattle.at_demand.proofs.Counting.{counts_more, counts_none, counts_same, counts_shared}
+use Rattle.at_demand.proofs.Counting.{counts_more, counts_none, counts_shared}
 use Rattle.at_demand.proofs.Entered.{entered_on, is_there, not_none, put_stays}
 use Rattle.at_demand.proofs.Gaining.{worthy_none}
 use Rattle.at_demand.proofs.of_nesting.Ground.{comes_own}
@@ -84,36 +82,36 @@ worthy_then rules look i old mid new g h = record {
     by j none some None is = h.worthy j is some
     by j none some (Some v) is = g.worthy j none (is_there (kept_values mid j) v is)
 
-module _ (rules : Rules) (s : Shown) (exact : Bool) where
+module _ (rules : Rules) (s : Shown) where
   -- nothing comes
   pub gains_none : (i : Instance ℕ) (entries : Entries) (found : Found) (w : ℕ) → w < 2 ^ 64 →
-      AreKnown rules (contents s) entries found → Gains rules s exact i entries entries found found w w
+      AreKnown rules (contents s) entries found → Gains rules s i entries entries found found w w
   gains_none i entries found w few known = record {
     worthy = worthy_none rules (contents s) i entries;
     known = known;
     still = λ j v e. e;
     stays = λ there all. all;
-    spare = λ is all. all;
-    counts = λ is. counts_none entries w few;
+    spare = λ all. all;
+    counts = counts_none entries w few;
   }
 
   -- first one part comes, and then another one
   pub gains_then : (i : Instance ℕ) (old mid new : Entries) (f g h : Found) (w x y : ℕ) →
-      Gains rules s exact i old mid f g w x → Gains rules s exact i mid new g h x y →
-      Gains rules s exact i old new f h w y
+      Gains rules s i old mid f g w x → Gains rules s i mid new g h x y →
+      Gains rules s i old new f h w y
   gains_then i old mid new f g h w x y a b = record {
     worthy = worthy_then rules (contents s) i old mid new a.worthy b.worthy;
     known = b.known;
     still = λ j v e. b.still j v (a.still j v e);
     stays = λ there all. b.stays there (a.stays there all);
-    spare = λ is all. b.spare is (a.spare is all);
-    counts = λ is. counts_more old mid new w x y (a.counts is) (b.counts is);
+    spare = λ all. b.spare (a.spare all);
+    counts = counts_more old mid new w x y a.counts b.counts;
   }
 
   -- what comes for an instance comes for one that leads to it
   pub gains_up : IsIdle s → (i j : Instance ℕ) (old new : Entries) (f g : Found) (w x : ℕ) →
-      Leads (contents s) (meaning rules) i j → Gains rules s exact j old new f g w x →
-      Gains rules s exact i old new f g w x
+      Leads (contents s) (meaning rules) i j → Gains rules s j old new f g w x →
+      Gains rules s i old new f g w x
   gains_up idle i j old new f g w x leads a = record {
     worthy = record {
       stays = a.worthy.stays;
@@ -134,7 +132,7 @@ module _ (rules : Rules) (s : Shown) (exact : Bool) where
 
   -- the entries are the same
   pub gains_same : (i : Instance ℕ) (old new : Entries) (f : Found) (w x : ℕ) → KeepsAll old new →
-      AreKnown rules (contents s) old f → (IsTrue exact → Counts old new w x) → Gains rules s exact i old new f f w x
+      AreKnown rules (contents s) old f → Counts old new w x → Gains rules s i old new f f w x
   gains_same i old new f w x same known counts =
       let is : new ≡ old = λ k j. same j k in
       record {
@@ -146,7 +144,7 @@ module _ (rules : Rules) (s : Shown) (exact : Bool) where
         known = subst (λ (z : Entries). AreKnown rules (contents s) z f) (sym is) known;
         still = λ j v e. e;
         stays = λ there all. subst (AreRight rules s) (sym is) all;
-        spare = λ k all. subst (AreSpare rules (contents s)) (sym is) all;
+        spare = λ all. subst (AreSpare rules (contents s)) (sym is) all;
         counts = counts;
       }
 
@@ -163,20 +161,20 @@ module _ (rules : Rules) (s : Shown) (exact : Bool) where
     valued = evaluates_value (contents s) (equations rules) (meaning rules) (known_by old f) (is_inner rules)
         (ground_by rules (contents s) old f known) come.0 i v ls us own come.1
 
-    module _ (o : Option (Value ℕ)) (fit : IsFit rules i v o) (absent : old i ≡ None) (w x : ℕ) (counts : IsTrue exact
-        → Counts old new w x) where
-      gains_put : Puts exact old i o ls us new → Gains rules s exact i old new f f w x
+    module _ (o : Option (Value ℕ)) (fit : IsFit rules i v o) (absent : old i ≡ None) (w x : ℕ)
+        (counts : Counts old new w x) where
+      pub gains_put : Puts old i o ls us new → Gains rules s i old new f f w x
       gains_put puts =
           let there = stands_by rules (contents s) old f known in
           let n = come.0 in let ev = come.1 in let ground = ground_by rules (contents s) old f known in
-          let stays = stays_now rules (contents s) exact old new (known_by old f) n i v o ls us ground own there fit absent
+          let stays = stays_now rules (contents s) old new (known_by old f) n i v o ls us ground own there fit absent
           ev puts in
-          let right' = right_now rules (contents s) exact old new (known_by old f) n i v o ls us ground own there fit absent
+          let right' = right_now rules (contents s) old new (known_by old f) n i v o ls us ground own there fit absent
           ev puts known.right in
-          let plain' = plain_now rules (contents s) exact old new (known_by old f) n i v o ls us ground own there fit absent
+          let plain' = plain_now rules (contents s) old new (known_by old f) n i v o ls us ground own there fit absent
           ev puts known.plain in
           record {
-            worthy = worthy_now rules (contents s) exact old new (known_by old f) n i v o ls us ground own there fit absent
+            worthy = worthy_now rules (contents s) old new (known_by old f) n i v o ls us ground own there fit absent
                 ev puts;
             known = record {
               circular = known.circular;
@@ -190,40 +188,35 @@ module _ (rules : Rules) (s : Shown) (exact : Bool) where
             still = λ j y e. e;
             stays = λ is all. record {
               values = right';
-              valued = all_now rules (contents s) exact old new (known_by old f) n i v o ls us ground own there fit absent
+              valued = all_now rules (contents s) old new (known_by old f) n i v o ls us ground own there fit absent
                   ev puts (IsValued rules s) all.valued (v, valued);
-              there = all_now rules (contents s) exact old new (known_by old f) n i v o ls us ground own there fit absent ev
+              there = all_now rules (contents s) old new (known_by old f) n i v o ls us ground own there fit absent ev
                   puts (IsThere s) all.there is;
-              covers = covers_now rules (contents s) exact old new (known_by old f) n i v o ls us ground own there fit
+              covers = covers_now rules (contents s) old new (known_by old f) n i v o ls us ground own there fit
                   absent ev puts all.covers;
               plain = plain';
             };
-            spare = spare_now rules (contents s) exact old new (known_by old f) n i v o ls us ground own there fit absent ev
+            spare = spare_now rules (contents s) old new (known_by old f) n i v o ls us ground own there fit absent ev
                 puts;
             counts = counts;
           }
 
-      pub gains_put_so : (p : Put) → HasPut exact old i o ls us new p → Gains rules s exact i old new f f w x
-      gains_put_so put.Kept h = gains_put h
-      gains_put_so put.Left h = gains_same i old new f w x h.1 known counts
-
   -- one without a value changes no number
   pub counts_shared_so : (old new : Entries) (i : Instance ℕ) (ls : List (Location ℕ)) (us : List (Instance ℕ)) (w : ℕ)
-      → w < 2 ^ 64 → old i ≡ None → (p : Put) → HasPut exact old i None ls us new p → Counts old new w w
-  counts_shared_so old new i ls us w few absent put.Kept h = counts_shared old new w w refl few (λ j some. put_stays
-      exact old new i h.entry absent h.adds j some) (λ j. by j (same_instance i j) refl (h.adds j))
+      → w < 2 ^ 64 → old i ≡ None → Puts old i None ls us new → Counts old new w w
+  counts_shared_so old new i ls us w few absent h = counts_shared old new w w refl few (λ j some. put_stays
+      old new i h.entry absent h.adds j some) (λ j. by j (same_instance i j) refl (h.adds j))
     where
       by : (j : Instance ℕ) (b : Bool) → same_instance i j ≡ b → new j ≡ (if b then Some h.entry else old j) →
           kept_values new j ≡ kept_values old j
       by j true is e = ap value_at e ∙ h.value ∙ sym (ap value_at (subst (λ x. old x ≡ None) (same_true i j is) absent))
       by j false is e = ap value_at e
-  counts_shared_so old new i ls us w few absent put.Left h = counts_same old new w few h.1
 
   -- a value is remembered
   pub gains_more : (i : Instance ℕ) (old new : Entries) (f g h : Found) (w x : ℕ) (c : ValueCode) →
-      Gains rules s exact i old new f g w x → h ≡ insert_entry same_instance g i c →
+      Gains rules s i old new f g w x → h ≡ insert_entry same_instance g i c →
       HasValue (contents s) (meaning rules) i (value_view c) → IsSome (new i) → is_lazy rules i.attribute ≡ false →
-      Gains rules s exact i old new f h w x
+      Gains rules s i old new f h w x
   gains_more i old new f g h w x c a put has some lazy = record {
     worthy = a.worthy;
     known = known_more rules (contents s) new g a.known h i c put has some lazy;
@@ -235,7 +228,7 @@ module _ (rules : Rules) (s : Shown) (exact : Bool) where
 
   -- and known then
   pub more_known : (i : Instance ℕ) (old new : Entries) (f g h : Found) (w x : ℕ) (c : ValueCode) →
-      Gains rules s exact i old new f g w x → h ≡ insert_entry same_instance g i c →
+      Gains rules s i old new f g w x → h ≡ insert_entry same_instance g i c →
       HasValue (contents s) (meaning rules) i (value_view c) → IsSome (new i) → is_lazy rules i.attribute ≡ false →
       known_by new h i ≡ Some (value_view c)
   more_known i old new f g h w x c a put has some lazy =
@@ -244,16 +237,16 @@ module _ (rules : Rules) (s : Shown) (exact : Bool) where
 
   -- where the same is remembered, and counted
   pub gains_as : (i : Instance ℕ) (old new : Entries) (f g h : Found) (w x y : ℕ) → h ≡ g → y ≡ x →
-      Gains rules s exact i old new f g w x → Gains rules s exact i old new f h w y
-  gains_as i old new f g h w x y e d a = subst (λ (z : Found). Gains rules s exact i old new f z w y) (sym e) (subst (λ
-      (z : ℕ). Gains rules s exact i old new f g w z) (sym d) a)
+      Gains rules s i old new f g w x → Gains rules s i old new f h w y
+  gains_as i old new f g h w x y e d a = subst (λ (z : Found). Gains rules s i old new f z w y) (sym e) (subst (λ
+      (z : ℕ). Gains rules s i old new f g w z) (sym d) a)
 
   -- and from the same instance, which was remembered and counted so before
   pub gains_from : (i j : Instance ℕ) (old new : Entries) (f g h : Found) (w x y : ℕ) → j ≡ i → g ≡ f → x ≡ w →
-      Gains rules s exact j old new g h x y → Gains rules s exact i old new f h w y
+      Gains rules s j old new g h x y → Gains rules s i old new f h w y
   gains_from i j old new f g h w x y is e d a =
-      subst (λ (z : Instance ℕ). Gains rules s exact z old new f h w y) is (subst (λ (z : Found). Gains rules s exact j
-      old new z h w y) e (subst (λ (z : ℕ). Gains rules s exact j old new g h z y) d a))
+      subst (λ (z : Instance ℕ). Gains rules s z old new f h w y) is (subst (λ (z : Found). Gains rules s j
+      old new z h w y) e (subst (λ (z : ℕ). Gains rules s j old new g h z y) d a))
 
   -- what an instance was told is its value
   pub told_holds : (entries : Entries) (f : Found) (j : Instance ℕ) (v : Value ℕ) (ls : List (Location ℕ)) (us : List
@@ -314,13 +307,13 @@ module _ (rules : Rules) (look : Contents ℕ) (known : Known ℕ) (old new : Le
   }
 
 -- a value that was put so is kept
-pub put_kept : (exact : Bool) (old new : Entries) (i : Instance ℕ) (v : Value ℕ) (ls : List (Location ℕ)) (us : List
-    (Instance ℕ)) → Puts exact old i (Some v) ls us new → kept_values new i ≡ Some v
-put_kept exact old new i v ls us puts = ap value_at (puts.adds i ∙ ap (λ (b : Bool). if b then Some puts.entry else old
+pub put_kept : (old new : Entries) (i : Instance ℕ) (v : Value ℕ) (ls : List (Location ℕ)) (us : List
+    (Instance ℕ)) → Puts old i (Some v) ls us new → kept_values new i ≡ Some v
+put_kept old new i v ls us puts = ap value_at (puts.adds i ∙ ap (λ (b : Bool). if b then Some puts.entry else old
     i) (same_refl i)) ∙ puts.value
 
 -- an entry that was put so is there
-pub put_there : (exact : Bool) (old new : Entries) (i : Instance ℕ) (o : Option (Value ℕ)) (ls : List (Location ℕ)) (us
-    : List (Instance ℕ)) → Puts exact old i o ls us new → IsSome (new i)
-put_there exact old new i o ls us puts = subst (λ (x : Option Kept). IsSome x) (sym (puts.adds i ∙ ap (λ (b : Bool). if
+pub put_there : (old new : Entries) (i : Instance ℕ) (o : Option (Value ℕ)) (ls : List (Location ℕ)) (us
+    : List (Instance ℕ)) → Puts old i o ls us new → IsSome (new i)
+put_there old new i o ls us puts = subst (λ (x : Option Kept). IsSome x) (sym (puts.adds i ∙ ap (λ (b : Bool). if
     b then Some puts.entry else old i) (same_refl i))) refl

@@ -1,7 +1,7 @@
 -- A value that was evaluated with inner ones, and is put for all that was looked at and taken, leaves what is kept
 -- right and spare.
 use Rattle.std.proofs.Common.{◌≡◌, ◌⊎◌, ◌||◌, ℕ, Bool, true, false, not, List, Option, Some, None, inl, inr, refl, sym, ap, ◌∙◌, subst, if◌then◌else◌, true≢false}
-use Rattle.std.specs.Prelude.{IsSome, IsTrue}
+use Rattle.std.specs.Prelude.{IsSome}
 use Rattle.std.proofs.lemmas.Option.{none-some, same_Some}
 use Rattle.at_model.specs.Run.{Value, Instance, Location, Contents, Known}
 use Rattle.at_model.specs.Rules.{Rules, is_lazy, start_of}
@@ -42,13 +42,13 @@ abbrev pub IsFit : Rules → Instance ℕ → Value ℕ → Option (Value ℕ) �
 IsFit rules i v o = ((o ≡ Some v) × (is_lazy rules i.attribute ≡ true)) ⊎ ((o ≡ None) × (is_lazy rules i.attribute ≡
     false))
 
-module _ (rules : Rules) (look : Contents ℕ) (exact : Bool) (old new : Entries) (known : Known ℕ) (n : ℕ) (i : Instance
+module _ (rules : Rules) (look : Contents ℕ) (old new : Entries) (known : Known ℕ) (n : ℕ) (i : Instance
     ℕ) (v : Value ℕ) (o : Option (Value ℕ))
     (ls : List (Location ℕ)) (us : List (Instance ℕ)) (ground : IsGround look (equations rules) (meaning rules) known (is_inner rules))
     (own : start_of rules i.attribute ≡ None) (there : (u : Instance
     ℕ) (w : Value ℕ) → known u ≡ Some w → IsSome (old u))
     (fit : IsFit rules i v o) (absent : old i ≡ None) (ev : Evaluates look (equations rules) known (is_inner rules) n
-    (equations rules i) v ls us) (puts : Puts exact old i o ls us new) where
+    (equations rules i) v ls us) (puts : Puts old i o ls us new) where
   pub holds : HasValue look (meaning rules) i v
   holds = evaluates_value look (equations rules) (meaning rules) known (is_inner rules) ground n i v ls us own ev
 
@@ -137,15 +137,15 @@ module _ (rules : Rules) (look : Contents ℕ) (exact : Bool) (old new : Entries
       by u None is c = absurd (true≢false (sym c))
       by u (Some k) is c = only u k is l c
 
-  pub spare_now : IsTrue exact → AreSpare rules look old → AreSpare rules look new
-  spare_now ex spare = record { only = only_now; lazy = lazy_now; deep = deep_now }
+  pub spare_now : AreSpare rules look old → AreSpare rules look new
+  spare_now spare = record { only = only_now; lazy = lazy_now; deep = deep_now }
     where
       only_now : AreOnly rules look new
       only_now m k is l h = elim (cases m) [
         | inl same ↦ spare.only m k (sym same ∙ is) l h
         | inr p ↦
             let same : puts.entry ≡ k = same_Some puts.entry k (sym p.1 ∙ is) in
-            subst (Supports look (meaning rules) l) p.0 (covered_supports spare.only l (puts.only ex l (ap (λ (x :
+            subst (Supports look (meaning rules) l) p.0 (covered_supports spare.only l (puts.only l (ap (λ (x :
             Kept). x.covers l) same ∙ h)))
       ]
 

@@ -28,7 +28,7 @@ pub looked_told : (rules : Rules) (s : Shown) (h : Held) (old new : Level) (i : 
     HasLooked (contents s) old.reads new.reads (equations rules i) v →
     HasTold rules (contents s) (values_in h) old new i v
 looked_told rules s h old new i v lazy uses l =
-    inner_told rules s false h old new i v (come_looked rules s h old new (equations rules i) v uses l) lazy
+    inner_told rules s h old new i v (come_looked rules s h old new (equations rules i) v uses l) lazy
 
 -- within a fold, at an element of it
 pub asks_inside : (rules : Rules) (p q : Place) (b : Body) (n : ℕ) (o : Option ℕ) → q ≡ inside p n →

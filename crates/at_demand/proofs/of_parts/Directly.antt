@@ -1,5 +1,5 @@
 -- Evaluations in one go, one part behind the other: what they come to, and what comes to what is held meanwhile.
-use Rattle.std.proofs.Common.{◌≡◌, ◌<◌, ◌^◌, ℕ, ◌+◌, Bool, List, [], ◌++◌, Option, Some, None, Result, Ok, Err, IfOk, inl, refl, sym, ap, ◌∙◌, subst, append_assoc, append-nil, arith}
+use Rattle.std.proofs.Common.{◌≡◌, ◌<◌, ◌^◌, ℕ, ◌+◌, List, [], ◌++◌, Option, Some, None, Result, Ok, Err, IfOk, inl, refl, sym, ap, ◌∙◌, subst, append_assoc, append-nil, arith}
 use Rattle.at_model.specs.Run.{Value, Instance, Location, Run, Gives, ◌>>=◌}
 use Rattle.at_model.specs.Follow.{follow}
 use Rattle.at_model.specs.of_fixpoints.Fixpoints.{HasValue}
@@ -133,13 +133,13 @@ module _ (rules : Rules) (s : Shown) where
     uses = t.uses ∙ ap (λ z. old.uses.items ++ z) (sym (append-nil t.takes));
   }
 
-module _ (rules : Rules) (s : Shown) (exact : Bool) where
-  pub grows : {A : Type 0} (r : Run ℕ A) (old new : Held) → HasGained rules s exact r old new → Grows rules s old new
+module _ (rules : Rules) (s : Shown) where
+  pub grows : {A : Type 0} (r : Run ℕ A) (old new : Held) → HasGained rules s r old new → Grows rules s old new
   grows r old new g = record { keeps = g.keeps; still = g.still; right = g.right }
 
   -- nothing came
   pub nothing_gained : {A : Type 0} (r : Run ℕ A) (h : Held) → h.work < 2 ^ 64 → IsHeld rules (contents s) h →
-      HasGained rules s exact r h h
+      HasGained rules s r h h
   nothing_gained r h few is = record {
     keeps = λ j some. refl;
     still = λ j v e. e;
@@ -148,15 +148,15 @@ module _ (rules : Rules) (s : Shown) (exact : Bool) where
     right = is;
     stays = λ all a. a;
     there = λ all a. a;
-    spare = λ e a. a;
-    counts = λ e. counts_none h.entries h.work few;
+    spare = λ a. a;
+    counts = counts_none h.entries h.work few;
     makes = makes_none h.entries h.memories h.made;
   }
 
   -- what an evaluation demands another one demands, too
   gains_wider : {A B : Type 0} (r : Run ℕ A) (q : Run ℕ B) (old new : Held) →
       ((m : Instance ℕ) → Demanded rules (contents s) r m → Demanded rules (contents s) q m) →
-      HasGained rules s exact r old new → HasGained rules s exact q old new
+      HasGained rules s r old new → HasGained rules s q old new
   gains_wider r q old new wider g = record {
     keeps = g.keeps;
     still = g.still;
@@ -171,22 +171,22 @@ module _ (rules : Rules) (s : Shown) (exact : Bool) where
   }
 
   -- of the first part alone
-  pub gains_within : {A B : Type 0} (r : Run ℕ A) (k : A → Run ℕ B) (old new : Held) → HasGained rules s exact r old new
-      → HasGained rules s exact (r >>= k) old new
+  pub gains_within : {A B : Type 0} (r : Run ℕ A) (k : A → Run ℕ B) (old new : Held) → HasGained rules s r old new
+      → HasGained rules s (r >>= k) old new
   gains_within r k old new g = gains_wider r (r >>= k) old new (λ m d. reaches_within (contents s) (meaning rules) r k m
       d) g
 
   -- behind the beginning
   pub gains_begun : {A : Type 0} (h k : Held) (old new : List (Location ℕ)) (r q : Run ℕ A) →
-      HasBegun (contents s) old new r q → HasGained rules s exact q h k → HasGained rules s exact r h k
+      HasBegun (contents s) old new r q → HasGained rules s q h k → HasGained rules s r h k
   gains_begun h k old new r q b g = gains_wider q r h k (λ m d. reaches_past (contents s) (HasValue (contents s)
       (meaning rules)) r b.looks q m b.goes d) g
 
   -- of both parts
   pub gains_then : {A B : Type 0} (r : Run ℕ A) (k : A → Run ℕ B) (a : A) (q : Run ℕ B) (first mid last : Held)
-      (old between : Level) → k a ≡ q → HasGained rules s exact r first mid →
-      HasCome rules (contents s) mid old between r a → HasGained rules s exact q mid last →
-      HasGained rules s exact (r >>= k) first last
+      (old between : Level) → k a ≡ q → HasGained rules s r first mid →
+      HasCome rules (contents s) mid old between r a → HasGained rules s q mid last →
+      HasGained rules s (r >>= k) first last
   gains_then {A} {B} r k a q first mid last old between is g p h = record {
     keeps = λ j some. h.keeps j (entered_on first.entries mid.entries g.keeps j some) ∙ g.keeps j some;
     still = λ j v e. h.still j v (g.still j v e);
@@ -195,9 +195,8 @@ module _ (rules : Rules) (s : Shown) (exact : Bool) where
     right = h.right;
     stays = λ all a. h.stays (λ m d. all m (behind m d)) (g.stays (λ m d. all m (within m d)) a);
     there = λ all a. h.there (λ m d. all m (behind m d)) (g.there (λ m d. all m (within m d)) a);
-    spare = λ e a. h.spare e (g.spare e a);
-    counts = λ e. counts_more first.entries mid.entries last.entries first.work mid.work last.work (g.counts e)
-        (h.counts e);
+    spare = λ a. h.spare (g.spare a);
+    counts = counts_more first.entries mid.entries last.entries first.work mid.work last.work g.counts h.counts;
     makes = makes_then first.entries mid.entries last.entries first.memories mid.memories last.memories first.made mid.made
         last.made g.keeps h.keeps g.makes h.makes;
   }
@@ -226,10 +225,10 @@ module _ (rules : Rules) (s : Shown) (exact : Bool) where
 
   -- what came for an instance came for its demand
   pub gains_demand : (i : Instance ℕ) (old new : Held) →
-      Gains rules s exact i old.entries new.entries old.found new.found old.work new.work →
+      Gains rules s i old.entries new.entries old.found new.found old.work new.work →
       AddsDemanded (contents s) (meaning rules) i (kept_values old.entries) (kept_values new.entries) →
       StayJustified rules s i old.memories new.memories →
-      Makes old.entries new.entries old.memories new.memories old.made new.made → HasGained rules s exact (demand i) old new
+      Makes old.entries new.entries old.memories new.memories old.made new.made → HasGained rules s (demand i) old new
   gains_demand i old new g a t m = record {
     keeps = g.worthy.stays;
     still = g.still;
@@ -247,7 +246,7 @@ module _ (rules : Rules) (s : Shown) (exact : Bool) where
   pub at_once_some : {E : Type 0} (r : Run ℕ (Value ℕ)) (h : Held) (old : Level) (reads : List (Location ℕ))
       (o : Option ValueCode) (v : ValueCode) → h.work < 2 ^ 64 → IsHeld rules (contents s) h →
       MayHaveLooked (contents s) old.reads reads r o → o ≡ Some v →
-      EvaluatesTo {E = E} rules s exact r value_view h h old (record { reads = reads; uses = old.uses }) (Ok v)
+      EvaluatesTo {E = E} rules s r value_view h h old (record { reads = reads; uses = old.uses }) (Ok v)
   at_once_some r h old reads o v few is looked some = record {
     come = come_looked rules s h old (record { reads = reads; uses = old.uses }) r (value_view v) refl
         (subst (λ o. MayHaveLooked (contents s) old.reads reads r o) some looked);
@@ -257,9 +256,9 @@ module _ (rules : Rules) (s : Shown) (exact : Bool) where
   pub at_once_none : {E : Type 0} (r : Run ℕ (Value ℕ)) (first last : Held) (old : Level) (reads : List (Location ℕ))
       (o : Option ValueCode) → MayHaveLooked (contents s) old.reads reads r o → o ≡ None → (new : Level)
       (x : Result ValueCode E) →
-      EvaluatesTo rules s exact r value_view first last (record { reads = reads; uses = old.uses }) new x →
-      EvaluatesTo rules s exact r value_view first last old new x
+      EvaluatesTo rules s r value_view first last (record { reads = reads; uses = old.uses }) new x →
+      EvaluatesTo rules s r value_view first last old new x
   at_once_none r first last old reads o looked none new x ends =
-      subst (λ (ls : List (Location ℕ)). EvaluatesTo rules s exact r value_view first last
+      subst (λ (ls : List (Location ℕ)). EvaluatesTo rules s r value_view first last
       (record { reads = ls; uses = old.uses }) new x) (subst (λ o. MayHaveLooked (contents s) old.reads reads r o) none
       looked) ends

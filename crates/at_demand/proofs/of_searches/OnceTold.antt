@@ -1,5 +1,5 @@
 -- What is told once it is known: between two tries more may be known, of instances that levels under way have seen.
-use Rattle.std.proofs.Common.{◌≡◌, ◌⊎◌, ℕ, ◌+◌, ◌*◌, ◌≤◌, length, Bool, List, [], ◌∷◌, ◌++◌, Option, Some, None, inl, inr, refl, sym, ap, ◌∙◌, subst}
+use Rattle.std.proofs.Common.{◌≡◌, ◌⊎◌, ℕ, ◌+◌, ◌*◌, ◌≤◌, length, List, [], ◌∷◌, ◌++◌, Option, Some, None, inl, inr, refl, sym, ap, ◌∙◌, subst}
 use Rattle.std.specs.Prelude.{IsSome}
 use Rattle.std.specs.Map.{keys_of}
 use Rattle.at_model.specs.Meaning.{Among, Finds, Outcome}
@@ -121,8 +121,8 @@ module _ (before after : Known ℕ) (old new : List (Instance ℕ × Ended)) (on
       ended i (e, x, g) = (e, recorded_on old new on i e x, g)
 
 -- What stood between two tries stands where more is known since, and is told: those that are told are among these.
-module _ {Whole : Type 0} (rules : Rules) (s : Shown) (exact : Bool) (before after : Entries) (former latter : Memories) (earlier later : ℕ) (old new : Question)
-    (these : List (Instance ℕ)) (t : Tells rules s exact before after former latter earlier later old new these Whole) (l : Looked ℕ)
+module _ {Whole : Type 0} (rules : Rules) (s : Shown) (before after : Entries) (former latter : Memories) (earlier later : ℕ) (old new : Question)
+    (these : List (Instance ℕ)) (t : Tells rules s before after former latter earlier later old new these Whole) (l : Looked ℕ)
     (st : StandsBetween rules s before old l) (those : List (Instance ℕ))
     (only : (i : Instance ℕ) → IsSome (known_to after new i) → IsSome (known_to before old i) ⊎ Among i those) where
   still : (i : Instance ℕ) → IsSome (known_to before old i) → IsSome (known_to after new i)

@@ -1,5 +1,5 @@
 -- A level's search looks at the next one to do, and goes on behind it, or comes to a try, to a circle or to its end.
-use Rattle.std.proofs.Common.{◌≡◌, ◌⊎◌, ℕ, ◌<◌, ◌^◌, arith, Bool, List, [], ◌∷◌, ◌++◌, Option, Some, None, inl, inr, refl, sym, ap, ◌∙◌, subst, append-nil}
+use Rattle.std.proofs.Common.{◌≡◌, ◌⊎◌, ℕ, ◌<◌, ◌^◌, arith, List, [], ◌∷◌, ◌++◌, Option, Some, None, inl, inr, refl, sym, ap, ◌∙◌, subst, append-nil}
 use Rattle.std.specs.Prelude.{IsSome, Result, Ok, Err}
 use Rattle.std.specs.declared.alloc.AllocError.{AllocError}
 use Rattle.std.specs.Map.{keys_of, lookup}
@@ -91,10 +91,10 @@ module _ (rules : Rules) (s : Shown) (entries : Entries) (old new : Question) (a
       (subst (λ f. MetFrom (contents s) (meaning rules) l.root l.seen l.todo f) (sym a.fault) st.met)
       (typed_all rules s entries old l st)
 
-  pub over_at_end : (exact : Bool) (m : Memories) (w : ℕ) → w < 2 ^ 64 → CanSearch rules s entries old → IsDoneIn old.level →
-      HasSearchedOn {E = AllocError} rules s exact entries entries m m w w old new (Ok (Some searched.Over))
-  over_at_end exact m w small can done = record {
-    gains = let st = can.stands in gains_nothing rules s exact entries m w old new st.can.answerable small a.finds.found;
+  pub over_at_end : (m : Memories) (w : ℕ) → w < 2 ^ 64 → CanSearch rules s entries old → IsDoneIn old.level →
+      HasSearchedOn {E = AllocError} rules s entries entries m m w w old new (Ok (Some searched.Over))
+  over_at_end m w small can done = record {
+    gains = let st = can.stands in gains_nothing rules s entries m w old new st.can.answerable small a.finds.found;
     waiting = a.chain.waiting;
     root = a.root;
     stays = stays_at old new a.finds.turns a.finds.passed a.chain.waiting a.root;
@@ -117,24 +117,24 @@ module _ (rules : Rules) (s : Shown) (entries : Entries) (old new : Question) (a
           (sym a.finds.found) st.can.facts.wholes
 
 -- The next one is taken off and looked at: more may be known since.
-module _ {Whole : Type 0} (rules : Rules) (s : Shown) (exact : Bool) (before after : Entries) (former latter : Memories) (earlier later : ℕ) (old mid new : Question)
+module _ {Whole : Type 0} (rules : Rules) (s : Shown) (before after : Entries) (former latter : Memories) (earlier later : ℕ) (old mid new : Question)
     (c : Instance ℕ) (n : HasNext old mid c)
-    (t : Tells rules s exact before after former latter earlier later mid new (under (all_levels mid)) Whole) (can : CanSearch rules s before old)
+    (t : Tells rules s before after former latter earlier later mid new (under (all_levels mid)) Whole) (can : CanSearch rules s before old)
     (since : (i : Instance ℕ) → IsSome (known_to after new i) → IsSome (known_to before mid i) ⊎ Among i (keys_of mid.ended.entries)) where
   -- the question with that one still to do
   abbrev with_it : Question
   with_it = record new { level = old.level }
 
-  told_with : Tells rules s exact before after former latter earlier later old with_it (under (all_levels mid)) Whole
-  told_with = tells_pending rules s exact before after former latter earlier later old mid new n.chain n.finds (under (all_levels mid)) t
+  told_with : Tells rules s before after former latter earlier later old with_it (under (all_levels mid)) Whole
+  told_with = tells_pending rules s before after former latter earlier later old mid new n.chain n.finds (under (all_levels mid)) t
 
   next_with : HasNext with_it new c
-  next_with = next_pending rules s exact before after former latter earlier later old mid new c n (under (all_levels mid)) t
+  next_with = next_pending rules s before after former latter earlier later old mid new c n (under (all_levels mid)) t
 
-  gains_with : (any : Question) → any.found.entries ≡ new.found.entries → GainsBetween rules s exact before after former latter earlier later old any Whole
+  gains_with : (any : Question) → any.found.entries ≡ new.found.entries → GainsBetween rules s before after former latter earlier later old any Whole
   gains_with =
       let st = can.stands in
-      gains_told rules s exact before after former latter earlier later old with_it (under (all_levels mid)) told_with st.can.answerable.basis.idle
+      gains_told rules s before after former latter earlier later old with_it (under (all_levels mid)) told_with st.can.answerable.basis.idle
       st.can.facts.values (held_told rules s before old can.looked st) (seen_before rules s before old mid c n)
       (λ i a. led_under rules s before old can.looked st i (seen_before rules s before old mid c n i a))
 
@@ -215,9 +215,9 @@ module _ {Whole : Type 0} (rules : Rules) (s : Shown) (exact : Bool) (before aft
 
   -- memory is wanting
   pub failed_on : (HasNoneCircular rules → Whole) → (any : Question) (e : AllocError) → KeepsRest new any →
-      HasSearchedOn {E = AllocError} rules s exact before after former latter earlier later old any (Err e)
+      HasSearchedOn {E = AllocError} rules s before after former latter earlier later old any (Err e)
   failed_on on any e rest = record {
-    gains = gains_where rules s exact before after former latter earlier later old any on (gains_with any rest.finds.found);
+    gains = gains_where rules s before after former latter earlier later old any on (gains_with any rest.finds.found);
     waiting = rest.chain.waiting ∙ waiting_now;
     root = rest.root ∙ root_now;
     stays = tt;
@@ -255,7 +255,7 @@ module _ {Whole : Type 0} (rules : Rules) (s : Shown) (exact : Bool) (before aft
     ]
 
     stands_now : StandsBetween rules s after with_it now
-    stands_now = stands_told rules s exact before after former latter earlier later old with_it (under (all_levels mid)) told_with l st those only
+    stands_now = stands_told rules s before after former latter earlier later old with_it (under (all_levels mid)) told_with l st those only
         (λ i a. elim (either_among i l.seen (under l.below) a) [
           | inl b ↦ led_met rules s before old l st i (front_among i l.seen l.todo b)
           | inr b ↦ led_below rules s before old l st i b
@@ -263,7 +263,7 @@ module _ {Whole : Type 0} (rules : Rules) (s : Shown) (exact : Bool) (before aft
         had_ended (can_before rules s after with_it new c next_with resolve)
 
     kept_now : AreKeptOrTold first after with_it now
-    kept_now = kept_or_told rules s exact before after former latter earlier later old with_it (under (all_levels mid)) told_with l st those only first k
+    kept_now = kept_or_told rules s before after former latter earlier later old with_it (under (all_levels mid)) told_with l st those only first k
 
     stay_now : KeepsEntries first after
     stay_now i some = t.stays i (entered_on first before stay i some) ∙ stay i some
@@ -342,9 +342,9 @@ module _ {Whole : Type 0} (rules : Rules) (s : Shown) (exact : Bool) (before aft
   same_entries i some = refl
 
   pub passed_on : (Unit {0} → Whole) → CanResolve rules s after new → Among c (seen_in mid.level) ⊎ IsSome (known_to after new c) →
-      HasSearchedOn {E = AllocError} rules s exact before after former latter earlier later old new (Ok None)
+      HasSearchedOn {E = AllocError} rules s before after former latter earlier later old new (Ok None)
   passed_on on resolve p = record {
-    gains = gains_where rules s exact before after former latter earlier later old new on (gains_with new refl);
+    gains = gains_where rules s before after former latter earlier later old new on (gains_with new refl);
     waiting = waiting_now;
     root = root_now;
     stays = stays_now;
@@ -363,16 +363,16 @@ module _ {Whole : Type 0} (rules : Rules) (s : Shown) (exact : Bool) (before aft
 
   pub over_on : (Unit {0} → Whole) → CanResolve rules s after new → (r : Question) → HasGoneOver new c r → Among c (keys_of new.ended.entries) →
       (Among c (seen_in mid.level) → ⊥) → known_to after new c ≡ None → ((f : Fault) × Holds (contents s) (meaning rules) c (Faults (fault_view f.kind) f.at)) →
-      HasSearchedOn {E = AllocError} rules s exact before after former latter earlier later old r (Ok None)
+      HasSearchedOn {E = AllocError} rules s before after former latter earlier later old r (Ok None)
   over_on on resolve r over key unseen unknown fault = by (gone_over_so new r c over key)
     where
       unseen_new : Among c (seen_in new.level) → ⊥
       unseen_new a = unseen (subst (λ (d : LevelCode). Among c (seen_in d)) t.level a)
 
       by : ((x : Ended) × (lookup (same_instance c) new.ended.entries ≡ Some x) × HasSeen new c x.ending r) →
-          HasSearchedOn {E = AllocError} rules s exact before after former latter earlier later old r (Ok None)
+          HasSearchedOn {E = AllocError} rules s before after former latter earlier later old r (Ok None)
       by (x, at, h) = record {
-        gains = gains_where rules s exact before after former latter earlier later old r on (gains_with r h.finds.found);
+        gains = gains_where rules s before after former latter earlier later old r on (gains_with r h.finds.found);
         waiting = h.chain.waiting ∙ waiting_now;
         root = h.root ∙ root_now;
         stays = stays_then old new r stays_now (stays_at new r h.finds.turns h.finds.passed h.chain.waiting h.root);
@@ -407,9 +407,9 @@ module _ {Whole : Type 0} (rules : Rules) (s : Shown) (exact : Bool) (before aft
 
   pub untried_on : (Unit {0} → Whole) → CanResolve rules s after new → (Among c (seen_in mid.level) → ⊥) → (IsTried mid c → ⊥) →
       lookup (same_instance c) mid.ended.entries ≡ None → known_to after new c ≡ None →
-      HasSearchedOn {E = AllocError} rules s exact before after former latter earlier later old (record new { inst = c }) (Ok (Some searched.Next))
+      HasSearchedOn {E = AllocError} rules s before after former latter earlier later old (record new { inst = c }) (Ok (Some searched.Next))
   untried_on on resolve unseen untried none unknown = record {
-    gains = gains_where rules s exact before after former latter earlier later old (record new { inst = c }) on (gains_with (record new { inst = c }) refl);
+    gains = gains_where rules s before after former latter earlier later old (record new { inst = c }) on (gains_with (record new { inst = c }) refl);
     waiting = waiting_now;
     root = root_stays new.level c new.inst next_with.is ∙ root_now;
     stays = stays_at old (record new { inst = c }) told_with.turns told_with.passed waiting_now
@@ -514,9 +514,9 @@ module _ {Whole : Type 0} (rules : Rules) (s : Shown) (exact : Bool) (before aft
       }
 
   pub back_on : (Unit {0} → Whole) → CanResolve rules s after new → (Among c (seen_in mid.level) → ⊥) → known_to after new c ≡ None → IsTried mid c ⊎ IsUnderWay before mid c →
-      HasSearchedOn {E = AllocError} rules s exact before after former latter earlier later old new (Ok (Some (searched.Back c)))
+      HasSearchedOn {E = AllocError} rules s before after former latter earlier later old new (Ok (Some (searched.Back c)))
   back_on on resolve unseen unknown way = record {
-    gains = gains_where rules s exact before after former latter earlier later old new on (gains_with new refl);
+    gains = gains_where rules s before after former latter earlier later old new on (gains_with new refl);
     waiting = waiting_now;
     root = root_now;
     stays = stays_now;
@@ -563,20 +563,20 @@ module _ {Whole : Type 0} (rules : Rules) (s : Shown) (exact : Bool) (before aft
       )
 
 -- what comes of that, by what was to be done with it
-module _ (rules : Rules) (s : Shown) (exact : Bool) (before after : Entries) (former latter : Memories) (earlier later : ℕ) (old mid new : Question)
+module _ (rules : Rules) (s : Shown) (before after : Entries) (former latter : Memories) (earlier later : ℕ) (old mid new : Question)
     (c : Instance ℕ) (n : HasNext old mid c) (can : CanSearch rules s before old) (l : Look)
-    (h : HasLookedAt {E = AllocError} rules s exact before after former latter earlier later mid new c (Ok l)) where
+    (h : HasLookedAt {E = AllocError} rules s before after former latter earlier later mid new c (Ok l)) where
   looked_as : (k : Look) → l ≡ k → IsLookedAt rules (contents s) before after mid new c k
   looked_as k e = subst (λ z. IsLookedAt rules (contents s) before after mid new c z) e h.is
 
-  pub is_passed_on : l ≡ look_is.Passed → HasSearchedOn {E = AllocError} rules s exact before after former latter earlier later old new (Ok None)
-  is_passed_on e = passed_on rules s exact before after former latter earlier later old mid new c n h.tells can h.since (λ u. u) h.can (looked_as look_is.Passed e)
+  pub is_passed_on : l ≡ look_is.Passed → HasSearchedOn {E = AllocError} rules s before after former latter earlier later old new (Ok None)
+  is_passed_on e = passed_on rules s before after former latter earlier later old mid new c n h.tells can h.since (λ u. u) h.can (looked_as look_is.Passed e)
 
   pub is_over_on : l ≡ look_is.Ended → (r : Question) → HasGoneOver new c r →
-      HasSearchedOn {E = AllocError} rules s exact before after former latter earlier later old r (Ok None)
+      HasSearchedOn {E = AllocError} rules s before after former latter earlier later old r (Ok None)
   is_over_on e r over =
       let (unseen, key, unknown, fault) = looked_as look_is.Ended e in
-      over_on rules s exact before after former latter earlier later old mid new c n h.tells can h.since (λ u. u) h.can r over key unseen unknown fault
+      over_on rules s before after former latter earlier later old mid new c n h.tells can h.since (λ u. u) h.can r over key unseen unknown fault
 
   pub is_unseen : l ≡ look_is.Ended → Among c (seen_in new.level) → ⊥
   is_unseen e a =
@@ -584,29 +584,29 @@ module _ (rules : Rules) (s : Shown) (exact : Bool) (before after : Entries) (fo
       let t = h.tells in unseen (subst (λ (d : LevelCode). Among c (seen_in d)) t.level a)
 
   pub is_failed_on : (any : Question) (r : Result (Option Searched) AllocError) (e : AllocError) → r ≡ Err e → KeepsRest new any →
-      HasSearchedOn {E = AllocError} rules s exact before after former latter earlier later old any r
-  is_failed_on any r e is rest = subst (λ z. HasSearchedOn {E = AllocError} rules s exact before after former latter earlier later old any z) (sym is)
-      (failed_on rules s exact before after former latter earlier later old mid new c n h.tells can h.since (λ none. tt) any e rest)
+      HasSearchedOn {E = AllocError} rules s before after former latter earlier later old any r
+  is_failed_on any r e is rest = subst (λ z. HasSearchedOn {E = AllocError} rules s before after former latter earlier later old any z) (sym is)
+      (failed_on rules s before after former latter earlier later old mid new c n h.tells can h.since (λ none. tt) any e rest)
 
-  pub is_back_on : l ≡ look_is.Back → HasSearchedOn {E = AllocError} rules s exact before after former latter earlier later old new (Ok (Some (searched.Back c)))
+  pub is_back_on : l ≡ look_is.Back → HasSearchedOn {E = AllocError} rules s before after former latter earlier later old new (Ok (Some (searched.Back c)))
   is_back_on e =
       let (unseen, unknown, way) = looked_as look_is.Back e in
-      back_on rules s exact before after former latter earlier later old mid new c n h.tells can h.since (λ u. u) h.can unseen unknown way
+      back_on rules s before after former latter earlier later old mid new c n h.tells can h.since (λ u. u) h.can unseen unknown way
 
   pub is_untried_on : l ≡ look_is.Untried →
-      HasSearchedOn {E = AllocError} rules s exact before after former latter earlier later old (record new { inst = c }) (Ok (Some searched.Next))
+      HasSearchedOn {E = AllocError} rules s before after former latter earlier later old (record new { inst = c }) (Ok (Some searched.Next))
   is_untried_on e =
       let (unseen, untried, none, unknown) = looked_as look_is.Untried e in
-      untried_on rules s exact before after former latter earlier later old mid new c n h.tells can h.since (λ u. u) h.can unseen untried none unknown
+      untried_on rules s before after former latter earlier later old mid new c n h.tells can h.since (λ u. u) h.can unseen untried none unknown
 
 -- nothing could be looked at for want of memory
-pub look_failed : (rules : Rules) (s : Shown) (exact : Bool) (before after : Entries) (former latter : Memories) (earlier later : ℕ)
+pub look_failed : (rules : Rules) (s : Shown) (before after : Entries) (former latter : Memories) (earlier later : ℕ)
     (old mid new : Question) (c : Instance ℕ) → HasNext old mid c → CanSearch rules s before old → (q : Result Look AllocError) →
-    HasLookedAt {E = AllocError} rules s exact before after former latter earlier later mid new c q → (r : Result (Option Searched) AllocError) (e : AllocError) →
-    r ≡ Err e → HasSearchedOn {E = AllocError} rules s exact before after former latter earlier later old new r
-look_failed rules s exact before after former latter earlier later old mid new c n can q h r e is =
-    subst (λ z. HasSearchedOn {E = AllocError} rules s exact before after former latter earlier later old new z) (sym is)
-    (failed_on rules s exact before after former latter earlier later old mid new c n h.tells can h.since (keeps_groups rules q) new e (record {
+    HasLookedAt {E = AllocError} rules s before after former latter earlier later mid new c q → (r : Result (Option Searched) AllocError) (e : AllocError) →
+    r ≡ Err e → HasSearchedOn {E = AllocError} rules s before after former latter earlier later old new r
+look_failed rules s before after former latter earlier later old mid new c n can q h r e is =
+    subst (λ z. HasSearchedOn {E = AllocError} rules s before after former latter earlier later old new z) (sym is)
+    (failed_on rules s before after former latter earlier later old mid new c n h.tells can h.since (keeps_groups rules q) new e (record {
       chain = record { waiting = refl; inst = refl };
       finds = record { found = refl; passed = refl; ended = refl; turns = refl };
       root = refl;

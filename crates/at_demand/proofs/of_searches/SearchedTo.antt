@@ -1,5 +1,5 @@
 -- A level's search goes on, step by step, up to where it comes to.
-use Rattle.std.proofs.Common.{◌≡◌, ℕ, ◌<◌, ◌^◌, Bool, Option, Some, None, inl, inr, refl, sym, ◌∙◌, subst}
+use Rattle.std.proofs.Common.{◌≡◌, ℕ, ◌<◌, ◌^◌, Option, Some, None, inl, inr, refl, sym, ◌∙◌, subst}
 use Rattle.std.specs.Prelude.{Result, Ok, Err}
 use Rattle.std.specs.declared.alloc.AllocError.{AllocError}
 use Rattle.std.specs.Map.{keys_of}
@@ -30,33 +30,33 @@ use Rattle.at_demand.proofs.of_levels.Resolving.{keeps_groups, recorded_key}
 use Rattle.at_demand.proofs.of_levels.StayingOn.{stays_same, stays_then}
 
 -- A search has come on from where it stood: what came to be kept meanwhile, and what was demanded.
-pub record HasComeOn (rules : Rules) (s : Shown) (exact : Bool) (before after : Entries) (former latter : Memories) (earlier later : ℕ)
+pub record HasComeOn (rules : Rules) (s : Shown) (before after : Entries) (former latter : Memories) (earlier later : ℕ)
     (old new : Question) : Type 0 where
   pub on : ComesOn rules s before after old new
-  pub gains : GainsBetween rules s exact before after former latter earlier later old new (Unit {0})
+  pub gains : GainsBetween rules s before after former latter earlier later old new (Unit {0})
   pub stays : StaysOn old new
   pub followed : FollowsOn rules s before after old new
   pub root : root_in new.level new.inst ≡ root_in old.level old.inst
 
 -- as it begins
-pub begins_on : (rules : Rules) (s : Shown) (exact : Bool) (entries : Entries) (m : Memories) (w : ℕ) (q : Question) → CanSearch rules s entries q → w < 2 ^ 64 →
-    HasComeOn rules s exact entries entries m m w w q q
-begins_on rules s exact entries m w q can small = record {
+pub begins_on : (rules : Rules) (s : Shown) (entries : Entries) (m : Memories) (w : ℕ) (q : Question) → CanSearch rules s entries q → w < 2 ^ 64 →
+    HasComeOn rules s entries entries m m w w q q
+begins_on rules s entries m w q can small = record {
   on = record {
     chain = record { waiting = refl; inst = refl };
     ended = refl;
     can = can;
     follows = λ first l stay st k. (l, st, k, λ u o y. y);
   };
-  gains = let st = can.stands in gains_nothing rules s exact entries m w q q st.can.answerable small refl;
+  gains = let st = can.stands in gains_nothing rules s entries m w q q st.can.answerable small refl;
   stays = stays_same q;
   followed = λ x. x;
   root = refl;
 }
 
 -- And then it comes to this.
-module _ (rules : Rules) (s : Shown) (exact : Bool) (before mid after : Entries) (f m n : Memories) (w x y : ℕ) (old q new : Question)
-    (c : HasComeOn rules s exact before mid f m w x old q) where
+module _ (rules : Rules) (s : Shown) (before mid after : Entries) (f m n : Memories) (w x y : ℕ) (old q new : Question)
+    (c : HasComeOn rules s before mid f m w x old q) where
   came : ComesOn rules s before mid old q
   came = c.on
 
@@ -83,8 +83,8 @@ module _ (rules : Rules) (s : Shown) (exact : Bool) (before mid after : Entries)
           let covered = st.covered in
           of_end (covered.ends i (subst (λ is. Among i is) (sym st.is.seen) a))
 
-  all_gained : {Whole : Type 0} → GainsBetween rules s exact mid after m n x y q new Whole → GainsBetween rules s exact before after f n w y old new Whole
-  all_gained g = gains_then rules s exact before mid after f m n w x y old q new c.gains g
+  all_gained : {Whole : Type 0} → GainsBetween rules s mid after m n x y q new Whole → GainsBetween rules s before after f n w y old new Whole
+  all_gained g = gains_then rules s before mid after f m n w x y old q new c.gains g
       (let chain = came.chain in asked_same old q chain.waiting c.root) levels_old ended_old
 
   stay_on : (first : Entries) → KeepsEntries first before → KeepsEntries first mid
@@ -123,11 +123,11 @@ module _ (rules : Rules) (s : Shown) (exact : Bool) (before mid after : Entries)
   )
 
   -- further on
-  pub steps_on : HasSearchedOn {E = AllocError} rules s exact mid after m n x y q new (Ok None) →
-      HasComeOn rules s exact before after f n w y old new
+  pub steps_on : HasSearchedOn {E = AllocError} rules s mid after m n x y q new (Ok None) →
+      HasComeOn rules s before after f n w y old new
   steps_on h = further h.on
     where
-      further : ComesOn rules s mid after q new × (left_to_do new < left_to_do q) → HasComeOn rules s exact before after f n w y old new
+      further : ComesOn rules s mid after q new × (left_to_do new < left_to_do q) → HasComeOn rules s before after f n w y old new
       further (on, less) = record {
         on = record {
           chain = let chain = came.chain in record { waiting = on.chain.waiting ∙ chain.waiting; inst = on.chain.inst ∙ chain.inst };
@@ -147,8 +147,8 @@ module _ (rules : Rules) (s : Shown) (exact : Bool) (before mid after : Entries)
   followed_to searched.Over h = λ x. h (c.followed x)
 
   -- to its end
-  pub ends_on : (e : Searched) → HasSearchedOn {E = AllocError} rules s exact mid after m n x y q new (Ok (Some e)) →
-      HasSearched {E = AllocError} rules s exact before after f n w y old new (Ok e)
+  pub ends_on : (e : Searched) → HasSearchedOn {E = AllocError} rules s mid after m n x y q new (Ok (Some e)) →
+      HasSearched {E = AllocError} rules s before after f n w y old new (Ok e)
   ends_on e h = record {
     gains = all_gained h.gains;
     waiting = let chain = came.chain in h.waiting ∙ chain.waiting;
@@ -160,10 +160,10 @@ module _ (rules : Rules) (s : Shown) (exact : Bool) (before mid after : Entries)
   }
 
   -- or memory is wanting
-  pub fails_on : (r : Result (Option Searched) AllocError) → HasSearchedOn {E = AllocError} rules s exact mid after m n x y q new r →
-      (p : Result Searched AllocError) (e : AllocError) → p ≡ Err e → HasSearched {E = AllocError} rules s exact before after f n w y old new p
-  fails_on r h p e is = subst (λ z. HasSearched {E = AllocError} rules s exact before after f n w y old new z) (sym is) (record {
-    gains = gains_where rules s exact before after f n w y old new (keeps_groups rules r) (all_gained h.gains);
+  pub fails_on : (r : Result (Option Searched) AllocError) → HasSearchedOn {E = AllocError} rules s mid after m n x y q new r →
+      (p : Result Searched AllocError) (e : AllocError) → p ≡ Err e → HasSearched {E = AllocError} rules s before after f n w y old new p
+  fails_on r h p e is = subst (λ z. HasSearched {E = AllocError} rules s before after f n w y old new z) (sym is) (record {
+    gains = gains_where rules s before after f n w y old new (keeps_groups rules r) (all_gained h.gains);
     waiting = let chain = came.chain in h.waiting ∙ chain.waiting;
     root = h.root ∙ c.root;
     stays = tt;
@@ -173,18 +173,18 @@ module _ (rules : Rules) (s : Shown) (exact : Bool) (before mid after : Entries)
   })
 
 -- by what was answered
-pub none_left : (rules : Rules) (s : Shown) (exact : Bool) (before after : Entries) (f m : Memories) (w x : ℕ) (old new : Question)
-    (o : Option Searched) → o ≡ None → HasSearchedOn {E = AllocError} rules s exact before after f m w x old new (Ok o) →
-    HasSearchedOn {E = AllocError} rules s exact before after f m w x old new (Ok None)
-none_left rules s exact before after f m w x old new o e h =
-    subst (λ z. HasSearchedOn {E = AllocError} rules s exact before after f m w x old new (Ok z)) e h
+pub none_left : (rules : Rules) (s : Shown) (before after : Entries) (f m : Memories) (w x : ℕ) (old new : Question)
+    (o : Option Searched) → o ≡ None → HasSearchedOn {E = AllocError} rules s before after f m w x old new (Ok o) →
+    HasSearchedOn {E = AllocError} rules s before after f m w x old new (Ok None)
+none_left rules s before after f m w x old new o e h =
+    subst (λ z. HasSearchedOn {E = AllocError} rules s before after f m w x old new (Ok z)) e h
 
-pub less_left : (rules : Rules) (s : Shown) (exact : Bool) (before after : Entries) (f m : Memories) (w x : ℕ) (old new : Question) →
-    HasSearchedOn {E = AllocError} rules s exact before after f m w x old new (Ok None) → left_to_do new < left_to_do old
-less_left rules s exact before after f m w x old new h = let (on, less) = h.on in less
+pub less_left : (rules : Rules) (s : Shown) (before after : Entries) (f m : Memories) (w x : ℕ) (old new : Question) →
+    HasSearchedOn {E = AllocError} rules s before after f m w x old new (Ok None) → left_to_do new < left_to_do old
+less_left rules s before after f m w x old new h = let (on, less) = h.on in less
 
-pub some_left : (rules : Rules) (s : Shown) (exact : Bool) (before after : Entries) (f m : Memories) (w x : ℕ) (old new : Question)
-    (o : Option Searched) (e : Searched) → o ≡ Some e → HasSearchedOn {E = AllocError} rules s exact before after f m w x old new (Ok o) →
-    HasSearchedOn {E = AllocError} rules s exact before after f m w x old new (Ok (Some e))
-some_left rules s exact before after f m w x old new o e is h =
-    subst (λ z. HasSearchedOn {E = AllocError} rules s exact before after f m w x old new (Ok z)) is h
+pub some_left : (rules : Rules) (s : Shown) (before after : Entries) (f m : Memories) (w x : ℕ) (old new : Question)
+    (o : Option Searched) (e : Searched) → o ≡ Some e → HasSearchedOn {E = AllocError} rules s before after f m w x old new (Ok o) →
+    HasSearchedOn {E = AllocError} rules s before after f m w x old new (Ok (Some e))
+some_left rules s before after f m w x old new o e is h =
+    subst (λ z. HasSearchedOn {E = AllocError} rules s before after f m w x old new (Ok z)) is h

@@ -155,10 +155,10 @@ module _ (rules : Rules) (s : Shown) (entries : Entries) (p q : Question) (c : I
         (passed_first (contents s) (meaning rules) kept {s = gone_past} c h x)
 
 -- What is known since the last level has changed is known as if it were still as it was.
-pub tells_pending : {Whole : Type 0} → (rules : Rules) (s : Shown) (exact : Bool) (before after : Entries) (former latter : Memories) (earlier later : ℕ) (old mid new : Question) →
-    KeepsChain old mid → KeepsFinds old mid → (these : List (Instance ℕ)) → Tells rules s exact before after former latter earlier later mid new these Whole →
-    Tells rules s exact before after former latter earlier later old (record new { level = old.level }) these Whole
-tells_pending rules s exact before after former latter earlier later old mid new chain finds these t = record {
+pub tells_pending : {Whole : Type 0} → (rules : Rules) (s : Shown) (before after : Entries) (former latter : Memories) (earlier later : ℕ) (old mid new : Question) →
+    KeepsChain old mid → KeepsFinds old mid → (these : List (Instance ℕ)) → Tells rules s before after former latter earlier later mid new these Whole →
+    Tells rules s before after former latter earlier later old (record new { level = old.level }) these Whole
+tells_pending rules s before after former latter earlier later old mid new chain finds these t = record {
   chain = record { waiting = t.chain.waiting ∙ chain.waiting; inst = t.chain.inst ∙ chain.inst };
   level = refl;
   ended = t.ended ∙ ap (λ es. keys_of es) finds.ended;
@@ -179,20 +179,20 @@ tells_pending rules s exact before after former latter earlier later old mid new
   took = t.took;
   right = λ all there r. t.right (subst (λ fs. AreThere rules s fs) (sym finds.found) all) there r;
   plain = t.plain;
-  lean = λ on w. t.lean on (subst (λ fs. AreLean rules (contents s) fs) (sym finds.found) w);
-  settled = λ on w. t.settled on (subst (λ fs. AreSettled rules before fs) (sym finds.found) w);
-  only = λ on w x. t.only on (subst (λ fs. AreLean rules (contents s) fs) (sym finds.found) w) x;
-  spare = λ whole on w y x. t.spare whole on w (subst (λ fs. AreLean rules (contents s) fs) (sym finds.found) y)
+  lean = λ w. t.lean (subst (λ fs. AreLean rules (contents s) fs) (sym finds.found) w);
+  settled = λ w. t.settled (subst (λ fs. AreSettled rules before fs) (sym finds.found) w);
+  only = λ w x. t.only (subst (λ fs. AreLean rules (contents s) fs) (sym finds.found) w) x;
+  spare = λ whole w y x. t.spare whole w (subst (λ fs. AreLean rules (contents s) fs) (sym finds.found) y)
       (subst (λ fs. AreSettled rules before fs) (sym finds.found) x);
   counts = t.counts;
   traces = t.traces;
 }
 
 -- and the next one is taken off then
-pub next_pending : {Whole : Type 0} → (rules : Rules) (s : Shown) (exact : Bool) (before after : Entries) (former latter : Memories) (earlier later : ℕ) (old mid new : Question)
-    (c : Instance ℕ) → HasNext old mid c → (these : List (Instance ℕ)) → Tells rules s exact before after former latter earlier later mid new these Whole →
+pub next_pending : {Whole : Type 0} → (rules : Rules) (s : Shown) (before after : Entries) (former latter : Memories) (earlier later : ℕ) (old mid new : Question)
+    (c : Instance ℕ) → HasNext old mid c → (these : List (Instance ℕ)) → Tells rules s before after former latter earlier later mid new these Whole →
     HasNext (record new { level = old.level }) new c
-next_pending rules s exact before after former latter earlier later old mid new c n these t = record {
+next_pending rules s before after former latter earlier later old mid new c n these t = record {
   is = let (b, e) = n.is in (b, t.level ∙ e);
   chain = record { waiting = refl; inst = refl };
   finds = record { found = refl; passed = refl; ended = refl; turns = refl };

@@ -1,6 +1,5 @@
 -- What comes to what is kept while a question is given turns, and its last instance is evaluated in one go before some of them.
-use Rattle.std.proofs.Common.{◌≡◌, ℕ, Bool, List, [], ◌∷◌, Result, Err, refl, sym, ap, ◌∙◌, subst}
-use Rattle.std.specs.Prelude.{IsTrue}
+use Rattle.std.proofs.Common.{◌≡◌, ℕ, List, [], ◌∷◌, Result, Err, refl, sym, ap, ◌∙◌, subst}
 use Rattle.std.specs.Map.{keys_of}
 use Rattle.std.specs.declared.alloc.AllocError.{AllocError}
 use Rattle.at_model.specs.Rules.{Rules}
@@ -32,17 +31,17 @@ use Rattle.at_demand.proofs.of_steps.Grown.{spares_grown, stands_grown}
 use Rattle.at_demand.proofs.of_traces.Putting.{traced_on, traced_then, traced_up}
 
 -- Up to `old` what came was worthy of i, of which the question q was asked; up to `mid` its last instance was evaluated in one go.
-module _ (rules : Rules) (s : Shown) (exact : Bool) (i : Instance ℕ) (q : Question) (same : asked_by q ≡ i) (basis : IsBasis rules s)
-    (first old mid : Entries) (w x y : ℕ) (gains : Gains rules s exact i first old [] [] w x) (sound : AreSound rules s old)
-    (st : IsStanding rules s old q) (ahead : Gains rules s exact q.inst old mid [] [] x y) where
+module _ (rules : Rules) (s : Shown) (i : Instance ℕ) (q : Question) (same : asked_by q ≡ i) (basis : IsBasis rules s)
+    (first old mid : Entries) (w x y : ℕ) (gains : Gains rules s i first old [] [] w x) (sound : AreSound rules s old)
+    (st : IsStanding rules s old q) (ahead : Gains rules s q.inst old mid [] [] x y) where
   pub led_ahead : Leads (contents s) (meaning rules) i q.inst
   led_ahead = subst (λ j. Leads (contents s) (meaning rules) j q.inst) same (last_led rules s basis old q sound st)
 
-  gains_between : Gains rules s exact i old mid [] [] x y
-  gains_between = gains_up rules s exact basis.idle i q.inst old mid [] [] x y led_ahead ahead
+  gains_between : Gains rules s i old mid [] [] x y
+  gains_between = gains_up rules s basis.idle i q.inst old mid [] [] x y led_ahead ahead
 
-  pub gains_ahead : Gains rules s exact i first mid [] [] w y
-  gains_ahead = gains_then rules s exact i first old mid [] [] [] w x y gains gains_between
+  pub gains_ahead : Gains rules s i first mid [] [] w y
+  gains_ahead = gains_then rules s i first old mid [] [] [] w x y gains gains_between
 
   pub sound_ahead : AreSound rules s mid
   sound_ahead = sound_after rules s basis old q sound st mid ahead.known.right
@@ -60,41 +59,41 @@ module _ (rules : Rules) (s : Shown) (exact : Bool) (i : Instance ℕ) (q : Ques
   traced_turned m m' n n' before later stay =
       let all = traced_ahead m m' n before later in traced_then rules s i m n n' all (traced_on rules s i n n' stay all.justified)
 
-  pub sound_turned : {Whole : Type 0} → (new : Entries) (z : ℕ) → GainsAtMost rules s exact mid new y z q Whole → AreSound rules s new
+  pub sound_turned : {Whole : Type 0} → (new : Entries) (z : ℕ) → GainsAtMost rules s mid new y z q Whole → AreSound rules s new
   sound_turned new z turned = sound_after rules s basis mid q sound_ahead stands_ahead new turned.right turned.worthy
 
-  pub worthy_turned : {Whole : Type 0} → (new : Entries) (z : ℕ) → GainsAtMost rules s exact mid new y z q Whole →
+  pub worthy_turned : {Whole : Type 0} → (new : Entries) (z : ℕ) → GainsAtMost rules s mid new y z q Whole →
       AddsWorthy rules (contents s) i first new
   worthy_turned new z turned = worthy_both rules (contents s) i first mid new gains_ahead.worthy
       (subst (λ j. AddsWorthy rules (contents s) j mid new) same turned.worthy)
 
-  module _ (sparing : IsTrue exact → AreSpare rules (contents s) first → IsSparingTurns rules (contents s) old q) where
-    pub spares_ahead : IsTrue exact → AreSpare rules (contents s) first → IsSparingTurns rules (contents s) mid q
-    spares_ahead k spare = spares_grown rules s old mid ahead.worthy.stays q (sparing k spare)
+  module _ (sparing : AreSpare rules (contents s) first → IsSparingTurns rules (contents s) old q) where
+    pub spares_ahead : AreSpare rules (contents s) first → IsSparingTurns rules (contents s) mid q
+    spares_ahead spare = spares_grown rules s old mid ahead.worthy.stays q (sparing spare)
 
-    pub gains_turned : (new : Entries) (z : ℕ) → GainsAtMost rules s exact mid new y z q (Unit {0}) → Gains rules s exact i first new [] [] w z
+    pub gains_turned : (new : Entries) (z : ℕ) → GainsAtMost rules s mid new y z q (Unit {0}) → Gains rules s i first new [] [] w z
     gains_turned new z turned = record {
       worthy = worthy_turned new z turned;
       known = known_none rules (contents s) new basis.circular turned.right turned.plain;
       still = λ j v is. is;
       stays = λ there right. turned.stays (subst (IsThere s) (sym same) there) (gains_ahead.stays there right);
-      spare = λ k spare. turned.spare tt k (gains_ahead.spare k spare) (spares_ahead k spare);
-      counts = λ k. counts_more first mid new w y z (gains_ahead.counts k) (turned.counts k);
+      spare = λ spare. turned.spare tt (gains_ahead.spare spare) (spares_ahead spare);
+      counts = counts_more first mid new w y z gains_ahead.counts turned.counts;
     }
 
     -- or memory was wanting in that
     pub broken_turned : (new : Entries) (z : ℕ) (r : Result AnswerCode AllocError) (e : AllocError) → r ≡ Err e → {Whole : Type 0} →
-        (HasNoneCircular rules → Whole) → GainsAtMost rules s exact mid new y z q Whole →
-        (IsTrue exact → AreSpare rules (contents s) first → AddsMet rules (contents s) i first new) →
-        HasAnswered {E = AllocError} rules s exact first new w z i r
-    broken_turned new z r e is keeps turned met = subst (λ a. HasAnswered {E = AllocError} rules s exact first new w z i a) (sym is) (record {
+        (HasNoneCircular rules → Whole) → GainsAtMost rules s mid new y z q Whole →
+        (AreSpare rules (contents s) first → AddsMet rules (contents s) i first new) →
+        HasAnswered {E = AllocError} rules s first new w z i r
+    broken_turned new z r e is keeps turned met = subst (λ a. HasAnswered {E = AllocError} rules s first new w z i a) (sym is) (record {
       answers = tt;
       worthy = worthy_turned new z turned;
       met = met;
-      spare = λ none k spare. turned.spare (keeps none) k (gains_ahead.spare k spare) (spares_ahead k spare);
-      all = λ k spare. tt;
-      counts = λ k. counts_more first mid new w y z (gains_ahead.counts k) (turned.counts k);
-      work = λ k spare. tt;
+      spare = λ none spare. turned.spare (keeps none) (gains_ahead.spare spare) (spares_ahead spare);
+      all = λ spare. tt;
+      counts = counts_more first mid new w y z gains_ahead.counts turned.counts;
+      work = λ spare. tt;
       right = λ there right. turned.stays (subst (IsThere s) (sym same) there) (gains_ahead.stays there right);
       plain = turned.plain;
     })

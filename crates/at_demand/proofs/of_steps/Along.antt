@@ -1,5 +1,5 @@
 -- A turn that goes along in a search.
-use Rattle.std.proofs.Common.{◌≡◌, ◌⊎◌, ℕ, Bool, List, ◌∷◌, Option, Some, None, Result, Ok, Err, inl, inr, refl, sym, ap, ◌∙◌, subst}
+use Rattle.std.proofs.Common.{◌≡◌, ◌⊎◌, ℕ, List, ◌∷◌, Option, Some, None, Result, Ok, Err, inl, inr, refl, sym, ap, ◌∙◌, subst}
 use Rattle.std.specs.Prelude.{IfOk, IfSome, IsSome, OnOk}
 use Rattle.std.specs.Map.{lookup}
 use Rattle.std.specs.Option.{option_map}
@@ -45,9 +45,9 @@ with_outcome o i = (i, o)
 no_answer : (a : AnswerCode) → Some a ≡ None → ⊥
 no_answer a e = cc
 
-module _ (rules : Rules) (s : Shown) (exact : Bool) (before after : Entries) (former latter : Memories) (earlier later : ℕ) (old new : Question)
-    (r : Result (Option AnswerCode) AllocError) (g : GainsBetween rules s exact before after former latter earlier later old new (KeepsGroups rules r))
-    (l : LeavesSo {E = AllocError} rules s exact before after old new r)
+module _ (rules : Rules) (s : Shown) (before after : Entries) (former latter : Memories) (earlier later : ℕ) (old new : Question)
+    (r : Result (Option AnswerCode) AllocError) (g : GainsBetween rules s before after former latter earlier later old new (KeepsGroups rules r))
+    (l : LeavesSo {E = AllocError} rules s before after old new r)
     (plainly : HasNoneCircular rules → (new ≡ old) × (after ≡ before)) where
   may : (u : Search ℕ) → StandsFor rules s before old u → (i : Instance ℕ) → WasSeenBy old i → MayComeIn u i
   may u x i (inl a) = inl (subst (λ (d : Level ℕ). Among i (under (d ∷ u.below))) (sym x.is.last)
@@ -70,7 +70,7 @@ module _ (rules : Rules) (s : Shown) (exact : Bool) (before after : Entries) (fo
   }
 
   -- what came, as turns of a search let it come
-  pub gains_along : GainsAtMost rules s exact before after earlier later old (KeepsGroups rules r)
+  pub gains_along : GainsAtMost rules s before after earlier later old (KeepsGroups rules r)
   gains_along = record {
     right = g.right;
     stays = g.there;
@@ -89,7 +89,7 @@ module _ (rules : Rules) (s : Shown) (exact : Bool) (before after : Entries) (fo
       };
     };
     worthy = g.worthy;
-    spare = λ whole k spare x. g.spare whole k spare x.lean x.settled;
+    spare = λ whole spare x. g.spare whole spare x.lean x.settled;
     counts = g.counts;
   }
     where
@@ -126,32 +126,32 @@ module _ (rules : Rules) (s : Shown) (exact : Bool) (before after : Entries) (fo
     stays_at q is = subst (λ z. OnOk z (StaysSo rules s after old new)) is l.stays
 
     when_ok : (q : Result (Option AnswerCode) AllocError) → r ≡ q → KeepsGroups rules q →
-        GainsAtMost rules s exact before after earlier later old (Unit {0})
-    when_ok q is whole = gains_weaker rules s exact before after earlier later old
+        GainsAtMost rules s before after earlier later old (Unit {0})
+    when_ok q is whole = gains_weaker rules s before after earlier later old
         (λ u. subst (λ z. KeepsGroups rules z) (sym is) whole) gains_along
 
     -- so a turn was given, whatever it comes to
-    pub turned_along : HasTurnedOn {E = AllocError} rules s exact before after earlier later old new t r
+    pub turned_along : HasTurnedOn {E = AllocError} rules s before after earlier later old new t r
     turned_along = by r refl
       where
         kept_so : r ≡ Ok None → StaysSo rules s after old new
         kept_so is = stays_at (Ok None) is
 
-        by : (q : Result (Option AnswerCode) AllocError) → r ≡ q → HasTurnedOn {E = AllocError} rules s exact before after earlier later old new t r
-        by (Err e) is = broken_on rules s exact basis before after earlier later old new t r e is (keeps_groups rules r) gains_along
-        by (Ok None) is = subst (λ z. HasTurnedOn {E = AllocError} rules s exact before after earlier later old new t z) (sym is)
-            (counted_so rules s exact basis before after earlier later old new t (when_ok (Ok None) is tt) sound st (kept_so is).turns
+        by : (q : Result (Option AnswerCode) AllocError) → r ≡ q → HasTurnedOn {E = AllocError} rules s before after earlier later old new t r
+        by (Err e) is = broken_on rules s basis before after earlier later old new t r e is (keeps_groups rules r) gains_along
+        by (Ok None) is = subst (λ z. HasTurnedOn {E = AllocError} rules s before after earlier later old new t z) (sym is)
+            (counted_so rules s basis before after earlier later old new t (when_ok (Ok None) is tt) sound st (kept_so is).turns
             (subst (λ z. HasTurnedBy {E = AllocError} rules s before after old new z) is turned) (so (kept_so is))
             (subst (λ z. IfOk z (FitAfter rules s after new t)) is fit)
-            (λ k spare x. subst (λ z. IfOk z (λ o. IsOfUse rules o (IsSparingTurns rules (contents s) after new))) is (l.sparing k spare x)))
-        by (Ok (Some a)) is = subst (λ z. HasTurnedOn {E = AllocError} rules s exact before after earlier later old new t z) (sym is)
-            (answered_so rules s exact basis before after earlier later old new t (when_ok (Ok (Some a)) is tt) a
+            (λ spare x. subst (λ z. IfOk z (λ o. IsOfUse rules o (IsSparingTurns rules (contents s) after new))) is (l.sparing spare x)))
+        by (Ok (Some a)) is = subst (λ z. HasTurnedOn {E = AllocError} rules s before after earlier later old new t z) (sym is)
+            (answered_so rules s basis before after earlier later old new t (when_ok (Ok (Some a)) is tt) a
             (subst (λ z. HasTurnedBy {E = AllocError} rules s before after old new z) is turned) stands_still
-            (λ k spare x. subst (λ z. IfOk z (λ o. IfSome o (λ b. HasWorthyFor rules (contents s) (asked_by old) (answer_view b) after))) is
-            (l.all k spare x)) (λ k spare x none. spares_still x none))
+            (λ spare x. subst (λ z. IfOk z (λ o. IfSome o (λ b. HasWorthyFor rules (contents s) (asked_by old) (answer_view b) after))) is
+            (l.all spare x)) (λ spare x none. spares_still x none))
 
 -- behind one that came to be kept
-module _ (rules : Rules) (s : Shown) (exact : Bool) (before after : Entries) (former latter : Memories) (earlier later : ℕ) (old new : Question)
+module _ (rules : Rules) (s : Shown) (before after : Entries) (former latter : Memories) (earlier later : ℕ) (old new : Question)
     (answerable : IsAnswerable rules s before) (st : IsStanding rules s before old) (v : Value ℕ) (kept : kept_values before old.inst ≡ Some v)
     (in_search : old.level ≡ None → ⊥) (t : Trials) where
   along_one : (u : Search ℕ) → StandsFor rules s before old u → (o : Option AnswerCode) →
@@ -176,17 +176,17 @@ module _ (rules : Rules) (s : Shown) (exact : Bool) (before after : Entries) (fo
   abbrev FollowsPast : Result (Option AnswerCode) AllocError → Search ℕ → Type 0
   FollowsPast r u = IfOk r (λ o. FollowsTo rules s before after (past u) new (option_map answer_view o))
 
-  past_first : (r : Result (Option AnswerCode) AllocError) → HasGoneAlong {E = AllocError} rules s exact before after former latter earlier later old new t r →
+  past_first : (r : Result (Option AnswerCode) AllocError) → HasGoneAlong {E = AllocError} rules s before after former latter earlier later old new t r →
       (u : Search ℕ) → StandsFor rules s before old u → FollowsPast r u
   past_first r a u x =
       let y : StandsBetween rules s before old (past u) = stands_past rules s before old answerable st v kept in_search u x in
       a.follows before (past u) (λ i some. refl) y y.is.known
 
   pub goes_past : AreSound rules s before → (r : Result (Option AnswerCode) AllocError) →
-      HasGoneAlong {E = AllocError} rules s exact before after former latter earlier later old new t r → (HasNoneCircular rules → ⊥) →
-      HasTurnedOn {E = AllocError} rules s exact before after earlier later old new t r
+      HasGoneAlong {E = AllocError} rules s before after former latter earlier later old new t r → (HasNoneCircular rules → ⊥) →
+      HasTurnedOn {E = AllocError} rules s before after earlier later old new t r
   goes_past sound r a off =
-      turned_along rules s exact before after former latter earlier later old new r a.gains a.leaves (λ none. absurd (off none)) answerable.basis sound st t a.fit
+      turned_along rules s before after former latter earlier later old new r a.gains a.leaves (λ none. absurd (off none)) answerable.basis sound st t a.fit
       (record {
         plainly = λ none. absurd (off none);
         searched = λ u x. along_all r u x (past_first r a u x);

@@ -1,6 +1,6 @@
 -- The last one waits for one that is tried, or under way, and isn't known: a circle answers the question.
-use Rattle.std.proofs.Common.{◌≡◌, ◌⊎◌, ℕ, Bool, List, [], ◌∷◌, ◌++◌, Option, Some, None, Result, Ok, Err, inl, inr, refl, sym, ap, ◌∙◌, subst}
-use Rattle.std.specs.Prelude.{IfOk, IfSome, IsTrue, OnOk, IsSome}
+use Rattle.std.proofs.Common.{◌≡◌, ◌⊎◌, ℕ, List, [], ◌∷◌, ◌++◌, Option, Some, None, Result, Ok, Err, inl, inr, refl, sym, ap, ◌∙◌, subst}
+use Rattle.std.specs.Prelude.{IfOk, IfSome, OnOk, IsSome}
 use Rattle.std.specs.Map.{keys_of}
 use Rattle.std.specs.declared.alloc.AllocError.{AllocError}
 use Rattle.at_model.specs.Meaning.{Among, Circle, Reaches}
@@ -56,19 +56,19 @@ asked_among : (ws : List (Instance ℕ × LevelCode)) (d : LevelCode) (i : Insta
 asked_among [] d i e all = inl (ap (λ z. root_in z i) e)
 asked_among (w ∷ ws) d i e all = inl (ap (λ z. root_in z w.0) (all w.0 w.1 (inl refl)))
 
-module _ (rules : Rules) (s : Shown) (exact : Bool) (before mid : Entries) (f m : Memories) (w x : ℕ) (old q : Question) (t : Trials) (g : Going)
-    (c : IsTrying rules s exact before mid f m w x old q t g) (last : Entries) (n : Memories) (y : ℕ) (new : Question) (i : Instance ℕ)
-    (h : HasResolved {E = AllocError} rules s exact mid last m n x y q new i (Ok resolved.Back)) (waits : Trying) (is : g ≡ waits_for waits i)
+module _ (rules : Rules) (s : Shown) (before mid : Entries) (f m : Memories) (w x : ℕ) (old q : Question) (t : Trials) (g : Going)
+    (c : IsTrying rules s before mid f m w x old q t g) (last : Entries) (n : Memories) (y : ℕ) (new : Question) (i : Instance ℕ)
+    (h : HasResolved {E = AllocError} rules s mid last m n x y q new i (Ok resolved.Back)) (waits : Trying) (is : g ≡ waits_for waits i)
     (unknown : known_to mid q i ≡ None)
     (demands : Reaches (contents s) (HasValue (contents s) (meaning rules)) ((meaning rules).formula q.inst) i) where
-  later : IsTrying rules s exact before last f n w y old new t g
-  later = tries_on rules s exact before mid f m w x old q t g c last n y new i resolved.Back h waits i is
+  later : IsTrying rules s before last f n w y old new t g
+  later = tries_on rules s before mid f m w x old q t g c last n y new i resolved.Back h waits i is
 
   turn_new : CanTurn rules s last new
-  turn_new = turn_at rules s exact before last f n w y old new t g later
+  turn_new = turn_at rules s before last f n w y old new t g later
 
   st : IsStanding rules s last new
-  st = standing_at rules s exact before last f n w y old new t g later
+  st = standing_at rules s before last f n w y old new t g later
 
   back : IsTried q i ⊎ IsUnderWay mid q i
   back = let r : IsResolved rules (contents s) mid last q new i resolved.Back = h.is in r.0
@@ -84,7 +84,7 @@ module _ (rules : Rules) (s : Shown) (exact : Bool) (before mid : Entries) (f m 
 
   opens : IsOpen (contents s) (meaning rules) (under (all_levels new)) i
   opens =
-      let (u, z) = stands_at rules s exact before mid f m w x old q t g c in
+      let (u, z) = stands_at rules s before mid f m w x old q t g c in
       subst (λ ls. IsOpen (contents s) (meaning rules) (under ls) i)
       (ap (λ (l : Level ℕ). l ∷ u.below) z.is.last ∙ ap (λ ls. level_of q.inst q.level ∷ ls) z.is.below ∙ levels_same)
       (opens_back rules s mid q u z i unknown demands back)
@@ -104,11 +104,11 @@ module _ (rules : Rules) (s : Shown) (exact : Bool) (before mid : Entries) (f m 
       ]))
     where
       plain : IsStandingPlainly rules s q
-      plain = let z = standing_at rules s exact before mid f m w x old q t g c in z.plainly none
+      plain = let z = standing_at rules s before mid f m w x old q t g c in z.plainly none
 
   -- it is answered so
   module _ (end : Entries) (o : Memories) (z : ℕ) (last_one : Question) (r : Result (Option AnswerCode) AllocError)
-      (d : HasClosed {E = AllocError} rules s exact last end n o y z new last_one i r) where
+      (d : HasClosed {E = AllocError} rules s last end n o y z new last_one i r) where
     closed_plainly : HasNoneCircular rules → (last_one ≡ new) × (end ≡ last)
     closed_plainly none = let p = st.plainly none in d.plainly p.ended
 
@@ -128,9 +128,9 @@ module _ (rules : Rules) (s : Shown) (exact : Bool) (before mid : Entries) (f m 
             (sym (ap (λ (l : Level ℕ). l ∷ u.below) a.is.last ∙ ap (λ ls. level_of new.inst new.level ∷ ls) a.is.below)) opens)
 
     -- all that is worthy is kept, where no attribute is circular
-    worthy : IsTrue exact → AreSpare rules (contents s) last → IsSparingTurns rules (contents s) last new → HasNoneCircular rules →
+    worthy : AreSpare rules (contents s) last → IsSparingTurns rules (contents s) last new → HasNoneCircular rules →
         HasWorthy rules (contents s) (asked_by new) end
-    worthy k spare had none =
+    worthy spare had none =
         let (one, two) = closed_plainly none in
         let p = st.plainly none in
         let circular = turn_new.answerable.basis.circular in
@@ -143,11 +143,11 @@ module _ (rules : Rules) (s : Shown) (exact : Bool) (before mid : Entries) (f m 
         (tried_plainly none) (asked_by new) (asked_among new.waiting.entries new.level new.inst p.level p.levels))
 
     -- all that is worthy and that the search has met is kept
-    worthy_met : IsTrue exact → AreSpare rules (contents s) last → IsSparingTurns rules (contents s) last new →
+    worthy_met : AreSpare rules (contents s) last → IsSparingTurns rules (contents s) last new →
         ((j : Instance ℕ) (v : Value ℕ) → IsSeenBy new j → HasValue (contents s) (meaning rules) j v → IsSome
         (known_to end last_one j)) →
         HasWorthyMet rules (contents s) (asked_by new) end
-    worthy_met k spare had told =
+    worthy_met spare had told =
         let (u, z) = search_at rules s last new turn_new in
         let gains = d.gains in
         met_kept rules s last end new last_one can_close
@@ -155,15 +155,15 @@ module _ (rules : Rules) (s : Shown) (exact : Bool) (before mid : Entries) (f m 
         (waits_met rules (class_shown s) (contents s) last new.found.entries new.inst waits i
         (subst (λ b. IsGoing rules (class_shown s) (contents s) last new.found.entries new.inst b) is
         (let l = later in l.going))) had.followed)
-        had.met had.settled spare gains.stays told (gains.settled k had.settled)
+        had.met had.settled spare gains.stays told (gains.settled had.settled)
 
-    leaves : LeavesSo {E = AllocError} rules s exact last end new last_one r
+    leaves : LeavesSo {E = AllocError} rules s last end new last_one r
     leaves = record {
       stays = stays_so r d.stays;
       last = let gains = d.gains in gains.last;
-      others = others_before rules s exact last end n o y z new last_one d.gains;
-      all = λ k spare had. all_so r d.is d.told k spare had;
-      sparing = λ k spare had. spares_so r d.is had;
+      others = others_before rules s last end n o y z new last_one d.gains;
+      all = λ spare had. all_so r d.is d.told spare had;
+      sparing = λ spare had. spares_so r d.is had;
     }
       where
         stays_so : (p : Result (Option AnswerCode) AllocError) → OnOk p (StaysOn new last_one) → OnOk p (StaysSo rules s end new last_one)
@@ -173,12 +173,12 @@ module _ (rules : Rules) (s : Shown) (exact : Bool) (before mid : Entries) (f m 
         all_so : (p : Result (Option AnswerCode) AllocError) → IfOk p (λ a. a ≡ Some (answer.Circular i)) → OnOk p
             ((j : Instance ℕ) (v : Value ℕ) →
             IsSeenBy new j → HasValue (contents s) (meaning rules) j v → IsSome (known_to end last_one j)) →
-            IsTrue exact → AreSpare rules (contents s) last →
+            AreSpare rules (contents s) last →
             IsSparingTurns rules (contents s) last new → IfOk p (λ a. IfSome a (λ b. HasWorthyFor rules (contents s) (asked_by new) (answer_view b) end))
-        all_so (Err e) same told k spare had = tt
-        all_so (Ok a) same told k spare had = subst (λ b. IfSome b (λ v. HasWorthyFor rules (contents s)
+        all_so (Err e) same told spare had = tt
+        all_so (Ok a) same told spare had = subst (λ b. IfSome b (λ v. HasWorthyFor rules (contents s)
             (asked_by new) (answer_view v) end)) (sym same)
-            (worthy k spare had, worthy_met k spare had told)
+            (worthy spare had, worthy_met spare had told)
 
         spares_so : (p : Result (Option AnswerCode) AllocError) → IfOk p (λ a. a ≡ Some (answer.Circular i)) → IsSparingTurns rules (contents s) last new →
             IfOk p (λ a. IsOfUse rules a (IsSparingTurns rules (contents s) end last_one))
@@ -191,6 +191,6 @@ module _ (rules : Rules) (s : Shown) (exact : Bool) (before mid : Entries) (f m 
     fit_so (Err e) same v = tt
     fit_so (Ok a) same v = subst (λ b. FitAfter rules s end last_one v b) (sym same) tt
 
-    pub circle_last : CanTurn rules s before old → (v : Trials) → HasTurnedOn {E = AllocError} rules s exact before end w z old last_one v r
-    circle_last turn v = goes_from rules s exact before last end f n o w y z old new t g later last_one r turn.answerable.basis
+    pub circle_last : CanTurn rules s before old → (v : Trials) → HasTurnedOn {E = AllocError} rules s before end w z old last_one v r
+    circle_last turn v = goes_from rules s before last end f n o w y z old new t g later last_one r turn.answerable.basis
         (sound_at rules s before old turn) turn.standing v d.gains leaves (turned r d.is) (fit_so r d.is v) closed_plainly

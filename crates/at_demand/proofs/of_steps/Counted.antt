@@ -1,6 +1,5 @@
 -- A turn that doesn't answer the question is counted.
-use Rattle.std.proofs.Common.{◌≡◌, ◌+◌, ◌≤◌, ℕ, suc, Bool, List, [], Option, Some, None, Result, Ok, Err, refl, sym, subst, arith}
-use Rattle.std.specs.Prelude.{IsTrue}
+use Rattle.std.proofs.Common.{◌≡◌, ◌+◌, ◌≤◌, ℕ, suc, List, [], Option, Some, None, Result, Ok, Err, refl, sym, subst, arith}
 use Rattle.std.specs.declared.alloc.AllocError.{AllocError}
 use Rattle.at_model.specs.Meaning.{Among}
 use Rattle.at_model.specs.Rules.{Rules}
@@ -75,21 +74,21 @@ fit_recount : (rules : Rules) (s : Shown) (entries : Entries) (q : Question) (n 
 fit_recount rules s entries q n frames None h = h
 fit_recount rules s entries q n frames (Some j) h = h
 
-module _ (rules : Rules) (s : Shown) (exact : Bool) (basis : IsBasis rules s) (before after : Entries) (w x : ℕ) (old new : Question) (t : Trials) where
+module _ (rules : Rules) (s : Shown) (basis : IsBasis rules s) (before after : Entries) (w x : ℕ) (old new : Question) (t : Trials) where
   -- memory is wanting
   pub broken_on : (r : Result (Option AnswerCode) AllocError) (e : AllocError) → r ≡ Err e → {Whole : Type 0} → (HasNoneCircular rules → Whole) →
-      GainsAtMost rules s exact before after w x old Whole → HasTurnedOn {E = AllocError} rules s exact before after w x old new t r
-  broken_on r e is keeps gains = subst (λ z. HasTurnedOn {E = AllocError} rules s exact before after w x old new t z) (sym is)
-      (record { counted = tt; answered = tt; gains = gains_weaker rules s exact before after w x old keeps gains })
+      GainsAtMost rules s before after w x old Whole → HasTurnedOn {E = AllocError} rules s before after w x old new t r
+  broken_on r e is keeps gains = subst (λ z. HasTurnedOn {E = AllocError} rules s before after w x old new t z) (sym is)
+      (record { counted = tt; answered = tt; gains = gains_weaker rules s before after w x old keeps gains })
 
   -- it is answered
-  pub answered_so : (gains : GainsAtMost rules s exact before after w x old (Unit {0})) (a : AnswerCode) → HasTurnedBy {E = AllocError} rules s before after old new (Ok (Some a)) →
+  pub answered_so : (gains : GainsAtMost rules s before after w x old (Unit {0})) (a : AnswerCode) → HasTurnedBy {E = AllocError} rules s before after old new (Ok (Some a)) →
       (HasNoneCircular rules → IsStanding rules s after new) →
-      (IsTrue exact → AreSpare rules (contents s) before → IsSparingTurns rules (contents s) before old →
+      (AreSpare rules (contents s) before → IsSparingTurns rules (contents s) before old →
       HasWorthyFor rules (contents s) (asked_by old) (answer_view a) after) →
-      (IsTrue exact → AreSpare rules (contents s) before → IsSparingTurns rules (contents s) before old →
+      (AreSpare rules (contents s) before → IsSparingTurns rules (contents s) before old →
       HasNoneCircular rules → IsSparingTurns rules (contents s) after new) →
-      HasTurnedOn {E = AllocError} rules s exact before after w x old new t (Ok (Some a))
+      HasTurnedOn {E = AllocError} rules s before after w x old new t (Ok (Some a))
   answered_so gains a turned standing all sparing = record {
     counted = tt;
     answered = record { turned = turned; counted = tt; standing = standing; fit = tt; all = all; sparing = sparing; gains = gains };
@@ -97,10 +96,10 @@ module _ (rules : Rules) (s : Shown) (exact : Bool) (basis : IsBasis rules s) (b
   }
 
   -- it isn't, and counts one turn more
-  module _ (gains : GainsAtMost rules s exact before after w x old (Unit {0})) (sound : AreSound rules s before) (st : IsStanding rules s before old) (turns : new.turns ≡ old.turns)
+  module _ (gains : GainsAtMost rules s before after w x old (Unit {0})) (sound : AreSound rules s before) (st : IsStanding rules s before old) (turns : new.turns ≡ old.turns)
       (turned : HasTurnedBy {E = AllocError} rules s before after old new (Ok None)) (stands : StandsSo rules s after new)
       (fit : Fit rules s after new t)
-      (sparing : IsTrue exact → AreSpare rules (contents s) before → IsSparingTurns rules (contents s) before old →
+      (sparing : AreSpare rules (contents s) before → IsSparingTurns rules (contents s) before old →
       IsSparingTurns rules (contents s) after new) where
     few : (n : ℕ) → n ≡ new.turns + 1 → (u v : Search ℕ) → StandsFor rules s before old u →
         Turned (contents s) (meaning rules) (kept_values before) u v None → n ≤ most_turns v
@@ -119,7 +118,7 @@ module _ (rules : Rules) (s : Shown) (exact : Bool) (basis : IsBasis rules s) (b
         omega (arith, e, turns, had, grows)
 
     at : (n : ℕ) → n ≡ new.turns + 1 →
-        HasTurnedWith {E = AllocError} rules s exact before after w x old (record new { turns = n }) t (Ok None)
+        HasTurnedWith {E = AllocError} rules s before after w x old (record new { turns = n }) t (Ok None)
     at n e = record {
       turned = record {
         plainly = turned.plainly;
@@ -136,8 +135,8 @@ module _ (rules : Rules) (s : Shown) (exact : Bool) (basis : IsBasis rules s) (b
         whole = stands.whole;
       };
       fit = record { chain = fit_recount rules s after new n t.frames.items t.awaited fit.chain; noted = fit.noted };
-      all = λ k spare had. tt;
-      sparing = λ k spare had. let y = sparing k spare had in
+      all = λ spare had. tt;
+      sparing = λ spare had. let y = sparing spare had in
           let f = y.followed in
           record {
             lean = y.lean;
@@ -148,9 +147,9 @@ module _ (rules : Rules) (s : Shown) (exact : Bool) (basis : IsBasis rules s) (b
       gains = gains;
     }
 
-    pub counted_so : HasTurnedOn {E = AllocError} rules s exact before after w x old new t (Ok None)
+    pub counted_so : HasTurnedOn {E = AllocError} rules s before after w x old new t (Ok None)
     counted_so = record {
-      counted = λ q is. subst (λ z. HasTurnedWith {E = AllocError} rules s exact before after w x old z t (Ok None)) (sym is.1) (at q.turns is.0);
+      counted = λ q is. subst (λ z. HasTurnedWith {E = AllocError} rules s before after w x old z t (Ok None)) (sym is.1) (at q.turns is.0);
       answered = tt;
       gains = gains;
     }

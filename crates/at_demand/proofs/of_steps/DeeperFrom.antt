@@ -1,5 +1,5 @@
 -- The last one waits for another one, of which nothing is known: that is tried at a level of its own.
-use Rattle.std.proofs.Common.{◌≡◌, ℕ, Bool, List, [], ◌∷◌, ◌++◌, Option, Some, None, Result, Ok, Err, inl, inr, refl, sym, ap, ◌∙◌, subst, append-nil}
+use Rattle.std.proofs.Common.{◌≡◌, ℕ, List, [], ◌∷◌, ◌++◌, Option, Some, None, Result, Ok, Err, inl, inr, refl, sym, ap, ◌∙◌, subst, append-nil}
 use Rattle.std.specs.Prelude.{IfOk}
 use Rattle.std.specs.Map.{keys_of, lookup}
 use Rattle.std.specs.declared.alloc.AllocError.{AllocError}
@@ -64,27 +64,27 @@ again look equation q u on = subst (λ x. ChainIsOn look equation x u) (sym on.s
 abbrev with_value : Value ℕ → Instance ℕ → Instance ℕ × Value ℕ
 with_value v i = (i, v)
 
-module _ (rules : Rules) (s : Shown) (exact : Bool) (before last : Entries) (f n : Memories) (w y : ℕ) (old q : Question) (t : Trials) (g : Going)
-    (c : IsTrying rules s exact before last f n w y old q t g) (turn : CanTurn rules s before old) (waits : Trying) (j : Instance ℕ) (is : g ≡ waits_for waits j)
+module _ (rules : Rules) (s : Shown) (before last : Entries) (f n : Memories) (w y : ℕ) (old q : Question) (t : Trials) (g : Going)
+    (c : IsTrying rules s before last f n w y old q t g) (turn : CanTurn rules s before old) (waits : Trying) (j : Instance ℕ) (is : g ≡ waits_for waits j)
     (unknown : known_to last q j ≡ None) (untried : IsTried q j → ⊥) (empty : lookup (same_instance j) q.ended.entries ≡ None)
     (reaches : Reaches (contents s) (HasValue (contents s) (meaning rules)) ((meaning rules).formula q.inst) j)
     (typed : IsWellTyped rules (class_shown s) AnyText j) where
   st : IsStanding rules s last q
-  st = standing_at rules s exact before last f n w y old q t g c
+  st = standing_at rules s before last f n w y old q t g c
 
-  gains : GainsAtMost rules s exact before last w y old (Unit {0})
-  gains = at_most rules s exact before last f n w y old q c.gains (λ none. let p = c.plainly none in chain_idle rules before last old p.1)
+  gains : GainsAtMost rules s before last w y old (Unit {0})
+  gains = at_most rules s before last f n w y old q c.gains (λ none. let p = c.plainly none in chain_idle rules before last old p.1)
 
   going : IsGoing rules (class_shown s) (contents s) last q.found.entries q.inst (waits_for waits j)
   going = subst (λ z. IsGoing rules (class_shown s) (contents s) last q.found.entries q.inst z) is c.going
 
   -- memory is wanting
-  pub deeper_fails : (new : Question) (u : Trials) (e : AllocError) → HasTurnedOn {E = AllocError} rules s exact before last w y old new u (Err e)
-  deeper_fails new u e = broken_on rules s exact turn.answerable.basis before last w y old new u (Err e) e refl (λ none. tt) gains
+  pub deeper_fails : (new : Question) (u : Trials) (e : AllocError) → HasTurnedOn {E = AllocError} rules s before last w y old new u (Err e)
+  deeper_fails new u e = broken_on rules s turn.answerable.basis before last w y old new u (Err e) e refl (λ none. tt) gains
 
   module _ (new : Question) (h : IsDeeper q new j) where
     waits_now : new.waiting.entries ≡ q.waiting.entries ++ with_level q.level q.inst ∷ []
-    waits_now = let (u, x) = stands_at rules s exact before last f n w y old q t g c in
+    waits_now = let (u, x) = stands_at rules s before last f n w y old q t g c in
         waits_new rules s last q u x j unknown reaches untried empty typed new h
 
     -- as a turn of the search, whatever was kept at first
@@ -200,15 +200,15 @@ module _ (rules : Rules) (s : Shown) (exact : Bool) (before last : Entries) (f n
           turns.fit in fit.noted);
     }
 
-    goes_deeper : (u : Trials) → IsDeeperLast q new t u waits j → HasTurnedOn {E = AllocError} rules s exact before last w y old new u (Ok None)
-    goes_deeper u d = counted_so rules s exact turn.answerable.basis before last w y old new u gains (sound_at rules s before old turn) turn.standing
+    goes_deeper : (u : Trials) → IsDeeperLast q new t u waits j → HasTurnedOn {E = AllocError} rules s before last w y old new u (Ok None)
+    goes_deeper u d = counted_so rules s turn.answerable.basis before last w y old new u gains (sound_at rules s before old turn) turn.standing
         (h.finds.turns ∙ (let stays = c.stays in stays.turns))
-        (turned_by rules s exact before last last f n n w y y old q t g c new (Ok None) (Ok None) turns)
-        stands_so (fit_on u d.frames d.awaited d.noted) (λ k spare z. spares_on (c.sparing k z))
+        (turned_by rules s before last last f n n w y y old q t g c new (Ok None) (Ok None) turns)
+        stands_so (fit_on u d.frames d.awaited d.noted) (λ spare z. spares_on (c.sparing z))
 
   -- whatever it comes to
   pub deeper_last : (new : Question) (u : Trials) (r : Result (Option AnswerCode) AllocError) → IfOk r (λ o. o ≡ None) →
-      IfOk r (λ o. IsDeeperLast q new t u waits j) → HasTurnedOn {E = AllocError} rules s exact before last w y old new u r
+      IfOk r (λ o. IsDeeperLast q new t u waits j) → HasTurnedOn {E = AllocError} rules s before last w y old new u r
   deeper_last new u (Err e) none d = deeper_fails new u e
-  deeper_last new u (Ok o) none d = subst (λ z. HasTurnedOn {E = AllocError} rules s exact before last w y old new u (Ok z)) (sym none)
+  deeper_last new u (Ok o) none d = subst (λ z. HasTurnedOn {E = AllocError} rules s before last w y old new u (Ok z)) (sym none)
       (goes_deeper new d.deeper u d)

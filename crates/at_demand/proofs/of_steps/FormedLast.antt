@@ -1,5 +1,5 @@
 -- The equation of the last one has given its formula: the search goes along behind it.
-use Rattle.std.proofs.Common.{◌≡◌, ◌<◌, ◌^◌, ℕ, Bool, None, Result, Err, inl, inr, refl, sym, subst}
+use Rattle.std.proofs.Common.{◌≡◌, ◌<◌, ◌^◌, ℕ, None, Result, Err, inl, inr, refl, sym, subst}
 use Rattle.std.specs.declared.alloc.AllocError.{AllocError}
 use Rattle.std.specs.Prelude.{Option}
 use Rattle.at_model.specs.Meaning.{Among, Reaches}
@@ -28,7 +28,7 @@ use Rattle.at_demand.proofs.of_levels.GainedBetween.{gains_nothing}
 use Rattle.at_demand.proofs.of_levels.SpoiltLast.{unseen_inst}
 use Rattle.at_demand.proofs.of_steps.TriedOn.{sound_at}
 
-module _ (rules : Rules) (s : Shown) (exact : Bool) (entries : Entries) (m : Memories) (w : ℕ) (q : Question) (t : Trials) (f : Formed)
+module _ (rules : Rules) (s : Shown) (entries : Entries) (m : Memories) (w : ℕ) (q : Question) (t : Trials) (f : Formed)
     (can : CanForm rules s entries q t f) (none : t.awaited ≡ None) (small : w < 2 ^ 64) where
   pub unseen_last : Among q.inst (seen_in q.level) → ⊥
   unseen_last = let turns = can.turns in let turn = turns.turns in
@@ -39,17 +39,17 @@ module _ (rules : Rules) (s : Shown) (exact : Bool) (entries : Entries) (m : Mem
 
   -- memory is wanting before it does
   pub form_failed : (new : Question) → new.found.entries ≡ q.found.entries → (u : Trials) (r : Result (Option Answer) AllocError) (e : AllocError) → r ≡ Err e →
-      HasFormed {E = AllocError} rules s exact entries entries m m w w q new u r
-  form_failed new same u r e is = subst (λ z. HasFormed {E = AllocError} rules s exact entries entries m m w w q new u z) (sym is) (record {
-    gains = gains_nothing rules s exact entries m w q new (let turns = can.turns in let turn = turns.turns in turn.answerable) small same;
+      HasFormed {E = AllocError} rules s entries entries m m w w q new u r
+  form_failed new same u r e is = subst (λ z. HasFormed {E = AllocError} rules s entries entries m m w w q new u z) (sym is) (record {
+    gains = gains_nothing rules s entries m w q new (let turns = can.turns in let turn = turns.turns in turn.answerable) small same;
     turned = record { plainly = λ none. tt; searched = λ first v stay st k. tt };
     fit = tt;
     leaves = record {
       stays = tt;
       last = λ i. inl refl;
       others = λ i h. inl h;
-      all = λ k spare x. tt;
-      sparing = λ k spare x. tt;
+      all = λ spare x. tt;
+      sparing = λ spare x. tt;
     };
   })
 
@@ -66,17 +66,17 @@ module _ (rules : Rules) (s : Shown) (exact : Bool) (entries : Entries) (m : Mem
     demands j reaches = let is = can.is in inl (used_met j (is.demands j reaches))
 
     pub form_along : CanGoAlong rules s entries mid t
-    form_along = can_along_behind rules s exact entries m w q t can.turns none small off mid
+    form_along = can_along_behind rules s entries m w q t can.turns none small off mid
         (ending.Formed f) h can.ends form demands
 
     pub has_formed : (after : Entries) (n : Memories) (x : ℕ) (new : Question) (u : Trials) (r : Result (Option Answer) AllocError) →
-        HasGoneAlong {E = AllocError} rules s exact entries after m n w x mid new u r → HasFormed {E = AllocError} rules s exact entries after m n w x q new u r
+        HasGoneAlong {E = AllocError} rules s entries after m n w x mid new u r → HasFormed {E = AllocError} rules s entries after m n w x q new u r
     has_formed after n x new u r g = record {
-      gains = gains_behind rules s exact entries m w q t can.turns none small off mid
+      gains = gains_behind rules s entries m w q t can.turns none small off mid
           (ending.Formed f) h can.ends form demands after n x new u r g;
-      turned = turns_behind rules s exact entries m w q t can.turns none small off mid
+      turned = turns_behind rules s entries m w q t can.turns none small off mid
           (ending.Formed f) h can.ends form demands after n x new u r g;
       fit = g.fit;
-      leaves = leaves_behind rules s exact entries m w q t can.turns none small off mid
+      leaves = leaves_behind rules s entries m w q t can.turns none small off mid
           (ending.Formed f) h can.ends form demands after n x new u r g;
     }

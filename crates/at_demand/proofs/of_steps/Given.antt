@@ -1,6 +1,5 @@
 -- What turns that follow each other come to, none of which answers the question.
 use Rattle.std.proofs.Common.{◌≡◌, ◌+◌, ◌<◌, ◌^◌, ℕ, suc, Bool, true, false, [], Option, Some, None, Result, Ok, Err, refl, sym, ap, ◌∙◌, subst, arith}
-use Rattle.std.specs.Prelude.{IsTrue}
 use Rattle.std.specs.declared.alloc.AllocError.{AllocError}
 use Rattle.at_model.specs.Rules.{Rules}
 use Rattle.at_model.specs.Run.{Instance}
@@ -37,7 +36,7 @@ use Rattle.at_demand.proofs.of_traces.Justified.{stay_justified}
 use Rattle.at_demand.proofs.of_traces.Settled.{LastKept, settled_demanded}
 
 -- So many turns were given, and the question stands.
-pub record HasGivenSo (rules : Rules) (s : Shown) (exact : Bool) (m : Memories) (first now : Entries) (w x given : ℕ) (old new : Question) : Type 0 where
+pub record HasGivenSo (rules : Rules) (s : Shown) (m : Memories) (first now : Entries) (w x given : ℕ) (old new : Question) : Type 0 where
   pub sound : AreSound rules s now
   pub plain : ArePlain rules now
   pub standing : IsStanding rules s now new
@@ -49,9 +48,9 @@ pub record HasGivenSo (rules : Rules) (s : Shown) (exact : Bool) (m : Memories) 
       × AreTurns rules s m given first u now v None × StandsFor rules s now new v
   pub worthy : AddsWorthy rules (contents s) (asked_by old) first now
   pub stays : IsThere s (asked_by old) → AreRight rules s first → AreRight rules s now
-  pub spare : IsTrue exact → AreSpare rules (contents s) first → IsSparingTurns rules (contents s) first old
+  pub spare : AreSpare rules (contents s) first → IsSparingTurns rules (contents s) first old
       → AreSpare rules (contents s) now × IsSparingTurns rules (contents s) now new
-  pub counts : IsTrue exact → Counts first now w x
+  pub counts : Counts first now w x
 
 one_up : (P : ℕ → Type 0) (n : ℕ) → P (suc n) → P (n + 1)
 one_up P n p = let e : suc n ≡ n + 1 = omega arith in subst P e p
@@ -60,9 +59,9 @@ one_up P n p = let e : suc n ≡ n + 1 = omega arith in subst P e p
 abbrev pub with_answer : ℕ → Option AnswerCode → ℕ × Option AnswerCode
 with_answer n o = (n, o)
 
-module _ (rules : Rules) (s : Shown) (exact : Bool) (m : Memories) (basis : IsBasis rules s) (first : Entries) (w : ℕ) (old : Question) where
+module _ (rules : Rules) (s : Shown) (m : Memories) (basis : IsBasis rules s) (first : Entries) (w : ℕ) (old : Question) where
   abbrev So : Entries → ℕ → ℕ → Question → Type 0
-  So now x given new = HasGivenSo rules s exact m first now w x given old new
+  So now x given new = HasGivenSo rules s m first now w x given old new
 
   pub given_none : w < 2 ^ 64 → AreSound rules s first → ArePlain rules first → IsStanding rules s first old → So first w 0 old
   given_none few sound plain st = record {
@@ -75,15 +74,15 @@ module _ (rules : Rules) (s : Shown) (exact : Bool) (m : Memories) (basis : IsBa
     searched = λ u x. (u, search_none u, turns.none first u, x);
     worthy = worthy_none rules (contents s) (asked_by old) first;
     stays = λ there right. right;
-    spare = λ k spare sparing. (spare, sparing);
-    counts = λ k. counts_none first w few;
+    spare = λ spare sparing. (spare, sparing);
+    counts = counts_none first w few;
   }
 
   -- what was kept again for the last instance
   module _ (mid : Entries) (x given : ℕ) (q : Question) (inv : So mid x given q) (new : Entries) (y : ℕ)
-      (gains : Gains rules s exact q.inst mid new [] [] x y) where
-    up : Gains rules s exact (asked_by q) mid new [] [] x y
-    up = gains_up rules s exact basis.idle (asked_by q) q.inst mid new [] [] x y
+      (gains : Gains rules s q.inst mid new [] [] x y) where
+    up : Gains rules s (asked_by q) mid new [] [] x y
+    up = gains_up rules s basis.idle (asked_by q) q.inst mid new [] [] x y
         (last_led rules s basis mid q inv.sound inv.standing) gains
 
     sound_again : AreSound rules s new
@@ -106,27 +105,27 @@ module _ (rules : Rules) (s : Shown) (exact : Bool) (m : Memories) (basis : IsBa
       worthy = worthy_both rules (contents s) (asked_by old) first mid new inv.worthy
           (subst (λ (i : Instance ℕ). AddsWorthy rules (contents s) i mid new) inv.same up.worthy);
       stays = λ there right. up.stays (subst (λ (i : Instance ℕ). IsThere s i) (sym inv.same) there) (inv.stays there right);
-      spare = λ k spare sparing.
-          let both = inv.spare k spare sparing in (gains.spare k both.0, spares_grown rules s mid new gains.worthy.stays q both.1);
-      counts = λ k. counts_more first mid new w x y (inv.counts k) (gains.counts k);
+      spare = λ spare sparing.
+          let both = inv.spare spare sparing in (gains.spare both.0, spares_grown rules s mid new gains.worthy.stays q both.1);
+      counts = counts_more first mid new w x y inv.counts gains.counts;
     }
 
   -- by memories that were these at the beginning, where turns keep again
   pub given_settled : (mid : Entries) (x given : ℕ) (q : Question) → So mid x given q → (l n : Memories) (new : Entries) (y : ℕ) → x < 2 ^ 64
-      → StayTraced m l → AreJustified rules (contents s) m → LastKept l mid → m.in_turns ≡ true → HasKeptAgain exact l n mid new x y q.inst
+      → StayTraced m l → AreJustified rules (contents s) m → LastKept l mid → m.in_turns ≡ true → HasKeptAgain l n mid new x y q.inst
       → So new y given q
   given_settled mid x given q inv l n new y few stay justified last told kept = given_again mid x given q inv new y
-      (gains_again rules s basis.idle exact l n mid new x y q.inst few
+      (gains_again rules s basis.idle l n mid new x y q.inst few
       (known_none rules (contents s) mid basis.circular inv.sound.right inv.plain)
       (stay_justified rules (contents s) m l stay justified) last kept)
-      told (again_before m l mid new stay (settled_again exact l q.inst kept.count mid new kept.settled))
-      (settled_demanded rules s basis.idle exact l (stay_justified rules (contents s) m l stay justified) q.inst kept.count mid new []
+      told (again_before m l mid new stay (settled_again l q.inst kept.count mid new kept.settled))
+      (settled_demanded rules s basis.idle l (stay_justified rules (contents s) m l stay justified) q.inst kept.count mid new []
       kept.settled (known_none rules (contents s) mid basis.circular inv.sound.right inv.plain) last)
 
   -- so it is where that is asked, and where it isn't all stayed
   pub given_asked : (mid : Entries) (x given : ℕ) (q : Question) → So mid x given q → (l n : Memories) (new : Entries) (y : ℕ) → x < 2 ^ 64
       → StayTraced m l → AreJustified rules (contents s) m → LastKept l mid → (asks : Bool) → asks ≡ m.in_turns
-      → (asks ≡ false → (new ≡ mid) × (y ≡ x)) → HasKeptAgain exact l n mid new x y q.inst → So new y given q
+      → (asks ≡ false → (new ≡ mid) × (y ≡ x)) → HasKeptAgain l n mid new x y q.inst → So new y given q
   given_asked mid x given q inv l n new y few stay justified last true is same kept =
       given_settled mid x given q inv l n new y few stay justified last (sym is) kept
   given_asked mid x given q inv l n new y few stay justified last false is same kept =
@@ -134,7 +133,7 @@ module _ (rules : Rules) (s : Shown) (exact : Bool) (m : Memories) (basis : IsBa
       subst (λ (e : Entries). So e y given q) (sym entries) (subst (λ (z : ℕ). So mid z given q) (sym work) inv)
 
   module _ (mid : Entries) (x given : ℕ) (q : Question) (inv : So mid x given q) (new : Entries) (y : ℕ) (p : Question) (t : Trials) where
-    module _ (Whole : Type 0) (g : GainsAtMost rules s exact mid new x y q Whole) where
+    module _ (Whole : Type 0) (g : GainsAtMost rules s mid new x y q Whole) where
       sound_now : AreSound rules s new
       sound_now = sound_after rules s basis mid q inv.sound inv.standing new g.right g.worthy
 
@@ -145,14 +144,14 @@ module _ (rules : Rules) (s : Shown) (exact : Bool) (m : Memories) (basis : IsBa
       stays_now : IsThere s (asked_by old) → AreRight rules s first → AreRight rules s new
       stays_now there right = g.stays (subst (λ (i : Instance ℕ). IsThere s i) (sym inv.same) there) (inv.stays there right)
 
-      spare_now : Whole → IsTrue exact → AreSpare rules (contents s) first → IsSparingTurns rules (contents s) first old → AreSpare rules (contents s) new
-      spare_now whole k spare sparing = let both = inv.spare k spare sparing in g.spare whole k both.0 both.1
+      spare_now : Whole → AreSpare rules (contents s) first → IsSparingTurns rules (contents s) first old → AreSpare rules (contents s) new
+      spare_now whole spare sparing = let both = inv.spare spare sparing in g.spare whole both.0 both.1
 
-      counts_now : IsTrue exact → Counts first new w y
-      counts_now k = counts_more first mid new w x y (inv.counts k) (g.counts k)
+      counts_now : Counts first new w y
+      counts_now = counts_more first mid new w x y inv.counts g.counts
 
     -- one turn more
-    pub given_more : HasTurnedWith {E = AllocError} rules s exact mid new x y q p t (Ok None) → So new y (given + 1) p
+    pub given_more : HasTurnedWith {E = AllocError} rules s mid new x y q p t (Ok None) → So new y (given + 1) p
     given_more e = record {
       sound = sound_now (Unit {0}) e.gains;
       plain = e.gains.plain;
@@ -176,14 +175,14 @@ module _ (rules : Rules) (s : Shown) (exact : Bool) (m : Memories) (basis : IsBa
           );
       worthy = worthy_now (Unit {0}) e.gains;
       stays = stays_now (Unit {0}) e.gains;
-      spare = λ k spare sparing. let both = inv.spare k spare sparing in (e.gains.spare tt k both.0 both.1, e.sparing k both.0 both.1);
+      spare = λ spare sparing. let both = inv.spare spare sparing in (e.gains.spare tt both.0 both.1, e.sparing both.0 both.1);
       counts = counts_now (Unit {0}) e.gains;
     }
 
     -- and the last one answers the question
     pub given_answered : (limit : ℕ) (a : AnswerCode) → given < limit →
-        HasTurnedWith {E = AllocError} rules s exact mid new x y q p t (Ok (Some a)) →
-        HasTurnedOften {E = AllocError} rules s exact m first new w y limit old p (Ok (with_answer (given + 1) (Some a)))
+        HasTurnedWith {E = AllocError} rules s mid new x y q p t (Ok (Some a)) →
+        HasTurnedOften {E = AllocError} rules s m first new w y limit old p (Ok (with_answer (given + 1) (Some a)))
     given_answered limit a less e = record {
       plainly = λ none.
           let (each, silent) = inv.plainly none in
@@ -205,8 +204,8 @@ module _ (rules : Rules) (s : Shown) (exact : Bool) (m : Memories) (basis : IsBa
       broke = λ u st. tt;
       counted = tt;
       same = tt;
-      all = λ k spare sparing. let both = inv.spare k spare sparing in
-          subst (λ i. HasWorthyFor rules (contents s) i (answer_view a) new) inv.same (e.all k both.0 both.1);
+      all = λ spare sparing. let both = inv.spare spare sparing in
+          subst (λ i. HasWorthyFor rules (contents s) i (answer_view a) new) inv.same (e.all both.0 both.1);
       answers = subst (λ i. Answers (contents s) (meaning rules) i (answer_view a)) inv.same
           (answers_right rules s basis mid q inv.sound inv.standing new p a e.turned);
       standing = e.standing;
@@ -215,7 +214,7 @@ module _ (rules : Rules) (s : Shown) (exact : Bool) (m : Memories) (basis : IsBa
       stays = stays_now (Unit {0}) e.gains;
       plain = e.gains.plain;
       spare = λ whole. spare_now (Unit {0}) e.gains tt;
-      sparing = λ k spare sparing. let both = inv.spare k spare sparing in e.sparing k both.0 both.1;
+      sparing = λ spare sparing. let both = inv.spare spare sparing in e.sparing both.0 both.1;
       counts = counts_now (Unit {0}) e.gains;
     }
       where
@@ -224,8 +223,8 @@ module _ (rules : Rules) (s : Shown) (exact : Bool) (m : Memories) (basis : IsBa
 
     -- or breaks off
     pub given_broken : (limit : ℕ) (r : Result (ℕ × Option AnswerCode) AllocError) (f : AllocError) → r ≡ Err f → given < limit →
-        {Whole : Type 0} → (HasNoneCircular rules → Whole) → GainsAtMost rules s exact mid new x y q Whole → HasTurnedOften {E = AllocError} rules s exact m first new w y limit old p r
-    given_broken limit r f is less {Whole} keeps g = subst (λ z. HasTurnedOften {E = AllocError} rules s exact m first new w y limit old p z) (sym is) (record {
+        {Whole : Type 0} → (HasNoneCircular rules → Whole) → GainsAtMost rules s mid new x y q Whole → HasTurnedOften {E = AllocError} rules s m first new w y limit old p r
+    given_broken limit r f is less {Whole} keeps g = subst (λ z. HasTurnedOften {E = AllocError} rules s m first new w y limit old p z) (sym is) (record {
       plainly = λ none. record {
         given = tt;
         each = tt;
@@ -237,7 +236,7 @@ module _ (rules : Rules) (s : Shown) (exact : Bool) (m : Memories) (basis : IsBa
           record { given = given; fewer = less; mid = mid; way = v; turns = each; last = g.last.searched v stands };
       counted = tt;
       same = tt;
-      all = λ k spare sparing. tt;
+      all = λ spare sparing. tt;
       answers = tt;
       standing = tt;
       right = g.right;
@@ -245,27 +244,27 @@ module _ (rules : Rules) (s : Shown) (exact : Bool) (m : Memories) (basis : IsBa
       stays = stays_now Whole g;
       plain = g.plain;
       spare = λ none. spare_now Whole g (keeps none);
-      sparing = λ k spare sparing. tt;
+      sparing = λ spare sparing. tt;
       counts = counts_now Whole g;
     })
 
   -- all of them were given
   pub given_all : (now : Entries) (x given limit : ℕ) (new : Question) → So now x given new → given ≡ limit →
-      HasTurnedOften {E = AllocError} rules s exact m first now w x limit old new (Ok (with_answer given None))
+      HasTurnedOften {E = AllocError} rules s m first now w x limit old new (Ok (with_answer given None))
   given_all now x given limit new inv full = record {
     plainly = λ none. let (each, silent) = inv.plainly none in record { given = (full, silent); each = each; broke = tt };
     given = λ u st. let (v, silent, each, stands) = inv.searched u st in (v, (full, silent), each, λ e. stands);
     broke = λ u st. tt;
     counted = inv.turns;
     same = inv.same;
-    all = λ k spare sparing. tt;
+    all = λ spare sparing. tt;
     answers = tt;
     standing = inv.standing;
     right = inv.sound.right;
     worthy = inv.worthy;
     stays = inv.stays;
     plain = inv.plain;
-    spare = λ whole k spare sparing. (inv.spare k spare sparing).0;
-    sparing = λ k spare sparing. (inv.spare k spare sparing).1;
+    spare = λ whole spare sparing. (inv.spare spare sparing).0;
+    sparing = λ spare sparing. (inv.spare spare sparing).1;
     counts = inv.counts;
   }

@@ -48,9 +48,9 @@ again_before m n e f stay a i = by (a i)
     by (inr (none, (t, traced, value))) = inr (none, (t, (stay i t traced).traced, value))
 
 -- one that had no entry, with the value of its trace
-again_one : (exact : Bool) (m : Memories) (e f : Entries) (i : Instance ℕ) (t : Trace) → m.traced i ≡ Some t → e i ≡ None
-    → PutsBy exact e i (Some t.value) t.reads t.uses f → KeepsAgain m e f
-again_one exact m e f i t traced absent puts j = by (same_instance i j) refl
+again_one : (m : Memories) (e f : Entries) (i : Instance ℕ) (t : Trace) → m.traced i ≡ Some t → e i ≡ None
+    → PutsBy e i (Some t.value) t.reads t.uses f → KeepsAgain m e f
+again_one m e f i t traced absent puts j = by (same_instance i j) refl
   where
     by : (b : Bool) → same_instance i j ≡ b → Comes m j e f
     by false at = inl (puts.adds j ∙ ap (λ (b : Bool). if b then Some puts.entry else e j) at)
@@ -63,14 +63,14 @@ again_one exact m e f i t traced absent puts j = by (same_instance i j) refl
         )
 
 -- so all came that was settled
-pub settled_again : (exact : Bool) (m : Memories) (q : Instance ℕ) (n : ℕ) (e f : Entries) → Settled exact m q n e f → KeepsAgain m e f
-settled_again exact m q _ e _ (nothing _) = again_none m e
-settled_again exact m q _ e f (one_more n _ mid _ i t before next traced absent all puts) = again_then m e mid f
-    (settled_again exact m q n e mid before) (again_one exact m mid f i t traced absent puts)
+pub settled_again : (m : Memories) (q : Instance ℕ) (n : ℕ) (e f : Entries) → Settled m q n e f → KeepsAgain m e f
+settled_again m q _ e _ (nothing _) = again_none m e
+settled_again m q _ e f (one_more n _ mid _ i t before next traced absent all puts) = again_then m e mid f
+    (settled_again m q n e mid before) (again_one m mid f i t traced absent puts)
 
 -- where nothing is done, too
-pub kept_nothing : (exact : Bool) (m : Memories) (e : Entries) (w : ℕ) (q : Instance ℕ) → w < 2 ^ 64 → HasKeptAgain exact m m e e w w q
-kept_nothing exact m e w q few = record {
+pub kept_nothing : (m : Memories) (e : Entries) (w : ℕ) (q : Instance ℕ) → w < 2 ^ 64 → HasKeptAgain m m e e w w q
+kept_nothing m e w q few = record {
   count = 0;
   settled = nothing e;
   counts = omega (arith, few);
@@ -79,10 +79,10 @@ kept_nothing exact m e w q few = record {
 }
 
 -- and it is right, and worthy of the instance
-pub gains_again : (rules : Rules) (s : Shown) → IsIdle s → (exact : Bool) (m n : Memories) (e f : Entries) (w x : ℕ) (q : Instance ℕ)
+pub gains_again : (rules : Rules) (s : Shown) → IsIdle s → (m n : Memories) (e f : Entries) (w x : ℕ) (q : Instance ℕ)
     → w < 2 ^ 64 → AreKnown rules (contents s) e [] → AreJustified rules (contents s) m → LastKept m e
-    → HasKeptAgain exact m n e f w x q → Gains rules s exact q e f [] [] w x
-gains_again rules s idle exact m n e f w x q few known justified last h = settled_gains rules s idle exact m justified q h.count e f [] w x
+    → HasKeptAgain m n e f w x q → Gains rules s q e f [] [] w x
+gains_again rules s idle m n e f w x q few known justified last h = settled_gains rules s idle m justified q h.count e f [] w x
     h.settled few h.counts known last
 
 -- what had an entry has it still

@@ -96,13 +96,13 @@ pub told_ended : (q : Question) (i : Instance ℕ) → Among i (keys_of q.ended.
 told_ended q i key e = subst (λ es. Among i (keys_of es)) e key
 
 -- what is known of an instance is noted so that it is right
-pub noted_after : (rules : Rules) (s : Shown) (exact : Bool) (before after : Entries) (former latter : Memories)
+pub noted_after : (rules : Rules) (s : Shown) (before after : Entries) (former latter : Memories)
     (earlier later : ℕ) (old new : Question)
-    (i : Instance ℕ) (r : Result Resolved AllocError) → HasResolved {E = AllocError} rules s exact before after former
+    (i : Instance ℕ) (r : Result Resolved AllocError) → HasResolved {E = AllocError} rules s before after former
     latter earlier later old new i r →
     (t u : Trials) → IsNotedRight rules (contents s) t.noted.entries → NotesTold r i t u → IsNotedRight rules
     (contents s) u.noted.entries
-noted_after rules s exact before after former latter earlier later old new i r h t u right n = elim n.noted [
+noted_after rules s before after former latter earlier later old new i r h t u right n = elim n.noted [
   | inl same ↦ subst (λ ps. IsNotedRight rules (contents s) ps) (sym same) right
   | inr (f, is, noted) ↦ noted_more rules (contents s) t.noted.entries u.noted.entries i f right (by f is) noted
 ]

@@ -60,7 +60,7 @@ again look equation q u on = subst (λ x. ChainIsOn look equation x u) (sym on.s
 no_answer : (a : AnswerCode) → Some a ≡ None → ⊥
 no_answer a e = cc
 
-module _ (rules : Rules) (s : Shown) (exact : Bool) (basis : IsBasis rules s) (entries : Entries) (w : ℕ) (few : w < 2 ^ 64) (plain : ArePlain rules entries)
+module _ (rules : Rules) (s : Shown) (basis : IsBasis rules s) (entries : Entries) (w : ℕ) (few : w < 2 ^ 64) (plain : ArePlain rules entries)
     (sound : AreSound rules s entries) (old : Question) (st : IsStanding rules s entries old) (level : old.level ≡ None) (v : ValueCode)
     (kept : kept_values entries old.inst ≡ Some (value_view v)) (new : Question) (t : Trials) where
   has : HasValue (contents s) (meaning rules) old.inst (value_view v)
@@ -162,10 +162,10 @@ module _ (rules : Rules) (s : Shown) (exact : Bool) (basis : IsBasis rules s) (e
         (subst (λ i. AreTrials rules (class_shown s) (contents s) entries old.found.entries old.waiting.entries i
         frames) at_root fit))
 
-    pub passes_on : Fit rules s entries new t → HasTurnedOn {E = AllocError} rules s exact entries entries w w old new
+    pub passes_on : Fit rules s entries new t → HasTurnedOn {E = AllocError} rules s entries entries w w old new
         t (Ok None)
-    passes_on fit = counted_so rules s exact basis entries entries w w old new t
-        (gains_none rules s exact entries w few old sound.right plain) sound st r.turns turned so fit (λ k spare x.
+    passes_on fit = counted_so rules s basis entries entries w w old new t
+        (gains_none rules s entries w few old sound.right plain) sound st r.turns turned so fit (λ spare x.
         sparing x)
 
   -- or that answers the question
@@ -186,35 +186,35 @@ module _ (rules : Rules) (s : Shown) (exact : Bool) (basis : IsBasis rules s) (e
         (Some (Outcomes (Finds (value_view v))))) (sym (way_stays rules s entries old new r))
         (chain.finds (value_view v) (ap keys_of alone) (has_plainly none) (inl kept))
 
-    pub ends_on : HasTurnedOn {E = AllocError} rules s exact entries entries w w old new t (Ok (Some (answer.Value v)))
-    ends_on = answered_so rules s exact basis entries entries w w old new t (gains_none rules s exact entries w few old sound.right plain)
+    pub ends_on : HasTurnedOn {E = AllocError} rules s entries entries w w old new t (Ok (Some (answer.Value v)))
+    ends_on = answered_so rules s basis entries entries w w old new t (gains_none rules s entries w few old sound.right plain)
         (answer.Value v)
         (record { plainly = chain_ends; searched = λ u x. (u, ends u x, λ e. absurd (no_answer (answer.Value v) e)) })
         (λ none. standing_same rules s entries old new r st)
-        (λ k spare x. subst (λ i. HasWorthyFor rules (contents s) i (Outcomes (Finds (value_view v))) entries) (sym first_is)
+        (λ spare x. subst (λ i. HasWorthyFor rules (contents s) i (Outcomes (Finds (value_view v))) entries) (sym first_is)
         (asked_kept rules (contents s) old.inst entries (is_there (kept_values entries old.inst) (value_view v) kept) spare.deep))
-        (λ k spare x none. sparing_same rules s entries old new r x)
+        (λ spare x none. sparing_same rules s entries old new r x)
 
   -- whatever it comes to, where these fit without the trial of the last one
   module _ (mid : Trials) (fit : FitAt rules s entries old mid.frames.items None) (noted : IsNotedRight rules
       (contents s) mid.noted.entries)
       (await : AwaitsLast old mid t) where
-    passed_on : (o : Option AnswerCode) → HasPassedOn old v new o → HasTurnedOn {E = AllocError} rules s exact entries
+    passed_on : (o : Option AnswerCode) → HasPassedOn old v new o → HasTurnedOn {E = AllocError} rules s entries
         entries w w old new t (Ok o)
     passed_on None r = passes_on r (subst (λ (z : Trials). Fit rules s entries new z) (sym await)
         (record { chain = fit_passed r mid.frames.items fit; noted = noted }))
-    passed_on (Some a) r = subst (λ b. HasTurnedOn {E = AllocError} rules s exact entries entries w w old new t (Ok
+    passed_on (Some a) r = subst (λ b. HasTurnedOn {E = AllocError} rules s entries entries w w old new t (Ok
         (Some b))) (sym r.is)
         (ends_on r.same r.alone)
 
   -- or memory is wanting
   pub passed_over : (u : Trials) → Fit rules s entries old u → (r : Result (Option AnswerCode) AllocError) → IfOk r
       (IsPassedOver old new u t v) →
-      HasTurnedOn {E = AllocError} rules s exact entries entries w w old new t r
+      HasTurnedOn {E = AllocError} rules s entries entries w w old new t r
   passed_over u fit (Ok o) (mid, ended, (passed, await)) = passed_on mid (ended_fit rules s entries old u mid ended fit)
       (noted_same rules (contents s) u.noted.entries mid.noted.entries ended.noted fit.noted) await o passed
-  passed_over u fit (Err e) h = broken_on rules s exact basis entries entries w w old new t (Err e) e refl
-      (λ none. none) (gains_none rules s exact entries w few old sound.right plain)
+  passed_over u fit (Err e) h = broken_on rules s basis entries entries w w old new t (Err e) e refl
+      (λ none. none) (gains_none rules s entries w few old sound.right plain)
 
 -- a level that is none
 pub none_is : (d : LevelCode) (b : Bool) → is_some d ≡ not b → b ≡ true → d ≡ None

@@ -286,7 +286,7 @@ module _ (rules : Rules) (s : Shown) (before after : Entries) (old new : Questio
       whole = whole;
     }
 
-    -- with an exact keeper it spares still
+    -- it spares still
     pub spares_risen : AreLean rules (contents s) new.found.entries → AreSettled rules after new.found.entries →
         IsSparingTurns rules (contents s) before old → IsSparingTurns rules (contents s) after new
     spares_risen lean settled z = record {

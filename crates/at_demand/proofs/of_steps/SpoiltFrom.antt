@@ -1,6 +1,6 @@
 -- A turn whose last equation has ended, behind what was told meanwhile.
-use Rattle.std.proofs.Common.{◌≡◌, ◌⊎◌, ℕ, Bool, [], Option, Result, Ok, Err, inl, inr, sym, ◌∙◌, subst}
-use Rattle.std.specs.Prelude.{IfOk, IfSome, IsSome, IsTrue, OnOk}
+use Rattle.std.proofs.Common.{◌≡◌, ◌⊎◌, ℕ, [], Option, Result, Ok, Err, inl, inr, sym, ◌∙◌, subst}
+use Rattle.std.specs.Prelude.{IfOk, IfSome, IsSome, OnOk}
 use Rattle.std.specs.Option.{option_map}
 use Rattle.std.specs.declared.alloc.AllocError.{AllocError}
 use Rattle.at_model.specs.Rules.{Rules}
@@ -33,20 +33,20 @@ use Rattle.at_demand.proofs.of_levels.Resolving.{either_known}
 use Rattle.at_demand.proofs.of_steps.Along.{turned_along}
 use Rattle.at_demand.proofs.of_steps.TryUnderWay.{IsTrying, with_told}
 
-module _ (rules : Rules) (s : Shown) (exact : Bool) (before mid last : Entries) (f m n : Memories) (w x y : ℕ) (old q : Question) (t : Trials) (g : Going)
-    (c : IsTrying rules s exact before mid f m w x old q t g) (new : Question) (r : Result (Option AnswerCode) AllocError) where
-  gained : GainsBetween rules s exact before mid f m w x old q (Unit {0})
+module _ (rules : Rules) (s : Shown) (before mid last : Entries) (f m n : Memories) (w x y : ℕ) (old q : Question) (t : Trials) (g : Going)
+    (c : IsTrying rules s before mid f m w x old q t g) (new : Question) (r : Result (Option AnswerCode) AllocError) where
+  gained : GainsBetween rules s before mid f m w x old q (Unit {0})
   gained = c.gains
 
   early : (i : Instance ℕ) → WasSeenBy q i → WasSeenBy old i
   early i (inl a) = c.levels i a
   early i (inr k) = c.ended i k
 
-  spare_then : IsTrue exact → AreSpare rules (contents s) before → IsSparingTurns rules (contents s) before old → AreSpare rules (contents s) mid
-  spare_then k spare z = gained.spare tt k spare z.lean z.settled
+  spare_then : AreSpare rules (contents s) before → IsSparingTurns rules (contents s) before old → AreSpare rules (contents s) mid
+  spare_then spare z = gained.spare tt spare z.lean z.settled
 
   -- what it leaves
-  leaves_from : KeepsEntries mid last → LeavesSo {E = AllocError} rules s exact mid last q new r → LeavesSo {E = AllocError} rules s exact before last old new r
+  leaves_from : KeepsEntries mid last → LeavesSo {E = AllocError} rules s mid last q new r → LeavesSo {E = AllocError} rules s before last old new r
   leaves_from keeps l = record {
     stays = stays_on r l.stays;
     last = λ i. elim (l.last i) [
@@ -54,7 +54,7 @@ module _ (rules : Rules) (s : Shown) (exact : Bool) (before mid last : Entries) 
       | inr d ↦ inr (early i d.0, d.1, d.2)
     ];
     others = λ i some. elim (l.others i some) [
-      | inl b ↦ elim (others_before rules s exact before mid f m w x old q c.gains i b) [
+      | inl b ↦ elim (others_before rules s before mid f m w x old q c.gains i b) [
         | inl a ↦ inl a
         | inr d ↦ inr (elim d [ inl k ↦ inl (kept_on mid last keeps i k) | inr e ↦ inr e ])
       ]
@@ -63,9 +63,9 @@ module _ (rules : Rules) (s : Shown) (exact : Bool) (before mid last : Entries) 
         | inr e ↦ elim e [ inl found ↦ was_found i found | inr seen ↦ inr (inr (inr (early i seen))) ]
       ]
     ];
-    all = λ k spare z. subst (λ i. IfOk r (λ o. IfSome o (λ a. HasWorthyFor rules (contents s) i (answer_view a) last))) c.asked
-        (l.all k (spare_then k spare z) (c.sparing k z));
-    sparing = λ k spare z. l.sparing k (spare_then k spare z) (c.sparing k z);
+    all = λ spare z. subst (λ i. IfOk r (λ o. IfSome o (λ a. HasWorthyFor rules (contents s) i (answer_view a) last))) c.asked
+        (l.all (spare_then spare z) (c.sparing z));
+    sparing = λ spare z. l.sparing (spare_then spare z) (c.sparing z);
   }
     where
       stays_on : (p : Result (Option AnswerCode) AllocError) → OnOk p (StaysSo rules s last q new) → OnOk p (StaysSo rules s last old new)
@@ -97,19 +97,19 @@ module _ (rules : Rules) (s : Shown) (exact : Bool) (before mid last : Entries) 
 
   module _ (basis : IsBasis rules s) (sound : AreSound rules s before) (st : IsStanding rules s before old) (v : Trials) where
     -- what goes on from there so
-    pub goes_from : GainsBetween rules s exact mid last m n x y q new (KeepsGroups rules r) → LeavesSo {E = AllocError} rules s exact mid last q new r →
+    pub goes_from : GainsBetween rules s mid last m n x y q new (KeepsGroups rules r) → LeavesSo {E = AllocError} rules s mid last q new r →
         TurnsBy {E = AllocError} rules s mid last q new r → IfOk r (FitAfter rules s last new v) → (HasNoneCircular rules → (new ≡ q) × (last ≡ mid)) →
-        HasTurnedOn {E = AllocError} rules s exact before last w y old new v r
-    goes_from gains leaves turned fit plainly = turned_along rules s exact before last f n w y old new r
-        (gains_then rules s exact before mid last f m n w x y old q new c.gains gains c.asked c.levels c.ended)
+        HasTurnedOn {E = AllocError} rules s before last w y old new v r
+    goes_from gains leaves turned fit plainly = turned_along rules s before last f n w y old new r
+        (gains_then rules s before mid last f m n w x y old q new c.gains gains c.asked c.levels c.ended)
         (leaves_from gains.stays leaves) plainly_on basis sound st v fit (turned_by r turned)
       where
         plainly_on : HasNoneCircular rules → (new ≡ old) × (last ≡ before)
         plainly_on none = let (same, kept) = c.plainly none in let (one, two) = plainly none in (one ∙ same, two ∙ kept)
 
     -- a fault
-    pub spoilt_from : (fault : Fault) → HasSpoilt {E = AllocError} rules s exact mid last m n x y q new v fault r →
-        HasTurnedOn {E = AllocError} rules s exact before last w y old new v r
+    pub spoilt_from : (fault : Fault) → HasSpoilt {E = AllocError} rules s mid last m n x y q new v fault r →
+        HasTurnedOn {E = AllocError} rules s before last w y old new v r
     spoilt_from fault h = goes_from h.gains h.leaves h.turned h.fit (λ none. h.plainly (none_ended none))
       where
         none_ended : HasNoneCircular rules → q.ended.entries ≡ []

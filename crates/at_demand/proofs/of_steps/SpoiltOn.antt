@@ -1,5 +1,5 @@
 -- The equation of the last one has a fault: its own, or that of what it waits for.
-use Rattle.std.proofs.Common.{◌≡◌, ◌⊎◌, ℕ, Bool, [], Ok, inl, inr, sym, subst}
+use Rattle.std.proofs.Common.{◌≡◌, ◌⊎◌, ℕ, [], Ok, inl, inr, sym, subst}
 use Rattle.std.specs.Map.{keys_of}
 use Rattle.std.specs.declared.alloc.AllocError.{AllocError}
 use Rattle.at_model.specs.Meaning.{Among, Faults, Reaches}
@@ -29,8 +29,8 @@ use Rattle.at_demand.proofs.of_steps.TriedOn.{standing_at, tries_on}
 use Rattle.at_demand.proofs.of_steps.TryUnderWay.{IsTrying}
 use Rattle.at_demand.proofs.of_steps.WaitsMet.{waits_met}
 
-module _ (rules : Rules) (s : Shown) (exact : Bool) (before mid : Entries) (f m : Memories) (w x : ℕ) (old q : Question) (t : Trials) (g : Going)
-    (c : IsTrying rules s exact before mid f m w x old q t g) where
+module _ (rules : Rules) (s : Shown) (before mid : Entries) (f m : Memories) (w x : ℕ) (old q : Question) (t : Trials) (g : Going)
+    (c : IsTrying rules s before mid f m w x old q t g) where
   -- its own
   pub can_fail : (fault : Fault) → fault.at ≡ q.inst → EndsSo (contents s) (meaning rules) q.inst (Spoilt (fault_view fault.kind) q.inst) →
       HasMetAll rules (contents s) mid q.found.entries q.inst → CanSpoil rules s mid q t fault
@@ -44,10 +44,10 @@ module _ (rules : Rules) (s : Shown) (exact : Bool) (before mid : Entries) (f m 
 
   -- or that of what it waits for
   module _ (last : Entries) (n : Memories) (y : ℕ) (new : Question) (i : Instance ℕ) (fault : Fault)
-      (h : HasResolved {E = AllocError} rules s exact mid last m n x y q new i (Ok (resolved.Spoilt fault))) (waits : Trying) (is : g ≡ waits_for waits i)
+      (h : HasResolved {E = AllocError} rules s mid last m n x y q new i (Ok (resolved.Spoilt fault))) (waits : Trying) (is : g ≡ waits_for waits i)
       (demands : Reaches (contents s) (HasValue (contents s) (meaning rules)) ((meaning rules).formula q.inst) i) where
-    later : IsTrying rules s exact before last f n w y old new t g
-    later = tries_on rules s exact before mid f m w x old q t g c last n y new i (resolved.Spoilt fault) h waits i is
+    later : IsTrying rules s before last f n w y old new t g
+    later = tries_on rules s before mid f m w x old q t g c last n y new i (resolved.Spoilt fault) h waits i is
 
     told : Holds (contents s) (meaning rules) i (Faults (fault_view fault.kind) fault.at) × Among i (keys_of new.ended.entries)
     told = h.is
@@ -74,7 +74,7 @@ module _ (rules : Rules) (s : Shown) (exact : Bool) (before mid : Entries) (f m 
     can_spoil = record {
       turns = let l = later in l.turns;
       none = let l = later in l.none;
-      own = λ none. absurd (some_ended (let st = standing_at rules s exact before mid f m w x old q t g c in let p = st.plainly none in p.ended));
+      own = λ none. absurd (some_ended (let st = standing_at rules s before mid f m w x old q t g c in let p = st.plainly none in p.ended));
       followed = followed;
       ends = ends_so;
     }

@@ -1,5 +1,5 @@
 -- What a try of the last one lets come to what is kept: no more than a turn may.
-use Rattle.std.proofs.Common.{◌≡◌, ◌⊎◌, ℕ, zero, suc, Bool, true, List, [], ◌∷◌, ◌++◌, slice_get, Some, None, Result, inl, inr, sym, ap, subst, append-nil}
+use Rattle.std.proofs.Common.{◌≡◌, ◌⊎◌, ℕ, zero, suc, true, List, [], ◌∷◌, ◌++◌, slice_get, Some, None, Result, inl, inr, sym, ap, subst, append-nil}
 use Rattle.std.specs.Prelude.{IsSome}
 use Rattle.std.specs.declared.alloc.AllocError.{AllocError}
 use Rattle.at_model.specs.Meaning.{Among, Finds, Outcome}
@@ -98,9 +98,9 @@ was_found rules s before last old u st i (v, e) = elim (st.is.known i v e) [
 ]
 
 -- what came between two tries is no more than a turn may let come
-module _ {Whole : Type 0} (rules : Rules) (s : Shown) (exact : Bool) (before last : Entries) (f l : Memories) (w y : ℕ) (old any : Question)
-    (b : GainsBetween rules s exact before last f l w y old any Whole) where
-  pub at_most : (HasNoneCircular rules → GainsInChain rules before last (under_way old)) → GainsAtMost rules s exact before last w y old Whole
+module _ {Whole : Type 0} (rules : Rules) (s : Shown) (before last : Entries) (f l : Memories) (w y : ℕ) (old any : Question)
+    (b : GainsBetween rules s before last f l w y old any Whole) where
+  pub at_most : (HasNoneCircular rules → GainsInChain rules before last (under_way old)) → GainsAtMost rules s before last w y old Whole
   at_most chain = record {
     right = b.right;
     stays = b.there;
@@ -109,7 +109,7 @@ module _ {Whole : Type 0} (rules : Rules) (s : Shown) (exact : Bool) (before las
       plainly = chain;
       searched = λ u st. record {
         last = λ i. elim (b.last i) [ inl e ↦ inl e | inr d ↦ inr (may rules s before old u st i d.0, d.1, d.2) ];
-        others = λ i some. elim (others_before rules s exact before last f l w y old any b i some) [
+        others = λ i some. elim (others_before rules s before last f l w y old any b i some) [
           | inl a ↦ inl a
           | inr d ↦ elim d [
             | inl k ↦ inr (inl k)
@@ -122,21 +122,21 @@ module _ {Whole : Type 0} (rules : Rules) (s : Shown) (exact : Bool) (before las
       };
     };
     worthy = b.worthy;
-    spare = λ whole k spare z. b.spare whole k spare z.lean z.settled;
+    spare = λ whole spare z. b.spare whole spare z.lean z.settled;
     counts = b.counts;
   }
 
-module _ (rules : Rules) (s : Shown) (exact : Bool) (before mid last : Entries) (f m l : Memories) (w x y : ℕ) (old q : Question) (t : Trials) (g : Going)
-    (c : IsTrying rules s exact before mid f m w x old q t g) (r : Result Tried AllocError)
-    (h : HasCarriedOn {E = AllocError} rules s exact mid last x y q.found.entries q.inst r) (traced : PutsInTurns m l) where
+module _ (rules : Rules) (s : Shown) (before mid last : Entries) (f m l : Memories) (w x y : ℕ) (old q : Question) (t : Trials) (g : Going)
+    (c : IsTrying rules s before mid f m w x old q t g) (r : Result Tried AllocError)
+    (h : HasCarriedOn {E = AllocError} rules s mid last x y q.found.entries q.inst r) (traced : PutsInTurns m l) where
   grows : MayGain rules q.found.entries mid last q.inst
   grows = h.gains
 
   led : Leads (contents s) (meaning rules) (asked_by q) q.inst
   led =
-      let answerable = answerable_at rules s exact before mid f m w x old q t g c in
-      last_led rules s answerable.basis mid q (sound_at rules s mid q (turn_at rules s exact before mid f m w x old q t g c))
-      (standing_at rules s exact before mid f m w x old q t g c)
+      let answerable = answerable_at rules s before mid f m w x old q t g c in
+      last_led rules s answerable.basis mid q (sound_at rules s mid q (turn_at rules s before mid f m w x old q t g c))
+      (standing_at rules s before mid f m w x old q t g c)
 
   found_there : IsThere s (asked_by q) → AreRight rules s mid → AreThere rules s q.found.entries
   found_there asked right i found = by (there (known_to mid q i) (known_as_found mid q.found.entries i found))
@@ -144,14 +144,14 @@ module _ (rules : Rules) (s : Shown) (exact : Bool) (before mid last : Entries) 
       place : IsKept mid i ⊎ Leads (contents s) (meaning rules) (asked_by q) i → IsThere s i
       place (inl k) = let (z, at) = there (mid i) (entered mid i k) in right.there i z at
       place (inr d) =
-          let answerable = answerable_at rules s exact before mid f m w x old q t g c in
+          let answerable = answerable_at rules s before mid f m w x old q t g c in
           led_there rules s answerable.basis.idle (asked_by q) i asked d
 
       by : ((v : Value ℕ) × (known_to mid q i ≡ Some v)) → IsThere s i × ((v : Value ℕ) × HasValue (contents s) (meaning rules) i v)
       by (v, e) =
-          let (u, st) = stands_at rules s exact before mid f m w x old q t g c in
+          let (u, st) = stands_at rules s before mid f m w x old q t g c in
           let facts = st.facts in
-          (place (held_at rules s exact before mid f m w x old q t g c i (is_there (known_to mid q i) v e)), (v, facts.values i v e))
+          (place (held_at rules s before mid f m w x old q t g c i (is_there (known_to mid q i) v e)), (v, facts.values i v e))
 
   seen_last : (i : Instance ℕ) → q.inst ≡ i → WasSeenBy q i
   seen_last i e = inl (inl (sym e))
@@ -172,13 +172,13 @@ module _ (rules : Rules) (s : Shown) (exact : Bool) (before mid last : Entries) 
       record { reached = leads_on (contents s) (meaning rules) (asked_by q) q.inst i led z.reached; lazy = z.lazy; value = z.value; has = z.has }
 
   -- of the try itself
-  pub carried : {Whole : Type 0} → GainsBetween rules s exact mid last m l x y q q Whole
+  pub carried : {Whole : Type 0} → GainsBetween rules s mid last m l x y q q Whole
   carried = record {
     stays = grows.stays;
     finds = ([], sym (append-nil q.found.entries));
     right = h.right;
     there = λ asked right.
-        let answerable = answerable_at rules s exact before mid f m w x old q t g c in
+        let answerable = answerable_at rules s before mid f m w x old q t g c in
         h.stays (led_there rules s answerable.basis.idle (asked_by q) q.inst asked led) (found_there asked right) right;
     plain = h.plain;
     sound = λ z. record { whole = z.whole; took = λ i d e. valued_on mid last grows.stays d.demanded.kept.items (z.took i d e) };
@@ -192,17 +192,17 @@ module _ (rules : Rules) (s : Shown) (exact : Bool) (before mid last : Entries) 
       | inr d ↦ elim d [ inl e ↦ inr (inl e.1) | inr found ↦ inr (inr found) ]
     ];
     worthy = record { stays = grows.stays; worthy = worth };
-    spare = λ whole k spare lean settled. h.spare k spare lean settled;
-    lean = λ k z. z;
-    settled = λ k z p i d e. let y = z p i d e in
+    spare = λ whole spare lean settled. h.spare spare lean settled;
+    lean = λ z. z;
+    settled = λ z p i d e. let y = z p i d e in
         record { lazy = λ a. kept_on mid last grows.stays i (y.lazy a); took = λ j a. entered_on mid last grows.stays j (y.took j a) };
     counts = h.counts;
     traces = traced;
   }
 
   -- and of all since the turn began
-  pub carried_all : {Whole : Type 0} → GainsBetween rules s exact before last f l w y old q Whole
-  carried_all = gains_then rules s exact before mid last f m l w x y old q q c.gains carried c.asked c.levels c.ended
+  pub carried_all : {Whole : Type 0} → GainsBetween rules s before last f l w y old q Whole
+  carried_all = gains_then rules s before mid last f m l w x y old q q c.gains carried c.asked c.levels c.ended
 
   in_chain : HasNoneCircular rules → GainsInChain rules before last (under_way old)
   in_chain none = let (same, kept) = c.plainly none in
@@ -214,8 +214,8 @@ module _ (rules : Rules) (s : Shown) (exact : Bool) (before mid last : Entries) 
         ];
       }))
 
-  pub carried_most : {Whole : Type 0} → GainsAtMost rules s exact before last w y old Whole
-  carried_most = at_most rules s exact before last f l w y old q carried_all in_chain
+  pub carried_most : {Whole : Type 0} → GainsAtMost rules s before last w y old Whole
+  carried_most = at_most rules s before last f l w y old q carried_all in_chain
 
 -- nothing came where no attribute is circular
 pub chain_idle : (rules : Rules) (before last : Entries) (q : Question) → last ≡ before → GainsInChain rules before last (under_way q)

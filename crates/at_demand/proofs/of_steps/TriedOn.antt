@@ -1,6 +1,6 @@
 -- A try of the last one begins, and goes on once more is known of what it waits for.
-use Rattle.std.proofs.Common.{◌≡◌, ◌⊎◌, ◌<◌, ◌^◌, ℕ, Bool, List, ◌∷◌, ◌++◌, Option, Some, None, Ok, inl, inr, refl, sym, ap, ◌∙◌, subst}
-use Rattle.std.specs.Prelude.{IsSome, IsTrue}
+use Rattle.std.proofs.Common.{◌≡◌, ◌⊎◌, ◌<◌, ◌^◌, ℕ, List, ◌∷◌, ◌++◌, Option, Some, None, Ok, inl, inr, refl, sym, ap, ◌∙◌, subst}
+use Rattle.std.specs.Prelude.{IsSome}
 use Rattle.std.specs.Map.{keys_of}
 use Rattle.std.specs.declared.alloc.AllocError.{AllocError}
 use Rattle.at_model.specs.Meaning.{Among, Finds, Outcome}
@@ -87,10 +87,10 @@ module _ (rules : Rules) (s : Shown) (entries : Entries) (q : Question) (turn : 
   resolves_at = let (u, st) = search_at in record { answerable = turn.answerable; facts = st.facts; finds = finds_at; whole = st.whole }
 
 -- It begins.
-pub begins_trying : (rules : Rules) (s : Shown) (exact : Bool) (entries : Entries) (m : Memories) (w : ℕ) (q : Question) (v : Trials) →
+pub begins_trying : (rules : Rules) (s : Shown) (entries : Entries) (m : Memories) (w : ℕ) (q : Question) (v : Trials) →
     CanTryLast rules s entries q v → w < 2 ^ 64 → (t : Trials) → t.awaited ≡ None → Fit rules s entries q t → (g : Going) →
-    IsGoing rules (class_shown s) (contents s) entries q.found.entries q.inst g → IsTrying rules s exact entries entries m m w w q q t g
-begins_trying rules s exact entries m w q v can small t none fit g going =
+    IsGoing rules (class_shown s) (contents s) entries q.found.entries q.inst g → IsTrying rules s entries entries m m w w q q t g
+begins_trying rules s entries m w q v can small t none fit g going =
     let turns = can.turns in
     let turn = turns.turns in
     let (u, st) = search_at rules s entries q turn in
@@ -100,9 +100,9 @@ begins_trying rules s exact entries m w q v can small t none fit g going =
       unknown = unknown_last rules s entries q u st can.unkept;
       none = none;
       going = going;
-      gains = gains_nothing rules s exact entries m w q q turn.answerable small refl;
+      gains = gains_nothing rules s entries m w q q turn.answerable small refl;
       stays = stays_same q;
-      sparing = λ k z. z;
+      sparing = λ z. z;
       asked = refl;
       levels = λ i a. inl a;
       ended = λ i k. inr k;
@@ -110,14 +110,14 @@ begins_trying rules s exact entries m w q v can small t none fit g going =
       plainly = λ none. (refl, refl);
     }
 
-module _ (rules : Rules) (s : Shown) (exact : Bool) (before mid : Entries) (f m : Memories) (w x : ℕ) (old q : Question) (t : Trials) (g : Going)
-    (c : IsTrying rules s exact before mid f m w x old q t g) where
+module _ (rules : Rules) (s : Shown) (before mid : Entries) (f m : Memories) (w x : ℕ) (old q : Question) (t : Trials) (g : Going)
+    (c : IsTrying rules s before mid f m w x old q t g) where
   -- it has come to where it waits, and nothing is kept since
   pub waits_trying : (after : Entries) (l : Memories) (y : ℕ) → PutsInTurns m l → after ≡ mid → y ≡ x → (h : Going) →
-      IsGoing rules (class_shown s) (contents s) mid q.found.entries q.inst h → IsTrying rules s exact before after f l w y old q t h
+      IsGoing rules (class_shown s) (contents s) mid q.found.entries q.inst h → IsTrying rules s before after f l w y old q t h
   waits_trying after l y traced same counted h going =
-      subst (λ es. IsTrying rules s exact before es f l w y old q t h) (sym same)
-      (subst (λ z. IsTrying rules s exact before mid f l w z old q t h) (sym counted) (record {
+      subst (λ es. IsTrying rules s before es f l w y old q t h) (sym same)
+      (subst (λ z. IsTrying rules s before mid f l w z old q t h) (sym counted) (record {
         turns = c.turns;
         unkept = c.unkept;
         unknown = c.unknown;
@@ -177,17 +177,17 @@ module _ (rules : Rules) (s : Shown) (exact : Bool) (before mid : Entries) (f m 
 
   -- more was told, of what it waits for, and what leads to that
   module _ {Whole : Type 0} (last : Entries) (n : Memories) (y : ℕ) (new : Question)
-      (h : Tells rules s exact mid last m n x y q new (under (all_levels q)) Whole) where
-    told_gains : GainsBetween rules s exact mid last m n x y q new Whole
+      (h : Tells rules s mid last m n x y q new (under (all_levels q)) Whole) where
+    told_gains : GainsBetween rules s mid last m n x y q new Whole
     told_gains = let (u, st) = stands_at in let answerable = answerable_at in
-        gains_told rules s exact mid last m n x y q new (under (all_levels q)) h answerable.basis.idle st.facts.values held_at (λ i a. a) led_at new refl
+        gains_told rules s mid last m n x y q new (under (all_levels q)) h answerable.basis.idle st.facts.values held_at (λ i a. a) led_at new refl
 
-    pub gains_since : GainsBetween rules s exact before last f n w y old new Whole
-    gains_since = gains_then rules s exact before mid last f m n w x y old q new c.gains told_gains c.asked c.levels c.ended
+    pub gains_since : GainsBetween rules s before last f n w y old new Whole
+    gains_since = gains_then rules s before mid last f m n w x y old q new c.gains told_gains c.asked c.levels c.ended
 
   module _ (last : Entries) (n : Memories) (y : ℕ) (new : Question) (i : Instance ℕ) (a : Resolved)
-      (h : HasResolved {E = AllocError} rules s exact mid last m n x y q new i (Ok a)) where
-    tells : Tells rules s exact mid last m n x y q new (under (all_levels q)) (Unit {0})
+      (h : HasResolved {E = AllocError} rules s mid last m n x y q new i (Ok a)) where
+    tells : Tells rules s mid last m n x y q new (under (all_levels q)) (Unit {0})
     tells = h.tells
 
     can : CanResolve rules s last new
@@ -220,8 +220,8 @@ module _ (rules : Rules) (s : Shown) (exact : Bool) (before mid : Entries) (f m 
     standing_now : IsStanding rules s last new
     standing_now = let st = standing_at in record {
       levels = λ sound. let (u, stands) = stands_at in (
-        with_told u (told_now rules s exact mid last m n x y q new tells u stands),
-        stands_since rules s exact mid last m n x y q new tells u stands h.since can,
+        with_told u (told_now rules s mid last m n x y q new tells u stands),
+        stands_since rules s mid last m n x y q new tells u stands h.since can,
       );
       plainly = λ none. let (same, kept) = chain_same none in subst (λ p. IsStandingPlainly rules s p) (sym same) (st.plainly none);
       kept = can.finds.took;
@@ -256,16 +256,16 @@ module _ (rules : Rules) (s : Shown) (exact : Bool) (before mid : Entries) (f m 
       fit = fit_now;
     }
 
-    spares_now : IsTrue exact → IsSparingTurns rules (contents s) mid q → IsSparingTurns rules (contents s) last new
-    spares_now k z = record {
-      lean = tells.lean k z.lean;
-      settled = tells.settled k z.settled;
+    spares_now : IsSparingTurns rules (contents s) mid q → IsSparingTurns rules (contents s) last new
+    spares_now z = record {
+      lean = tells.lean z.lean;
+      settled = tells.settled z.settled;
       met = subst (λ ws. HaveMet rules (contents s) last new.found.entries ws (root_in new.level new.inst)) (sym tells.chain.waiting)
           (subst (λ r. HaveMet rules (contents s) last new.found.entries q.waiting.entries r)
           (sym (ap (λ d. root_in d new.inst) tells.level ∙ ap (λ j. root_in q.level j) tells.chain.inst))
           (have_more rules (contents s) mid last q.found.entries new.found.entries (met_more mid last tells.stays q.found.entries new.found.entries tells.finds)
           q.waiting.entries (root_in q.level q.inst) z.met));
-      followed = followed_told rules s exact mid last m n x y q new tells z.followed;
+      followed = followed_told rules s mid last m n x y q new tells z.followed;
     }
 
     levels_now : (j : Instance ℕ) → Among j (under (all_levels new)) → WasSeenBy old j
@@ -278,14 +278,14 @@ module _ (rules : Rules) (s : Shown) (exact : Bool) (before mid : Entries) (f m 
         × ((j : Instance ℕ) (v : Value ℕ) → known_to last new j ≡ Some v → (kept_values before j ≡ Some v) ⊎ Among (with_outcome (Finds v) j) told)
     came_now u st =
         let (told, stands, adds, since) = c.came u st in (
-          told_now rules s exact mid last m n x y q new tells (with_told u told) stands,
-          stands_since rules s exact mid last m n x y q new tells (with_told u told) stands h.since can,
-          adds_both told (told_now rules s exact mid last m n x y q new tells (with_told u told) stands) adds
-              (adds_now rules s exact mid last m n x y q new tells (with_told u told) stands),
-          λ j v e. elim (known_or_told rules s exact mid last m n x y q new tells (with_told u told) stands j v e) [
+          told_now rules s mid last m n x y q new tells (with_told u told) stands,
+          stands_since rules s mid last m n x y q new tells (with_told u told) stands h.since can,
+          adds_both told (told_now rules s mid last m n x y q new tells (with_told u told) stands) adds
+              (adds_now rules s mid last m n x y q new tells (with_told u told) stands),
+          λ j v e. elim (known_or_told rules s mid last m n x y q new tells (with_told u told) stands j v e) [
             | inl k ↦ elim (since j v (known_kept mid q.found.entries j v v (sym k) refl)) [
               | inl b ↦ inl b
-              | inr b ↦ inr (let more = adds_now rules s exact mid last m n x y q new tells (with_told u told) stands in more.stays j (Finds v) b)
+              | inr b ↦ inr (let more = adds_now rules s mid last m n x y q new tells (with_told u told) stands in more.stays j (Finds v) b)
             ]
             | inr b ↦ inr b
           ],
@@ -299,7 +299,7 @@ module _ (rules : Rules) (s : Shown) (exact : Bool) (before mid : Entries) (f m 
         }
 
     -- and so it goes on
-    pub tries_on : (waits : Trying) (j : Instance ℕ) → g ≡ waits_for waits j → IsTrying rules s exact before last f n w y old new t g
+    pub tries_on : (waits : Trying) (j : Instance ℕ) → g ≡ waits_for waits j → IsTrying rules s before last f n w y old new t g
     tries_on waits j is = record {
       turns = turn_now;
       unkept = unkept_now;
@@ -311,8 +311,8 @@ module _ (rules : Rules) (s : Shown) (exact : Bool) (before mid : Entries) (f m 
           (subst (λ z. IsGoing rules (class_shown s) (contents s) mid q.found.entries q.inst z) is c.going)));
       gains = gains_since last n y new tells;
       stays = stays_then old q new c.stays (stays_told q new tells.chain tells.level tells.turns tells.passed);
-      sparing = λ k z. spares_now k (c.sparing k z);
-      asked = asked_told rules s exact mid last m n x y q new tells ∙ c.asked;
+      sparing = λ z. spares_now (c.sparing z);
+      asked = asked_told rules s mid last m n x y q new tells ∙ c.asked;
       levels = levels_now;
       ended = λ j k. c.ended j (subst (λ ks. Among j ks) tells.ended k);
       came = came_now;

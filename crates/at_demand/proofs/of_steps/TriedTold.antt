@@ -1,5 +1,5 @@
 -- More is known since, of what levels under way have seen: it is told to the search for which a question stands.
-use Rattle.std.proofs.Common.{◌≡◌, ◌⊎◌, ◌≤◌, ℕ, Bool, List, ◌∷◌, ◌++◌, Some, inl, inr, refl, sym, ap, ◌∙◌, subst}
+use Rattle.std.proofs.Common.{◌≡◌, ◌⊎◌, ◌≤◌, ℕ, List, ◌∷◌, ◌++◌, Some, inl, inr, refl, sym, ap, ◌∙◌, subst}
 use Rattle.std.specs.Prelude.{IsSome}
 use Rattle.std.specs.Map.{keys_of}
 use Rattle.at_model.specs.Meaning.{Among, Finds, Outcome}
@@ -37,8 +37,8 @@ abbrev AboutAt : List (Instance ℕ × LevelCode) → LevelCode → Instance ℕ
 AboutAt ws d i k = Among k (under (level_of i d ∷ levels_of ws)) ⊎ ((j : Instance ℕ) × (e : LevelCode) × Among (with_level e j) (with_level d i ∷ ws)
     × (Among k (todo_in e) ⊎ (k ≡ root_in e j)))
 
-module _ {Whole : Type 0} (rules : Rules) (s : Shown) (exact : Bool) (before after : Entries) (former latter : Memories) (earlier later : ℕ) (old new : Question)
-    (t : Tells rules s exact before after former latter earlier later old new (under (all_levels old)) Whole) where
+module _ {Whole : Type 0} (rules : Rules) (s : Shown) (before after : Entries) (former latter : Memories) (earlier later : ℕ) (old new : Question)
+    (t : Tells rules s before after former latter earlier later old new (under (all_levels old)) Whole) where
   still : (i : Instance ℕ) → IsSome (known_to before old i) → IsSome (known_to after new i)
   still = let (more, grown) = t.finds in still_known before after old new t.stays more grown
 

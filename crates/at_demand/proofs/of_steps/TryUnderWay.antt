@@ -1,6 +1,5 @@
 -- A try of the last one that goes on: what it has told since it began.
-use Rattle.std.proofs.Common.{◌≡◌, ◌⊎◌, ◌∙◌, ℕ, Bool, List, ◌∷◌, Some, None, subst, sym}
-use Rattle.std.specs.Prelude.{IsTrue}
+use Rattle.std.proofs.Common.{◌≡◌, ◌⊎◌, ◌∙◌, ℕ, List, ◌∷◌, Some, None, subst, sym}
 use Rattle.std.specs.Map.{keys_of}
 use Rattle.at_model.specs.Meaning.{Among, Finds, Outcome}
 use Rattle.at_model.specs.Rules.{Rules}
@@ -30,16 +29,16 @@ with_told u told = record { last = u.last; below = u.below; ended = u.ended; tol
 
 -- A try of the last one goes on, so far: what came to be known meanwhile had been seen, or had ended, and is told to the search. Where no attribute
 -- is circular nothing came.
-pub record IsTrying (rules : Rules) (s : Shown) (exact : Bool) (before after : Entries) (former latter : Memories) (earlier later : ℕ)
+pub record IsTrying (rules : Rules) (s : Shown) (before after : Entries) (former latter : Memories) (earlier later : ℕ)
     (old new : Question) (t : Trials) (g : Going) : Type 0 where
   pub turns : CanTurnWith rules s after new t
   pub unkept : kept_values after new.inst ≡ None
   pub unknown : known_to after new new.inst ≡ None
   pub none : t.awaited ≡ None
   pub going : IsGoing rules (class_shown s) (contents s) after new.found.entries new.inst g
-  pub gains : GainsBetween rules s exact before after former latter earlier later old new (Unit {0})
+  pub gains : GainsBetween rules s before after former latter earlier later old new (Unit {0})
   pub stays : StaysOn old new
-  pub sparing : IsTrue exact → IsSparingTurns rules (contents s) before old → IsSparingTurns rules (contents s) after new
+  pub sparing : IsSparingTurns rules (contents s) before old → IsSparingTurns rules (contents s) after new
   pub asked : asked_by new ≡ asked_by old
   pub levels : (i : Instance ℕ) → Among i (under (all_levels new)) → WasSeenBy old i
   pub ended : (i : Instance ℕ) → Among i (keys_of new.ended.entries) → WasSeenBy old i
@@ -50,13 +49,13 @@ pub record IsTrying (rules : Rules) (s : Shown) (exact : Bool) (before after : E
   pub plainly : HasNoneCircular rules → (new ≡ old) × (after ≡ before)
 
 -- It goes on so with trials that stand alike, where what is noted there is right.
-pub trying_with : (rules : Rules) (s : Shown) (exact : Bool) (before after : Entries) (former latter : Memories)
+pub trying_with : (rules : Rules) (s : Shown) (before after : Entries) (former latter : Memories)
     (earlier later : ℕ)
-    (old new : Question) (t u : Trials) (g : Going) → IsTrying rules s exact before after former latter earlier later
+    (old new : Question) (t u : Trials) (g : Going) → IsTrying rules s before after former latter earlier later
     old new t g →
     u.frames.items ≡ t.frames.items → u.awaited ≡ t.awaited → IsNotedRight rules (contents s) u.noted.entries →
-    IsTrying rules s exact before after former latter earlier later old new u g
-trying_with rules s exact before after former latter earlier later old new t u g c frames awaited noted =
+    IsTrying rules s before after former latter earlier later old new u g
+trying_with rules s before after former latter earlier later old new t u g c frames awaited noted =
     let turns = c.turns in
     let fit = turns.fit in
     record {

@@ -1,5 +1,5 @@
 -- What a turn comes to where nothing has changed, and where memory is wanting.
-use Rattle.std.proofs.Common.{◌≡◌, ◌<◌, ◌^◌, ℕ, Bool, Option, Some, None, Result, Ok, Err, inl, refl, sym, ap, ◌∙◌, subst}
+use Rattle.std.proofs.Common.{◌≡◌, ◌<◌, ◌^◌, ℕ, Option, Some, None, Result, Ok, Err, inl, refl, sym, ap, ◌∙◌, subst}
 use Rattle.std.specs.declared.alloc.AllocError.{AllocError}
 use Rattle.at_model.specs.Meaning.{Finds}
 use Rattle.at_model.specs.Rules.{Rules}
@@ -26,9 +26,9 @@ use Rattle.at_demand.proofs.Gaining.{asked_kept, worthy_none}
 use Rattle.at_demand.proofs.Standing.{plain_asked, plain_holds}
 
 -- under another condition
-pub gains_weaker : {V W : Type 0} (rules : Rules) (s : Shown) (exact : Bool) (before after : Entries) (w x : ℕ) (q : Question) → (W → V) →
-    GainsAtMost rules s exact before after w x q V → GainsAtMost rules s exact before after w x q W
-gains_weaker rules s exact before after w x q on g = record {
+pub gains_weaker : {V W : Type 0} (rules : Rules) (s : Shown) (before after : Entries) (w x : ℕ) (q : Question) → (W → V) →
+    GainsAtMost rules s before after w x q V → GainsAtMost rules s before after w x q W
+gains_weaker rules s before after w x q on g = record {
   right = g.right;
   stays = g.stays;
   plain = g.plain;
@@ -38,9 +38,9 @@ gains_weaker rules s exact before after w x q on g = record {
   counts = g.counts;
 }
 
-module _ (rules : Rules) (s : Shown) (exact : Bool) where
+module _ (rules : Rules) (s : Shown) where
   pub gains_none : {Whole : Type 0} → (entries : Entries) (w : ℕ) → w < 2 ^ 64 → (q : Question) → AreRightValues (contents s) (meaning rules) (kept_values entries) →
-      ArePlain rules entries → GainsAtMost rules s exact entries entries w w q Whole
+      ArePlain rules entries → GainsAtMost rules s entries entries w w q Whole
   gains_none entries w few q right plain = record {
     right = right;
     stays = λ there all. all;
@@ -50,45 +50,45 @@ module _ (rules : Rules) (s : Shown) (exact : Bool) where
       searched = λ u st. record { last = λ j. inl refl; others = λ j some. inl some };
     };
     worthy = worthy_none rules (contents s) (asked_by q) entries;
-    spare = λ whole k spare sparing. spare;
-    counts = λ k. counts_none entries w few;
+    spare = λ whole spare sparing. spare;
+    counts = counts_none entries w few;
   }
 
   module _ (before after : Entries) (w x : ℕ) (q p : Question) (t : Trials) where
     -- memory is wanting
     pub broken_off : (r : Result (Option AnswerCode) AllocError) (e : AllocError) → r ≡ Err e →
-        {Whole : Type 0} → (HasNoneCircular rules → Whole) → GainsAtMost rules s exact before after w x q Whole →
-        HasTurnedWith {E = AllocError} rules s exact before after w x q p t r
-    broken_off r e is keeps gains = subst (λ z. HasTurnedWith {E = AllocError} rules s exact before after w x q p t z) (sym is) (record {
+        {Whole : Type 0} → (HasNoneCircular rules → Whole) → GainsAtMost rules s before after w x q Whole →
+        HasTurnedWith {E = AllocError} rules s before after w x q p t r
+    broken_off r e is keeps gains = subst (λ z. HasTurnedWith {E = AllocError} rules s before after w x q p t z) (sym is) (record {
       turned = record { plainly = λ none. tt; searched = λ u st. tt };
       counted = tt;
       standing = tt;
       fit = tt;
-      all = λ k spare sparing. tt;
-      sparing = λ k spare sparing. tt;
-      gains = gains_weaker rules s exact before after w x q keeps gains;
+      all = λ spare sparing. tt;
+      sparing = λ spare sparing. tt;
+      gains = gains_weaker rules s before after w x q keeps gains;
     })
 
     -- it is answered, and stays as it is
-    pub answered_on : (o : Option AnswerCode) (a : AnswerCode) → o ≡ Some a → HasTurnedOn {E = AllocError} rules s exact before after w x q p t (Ok o) →
-        HasTurnedWith {E = AllocError} rules s exact before after w x q p t (Ok (Some a))
+    pub answered_on : (o : Option AnswerCode) (a : AnswerCode) → o ≡ Some a → HasTurnedOn {E = AllocError} rules s before after w x q p t (Ok o) →
+        HasTurnedWith {E = AllocError} rules s before after w x q p t (Ok (Some a))
     answered_on o a is on =
-        let h : HasTurnedOn {E = AllocError} rules s exact before after w x q p t (Ok (Some a)) =
-        subst (λ z. HasTurnedOn {E = AllocError} rules s exact before after w x q p t (Ok z)) is on in h.answered
+        let h : HasTurnedOn {E = AllocError} rules s before after w x q p t (Ok (Some a)) =
+        subst (λ z. HasTurnedOn {E = AllocError} rules s before after w x q p t (Ok z)) is on in h.answered
 
     -- or it isn't, and is counted
     pub counted_on : (o : Option AnswerCode) (n : Question) → o ≡ None → IsCounted p n →
-        HasTurnedOn {E = AllocError} rules s exact before after w x q p t (Ok o) →
-        HasTurnedWith {E = AllocError} rules s exact before after w x q n t (Ok None)
+        HasTurnedOn {E = AllocError} rules s before after w x q p t (Ok o) →
+        HasTurnedWith {E = AllocError} rules s before after w x q n t (Ok None)
     counted_on o n none is on =
-        let h : HasTurnedOn {E = AllocError} rules s exact before after w x q p t (Ok None) =
-        subst (λ z. HasTurnedOn {E = AllocError} rules s exact before after w x q p t (Ok z)) none on in h.counted n is
+        let h : HasTurnedOn {E = AllocError} rules s before after w x q p t (Ok None) =
+        subst (λ z. HasTurnedOn {E = AllocError} rules s before after w x q p t (Ok z)) none on in h.counted n is
 
   -- what was asked is kept
   pub kept_off : (entries : Entries) (w : ℕ) → w < 2 ^ 64 → (q : Question) (t : Trials) (v : ValueCode) →
       AreRightValues (contents s) (meaning rules) (kept_values entries) → ArePlain rules entries → IsStanding rules s entries q →
       kept_values entries (asked_by q) ≡ Some (value_view v) →
-      HasTurnedWith {E = AllocError} rules s exact entries entries w w q q t (Ok (Some (answer.Value v)))
+      HasTurnedWith {E = AllocError} rules s entries entries w w q q t (Ok (Some (answer.Value v)))
   kept_off entries w few q t v right plain st kept = record {
     turned = record {
       plainly = λ none.
@@ -107,8 +107,8 @@ module _ (rules : Rules) (s : Shown) (exact : Bool) where
     counted = tt;
     standing = λ none. st;
     fit = tt;
-    all = λ k spare sparing. asked_kept rules (contents s) (asked_by q) entries (is_there (kept_values entries (asked_by q)) (value_view v) kept) spare.deep;
-    sparing = λ k spare sparing none. sparing;
+    all = λ spare sparing. asked_kept rules (contents s) (asked_by q) entries (is_there (kept_values entries (asked_by q)) (value_view v) kept) spare.deep;
+    sparing = λ spare sparing none. sparing;
     gains = gains_none entries w few q right plain;
   }
     where

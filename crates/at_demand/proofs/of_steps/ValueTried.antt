@@ -1,6 +1,6 @@
 -- The last one has come to its value: that is kept, or was found.
-use Rattle.std.proofs.Common.{◌≡◌, ◌⊎◌, ℕ, Bool, List, [], ◌∷◌, ◌++◌, Option, Some, None, Result, Ok, Err, inl, inr, refl, sym, ap, ◌∙◌, subst, append-nil}
-use Rattle.std.specs.Prelude.{IfOk, IsSome, IsTrue}
+use Rattle.std.proofs.Common.{◌≡◌, ◌⊎◌, ℕ, List, [], ◌∷◌, ◌++◌, Option, Some, None, Result, Ok, Err, inl, inr, refl, sym, ap, ◌∙◌, subst, append-nil}
+use Rattle.std.specs.Prelude.{IfOk, IsSome}
 use Rattle.std.specs.Map.{lookup}
 use Rattle.std.specs.Option.{option_map}
 use Rattle.std.specs.declared.alloc.AllocError.{AllocError}
@@ -137,9 +137,9 @@ known_last rules s entries found i d right has none = by (kept_values entries i)
       | inr (same, e) ↦ known_found entries (found ++ with_find d i ∷ []) i (value_view d.value) f (sym k) (sym at) (ap (λ (g : Find). value_view g.value) e)
     ]
 
-module _ (rules : Rules) (s : Shown) (exact : Bool) (before mid last : Entries) (f m l : Memories) (w x y : ℕ) (old q : Question) (t : Trials) (g : Going)
-    (c : IsTrying rules s exact before mid f m w x old q t g) (turn : CanTurn rules s before old) (traced : PutsInTurns m l) (a : Tried)
-    (h : HasCarriedOn {E = AllocError} rules s exact mid last x y q.found.entries q.inst (Ok a)) (d : Find)
+module _ (rules : Rules) (s : Shown) (before mid last : Entries) (f m l : Memories) (w x y : ℕ) (old q : Question) (t : Trials) (g : Going)
+    (c : IsTrying rules s before mid f m w x old q t g) (turn : CanTurn rules s before old) (traced : PutsInTurns m l) (a : Tried)
+    (h : HasCarriedOn {E = AllocError} rules s mid last x y q.found.entries q.inst (Ok a)) (d : Find)
     (has : HasFound rules (contents s) mid q.found.entries q.inst d) (none : start_of rules q.inst.attribute ≡ None) where
   basis : IsBasis rules s
   basis = turn.answerable.basis
@@ -148,7 +148,7 @@ module _ (rules : Rules) (s : Shown) (exact : Bool) (before mid last : Entries) 
   keeps = let gains = h.gains in gains.stays
 
   st : IsStanding rules s mid q
-  st = standing_at rules s exact before mid f m w x old q t g c
+  st = standing_at rules s before mid f m w x old q t g c
 
   demanded : (j : Instance ℕ) → IsDemanded q.found.entries d.demanded j → IsKept mid j ⊎ IsFound q.found.entries j
   demanded j (inl b) = inl (is_kept mid d.demanded.kept.items j has.kept b)
@@ -156,7 +156,7 @@ module _ (rules : Rules) (s : Shown) (exact : Bool) (before mid last : Entries) 
 
   valued : HasValued rules s mid q (value_view d.value)
   valued = record {
-    turn = turn_at rules s exact before mid f m w x old q t g c;
+    turn = turn_at rules s before mid f m w x old q t g c;
     none = none;
     has = has.value;
     ready = λ j b.
@@ -176,8 +176,8 @@ module _ (rules : Rules) (s : Shown) (exact : Bool) (before mid last : Entries) 
   took_on : FoundKept last q.found.entries
   took_on i e at = valued_on mid last keeps e.demanded.kept.items (st.kept i e at)
 
-  spare_mid : IsTrue exact → AreSpare rules (contents s) before → IsSparingTurns rules (contents s) before old → AreSpare rules (contents s) mid
-  spare_mid k spare z = let gains = c.gains in gains.spare tt k spare z.lean z.settled
+  spare_mid : AreSpare rules (contents s) before → IsSparingTurns rules (contents s) before old → AreSpare rules (contents s) mid
+  spare_mid spare z = let gains = c.gains in gains.spare tt spare z.lean z.settled
 
   -- the frames that wait
   fit_at : FitAt rules s mid q t.frames.items None
@@ -191,23 +191,23 @@ module _ (rules : Rules) (s : Shown) (exact : Bool) (before mid last : Entries) 
   gained i = let gains = h.gains in elim (gains.lazy i) [ inl e ↦ inl e | inr e ↦ inr e.0 ]
 
   -- memory is wanting
-  pub value_fails : (new : Question) (u : Trials) (e : AllocError) → HasTurnedOn {E = AllocError} rules s exact before last w y old new u (Err e)
-  value_fails new u e = broken_on rules s exact basis before last w y old new u (Err e) e refl (λ none. tt)
-      (carried_most rules s exact before mid last f m l w x y old q t g c (Ok a) h traced {Whole = Unit {0}})
+  pub value_fails : (new : Question) (u : Trials) (e : AllocError) → HasTurnedOn {E = AllocError} rules s before last w y old new u (Err e)
+  value_fails new u e = broken_on rules s basis before last w y old new u (Err e) e refl (λ none. tt)
+      (carried_most rules s before mid last f m l w x y old q t g c (Ok a) h traced {Whole = Unit {0}})
 
   -- none waited for it: it is the answer
   module _ (found : List (Instance ℕ × Find)) (whole : AreWhole rules (contents s) found)
-      (settled : IsTrue exact → AreSpare rules (contents s) before → IsSparingTurns rules (contents s) before old → AreSettled rules last found)
+      (settled : AreSpare rules (contents s) before → IsSparingTurns rules (contents s) before old → AreSettled rules last found)
       (met : IsSome (last q.inst) ⊎ IsFound found q.inst) where
     pub value_answers : (new : Question) (u : Trials) (v : ValueCode) (b : AnswerCode) → v ≡ d.value → IsEnded q new v b →
-        HasTurnedOn {E = AllocError} rules s exact before last w y old new u (Ok (Some b))
-    value_answers new u v b same r = answered_so rules s exact basis before last w y old new u
-        (carried_most rules s exact before mid last f m l w x y old q t g c (Ok a) h traced {Whole = Unit {0}}) b
-        (turned_by rules s exact before mid last f m l w x y old q t g c new (Ok (Some b)) (Ok (Some b))
+        HasTurnedOn {E = AllocError} rules s before last w y old new u (Ok (Some b))
+    value_answers new u v b same r = answered_so rules s basis before last w y old new u
+        (carried_most rules s before mid last f m l w x y old q t g c (Ok a) h traced {Whole = Unit {0}}) b
+        (turned_by rules s before mid last f m l w x y old q t g c new (Ok (Some b)) (Ok (Some b))
         (turns_answered rules s mid last q new (value_view d.value) valued keeps r.same r.alone b is))
         (λ none. standing_same rules s last q new r.same (stands_grown rules s mid last keeps q st))
-        (λ k spare z. subst (λ o. HasWorthyFor rules (contents s) (asked_by old) o last) (sym is) (worthy k spare z))
-        (λ k spare z none. sparing_same rules s last q new r.same (spares_grown rules s mid last keeps q (c.sparing k z)))
+        (λ spare z. subst (λ o. HasWorthyFor rules (contents s) (asked_by old) o last) (sym is) (worthy spare z))
+        (λ spare z none. sparing_same rules s last q new r.same (spares_grown rules s mid last keeps q (c.sparing z)))
       where
         is : answer_view b ≡ Outcomes (Finds (value_view d.value))
         is = ap (λ p. answer_view p) r.is ∙ ap (λ p. Outcomes (Finds (value_view p))) same
@@ -218,19 +218,19 @@ module _ (rules : Rules) (s : Shown) (exact : Bool) (before mid last : Entries) 
         well : AreCircularLazy rules
         well = let circular = basis.circular in circular.lazy
 
-        worthy : IsTrue exact → AreSpare rules (contents s) before → IsSparingTurns rules (contents s) before old → (i : Instance ℕ) →
+        worthy : AreSpare rules (contents s) before → IsSparingTurns rules (contents s) before old → (i : Instance ℕ) →
             IsWorthy rules (contents s) (asked_by old) i → IsKept last i
-        worthy k spare z i b =
-            let after = h.spare k (spare_mid k spare z) (let y = c.sparing k z in y.lean) (let y = c.sparing k z in y.settled) in
-            known_below rules (contents s) last found well whole (settled k spare z) after.deep q.inst i met
+        worthy spare z i b =
+            let after = h.spare (spare_mid spare z) (let y = c.sparing z in y.lean) (let y = c.sparing z in y.settled) in
+            known_below rules (contents s) last found well whole (settled spare z) after.deep q.inst i met
             (subst (λ j. Leads (contents s) (meaning rules) j i) first b.reached) b.lazy
 
 -- It came to be kept.
-module _ (rules : Rules) (s : Shown) (exact : Bool) (before mid last : Entries) (f m l : Memories) (w x y : ℕ) (old q : Question) (t : Trials) (g : Going)
-    (c : IsTrying rules s exact before mid f m w x old q t g) (turn : CanTurn rules s before old) (traced : PutsInTurns m l) (v : ValueCode)
-    (h : HasCarriedOn {E = AllocError} rules s exact mid last x y q.found.entries q.inst (Ok (tried.Kept v))) (new : Question) (u : Trials) where
-  settled_kept : IsTrue exact → AreSpare rules (contents s) before → IsSparingTurns rules (contents s) before old → AreSettled rules last q.found.entries
-  settled_kept k spare z = let y = c.sparing k z in h.settles k (let gains = c.gains in gains.spare tt k spare z.lean z.settled) y.settled
+module _ (rules : Rules) (s : Shown) (before mid last : Entries) (f m l : Memories) (w x y : ℕ) (old q : Question) (t : Trials) (g : Going)
+    (c : IsTrying rules s before mid f m w x old q t g) (turn : CanTurn rules s before old) (traced : PutsInTurns m l) (v : ValueCode)
+    (h : HasCarriedOn {E = AllocError} rules s mid last x y q.found.entries q.inst (Ok (tried.Kept v))) (new : Question) (u : Trials) where
+  settled_kept : AreSpare rules (contents s) before → IsSparingTurns rules (contents s) before old → AreSettled rules last q.found.entries
+  settled_kept spare z = let y = c.sparing z in h.settles (let gains = c.gains in gains.spare tt spare z.lean z.settled) y.settled
 
   module _ (d : Find) (same : d.value ≡ v) (has : HasFound rules (contents s) mid q.found.entries q.inst d) (none : start_of rules q.inst.attribute ≡ None)
       (kept : kept_values last q.inst ≡ Some (value_view v)) where
@@ -241,7 +241,7 @@ module _ (rules : Rules) (s : Shown) (exact : Bool) (before mid last : Entries) 
     kept_as = kept ∙ ap (λ p. Some p) value_is
 
     valued_kept : HasValued rules s mid q (value_view d.value)
-    valued_kept = valued rules s exact before mid last f m l w x y old q t g c turn traced (tried.Kept v) h d has none
+    valued_kept = valued rules s before mid last f m l w x y old q t g c turn traced (tried.Kept v) h d has none
 
     keeps_kept : KeepsEntries mid last
     keeps_kept = let gains = h.gains in gains.stays
@@ -249,7 +249,7 @@ module _ (rules : Rules) (s : Shown) (exact : Bool) (before mid last : Entries) 
     module _ (r : IsPassedTo q new v) (await : AwaitsLast q t u) where
       passed_is : new.passed.entries ≡ insert_entry same_instance q.passed.entries q.inst v
       passed_is = r.passed ∙ ap (λ i. insert_entry same_instance q.passed.entries i v)
-          (at_root rules s exact before mid last f m l w x y old q t g c turn traced (tried.Kept v) h d has none)
+          (at_root rules s before mid last f m l w x y old q t g c turn traced (tried.Kept v) h d has none)
 
       only_kept : (i : Instance ℕ) (z : Value ℕ) → known_to last new i ≡ Some z →
           (kept_values last i ≡ Some z) ⊎ ((known_to mid q i ≡ Some z) ⊎ ((i ≡ q.inst) × (z ≡ value_view d.value)))
@@ -261,7 +261,7 @@ module _ (rules : Rules) (s : Shown) (exact : Bool) (before mid last : Entries) 
       more_kept : HasNoneCircular rules → IsOneMore (with_view (value_view d.value) q.inst) (found_of q.found.entries ++ passed_of q.passed.entries)
           (found_of new.found.entries ++ passed_of new.passed.entries)
       more_kept plain =
-          let st = standing_at rules s exact before mid f m w x old q t g c in
+          let st = standing_at rules s before mid f m w x old q t g c in
           let p = st.plainly plain in
           subst (λ z. IsOneMore (with_view z q.inst) (found_of q.found.entries ++ passed_of q.passed.entries)
           (found_of new.found.entries ++ passed_of new.passed.entries)) value_is
@@ -273,63 +273,63 @@ module _ (rules : Rules) (s : Shown) (exact : Bool) (before mid last : Entries) 
       known_kept_so : known_to last new q.inst ≡ Some (value_view d.value)
       known_kept_so = known_kept last new.found.entries q.inst (value_view d.value) (value_view d.value) (sym kept_as) refl
 
-      pub passes_last : HasTurnedOn {E = AllocError} rules s exact before last w y old new u (Ok None)
+      pub passes_last : HasTurnedOn {E = AllocError} rules s before last w y old new u (Ok None)
       passes_last =
-          let st = standing_at rules s exact before mid f m w x old q t g c in
-          let took = took_on rules s exact before mid last f m l w x y old q t g c turn traced (tried.Kept v) h d has none in
-          counted_so rules s exact turn.answerable.basis before last w y old new u
-          (carried_most rules s exact before mid last f m l w x y old q t g c (Ok (tried.Kept v)) h traced {Whole = Unit {0}})
+          let st = standing_at rules s before mid f m w x old q t g c in
+          let took = took_on rules s before mid last f m l w x y old q t g c turn traced (tried.Kept v) h d has none in
+          counted_so rules s turn.answerable.basis before last w y old new u
+          (carried_most rules s before mid last f m l w x y old q t g c (Ok (tried.Kept v)) h traced {Whole = Unit {0}})
           (sound_at rules s before old turn) turn.standing (r.turns ∙ (let stays = c.stays in stays.turns))
-          (turned_by rules s exact before mid last f m l w x y old q t g c new (Ok None) (Ok None)
+          (turned_by rules s before mid last f m l w x y old q t g c new (Ok None) (Ok None)
           (turns_risen rules s mid last q new (value_view d.value) valued_kept keeps_kept r.waits r.ended r.turns h.right
-          (gained rules s exact before mid last f m l w x y old q t g c turn traced (tried.Kept v) h d has none) finds_kept known_kept_so only_kept more_kept))
+          (gained rules s before mid last f m l w x y old q t g c turn traced (tried.Kept v) h d has none) finds_kept known_kept_so only_kept more_kept))
           (stands_so rules s mid last q new (value_view d.value) valued_kept keeps_kept r.waits r.ended r.turns h.right
-          (gained rules s exact before mid last f m l w x y old q t g c turn traced (tried.Kept v) h d has none) finds_kept known_kept_so only_kept more_kept
+          (gained rules s before mid last f m l w x y old q t g c turn traced (tried.Kept v) h d has none) finds_kept known_kept_so only_kept more_kept
           (subst (λ fs. FoundKept last fs) (sym r.found) took) passed_now (subst (λ fs. AreWhole rules (contents s) fs) (sym r.found) st.whole))
           (subst (λ (z : Trials). Fit rules s last new z) (sym await)
           (record {
             chain = fit_risen rules s mid last q new (value_view d.value) valued_kept keeps_kept r.waits r.ended
                 r.turns h.right
-                (gained rules s exact before mid last f m l w x y old q t g c turn traced (tried.Kept v) h d has none)
+                (gained rules s before mid last f m l w x y old q t g c turn traced (tried.Kept v) h d has none)
                 finds_kept known_kept_so only_kept
-                more_kept t.frames.items (fit_at rules s exact before mid last f m l w x y old q t g c turn traced
+                more_kept t.frames.items (fit_at rules s before mid last f m l w x y old q t g c turn traced
                 (tried.Kept v) h d has none);
-            noted = noted_at rules s exact before mid last f m l w x y old q t g c turn traced (tried.Kept v) h d has
+            noted = noted_at rules s before mid last f m l w x y old q t g c turn traced (tried.Kept v) h d has
                 none;
           }))
-          (λ k spare z. spares_risen rules s mid last q new (value_view d.value) valued_kept keeps_kept r.waits r.ended r.turns h.right
-          (gained rules s exact before mid last f m l w x y old q t g c turn traced (tried.Kept v) h d has none) finds_kept known_kept_so only_kept more_kept
-          (subst (λ fs. AreLean rules (contents s) fs) (sym r.found) (let y = c.sparing k z in y.lean))
-          (subst (λ fs. AreSettled rules last fs) (sym r.found) (settled_kept k spare z)) (c.sparing k z))
+          (λ spare z. spares_risen rules s mid last q new (value_view d.value) valued_kept keeps_kept r.waits r.ended r.turns h.right
+          (gained rules s before mid last f m l w x y old q t g c turn traced (tried.Kept v) h d has none) finds_kept known_kept_so only_kept more_kept
+          (subst (λ fs. AreLean rules (contents s) fs) (sym r.found) (let y = c.sparing z in y.lean))
+          (subst (λ fs. AreSettled rules last fs) (sym r.found) (settled_kept spare z)) (c.sparing z))
         where
           passed_now : (i : Instance ℕ) (z : Value ℕ) → Among (with_view z i) (passed_of new.passed.entries) → kept_values last i ≡ Some z
           passed_now i z b = elim (passed_one q.passed.entries q.inst v i z (subst (λ ps. Among (with_view z i) (passed_of ps)) passed_is b)) [
-            | inl e ↦ (let st = standing_at rules s exact before mid f m w x old q t g c in value_on mid last keeps_kept i z (st.passed i z e))
+            | inl e ↦ (let st = standing_at rules s before mid f m w x old q t g c in value_on mid last keeps_kept i z (st.passed i z e))
             | inr (e, p) ↦ ap (λ j. kept_values last j) e ∙ kept ∙ ap (λ k. Some k) (sym p)
           ]
 
-    kept_so : (o : Option AnswerCode) → IsPassedLast q new t u v o → HasTurnedOn {E = AllocError} rules s exact before last w y old new u (Ok o)
+    kept_so : (o : Option AnswerCode) → IsPassedLast q new t u v o → HasTurnedOn {E = AllocError} rules s before last w y old new u (Ok o)
     kept_so None (r, await) = passes_last r await
-    kept_so (Some b) (r, await) = value_answers rules s exact before mid last f m l w x y old q t g c turn traced (tried.Kept v) h d has none q.found.entries
-        (let st = standing_at rules s exact before mid f m w x old q t g c in st.whole) settled_kept
+    kept_so (Some b) (r, await) = value_answers rules s before mid last f m l w x y old q t g c turn traced (tried.Kept v) h d has none q.found.entries
+        (let st = standing_at rules s before mid f m w x old q t g c in st.whole) settled_kept
         (inl (entered last q.inst (is_there (kept_values last q.inst) (value_view v) kept))) new u v b (sym same) r
 
     kept_by : (r : Result (Option AnswerCode) AllocError) → IfOk r (IsPassedLast q new t u v) →
-        HasTurnedOn {E = AllocError} rules s exact before last w y old new u r
+        HasTurnedOn {E = AllocError} rules s before last w y old new u r
     kept_by (Ok o) z = kept_so o z
-    kept_by (Err e) z = value_fails rules s exact before mid last f m l w x y old q t g c turn traced (tried.Kept v) h d has none new u e
+    kept_by (Err e) z = value_fails rules s before mid last f m l w x y old q t g c turn traced (tried.Kept v) h d has none new u e
 
   pub kept_last : (r : Result (Option AnswerCode) AllocError) → IfOk r (IsPassedLast q new t u v) →
-      HasTurnedOn {E = AllocError} rules s exact before last w y old new u r
+      HasTurnedOn {E = AllocError} rules s before last w y old new u r
   kept_last r z = let (d, same, has, none, kept) = h.tried in kept_by d same has none kept r z
 
 -- It was found.
-module _ (rules : Rules) (s : Shown) (exact : Bool) (before mid last : Entries) (f m l : Memories) (w x y : ℕ) (old q : Question) (t : Trials) (g : Going)
-    (c : IsTrying rules s exact before mid f m w x old q t g) (turn : CanTurn rules s before old) (traced : PutsInTurns m l) (d : Find)
-    (h : HasCarriedOn {E = AllocError} rules s exact mid last x y q.found.entries q.inst (Ok (tried.Found d))) (new : Question) (u : Trials) where
-  settled_found : IsTrue exact → AreSpare rules (contents s) before → IsSparingTurns rules (contents s) before old →
+module _ (rules : Rules) (s : Shown) (before mid last : Entries) (f m l : Memories) (w x y : ℕ) (old q : Question) (t : Trials) (g : Going)
+    (c : IsTrying rules s before mid f m w x old q t g) (turn : CanTurn rules s before old) (traced : PutsInTurns m l) (d : Find)
+    (h : HasCarriedOn {E = AllocError} rules s mid last x y q.found.entries q.inst (Ok (tried.Found d))) (new : Question) (u : Trials) where
+  settled_found : AreSpare rules (contents s) before → IsSparingTurns rules (contents s) before old →
       AreSettled rules last (q.found.entries ++ with_find d q.inst ∷ [])
-  settled_found k spare z = let y = c.sparing k z in h.settles k (let gains = c.gains in gains.spare tt k spare z.lean z.settled) y.settled
+  settled_found spare z = let y = c.sparing z in h.settles (let gains = c.gains in gains.spare tt spare z.lean z.settled) y.settled
 
   unfound : lookup (same_instance q.inst) q.found.entries ≡ None
   unfound = let n = neither mid q.found.entries q.inst c.unknown in n.1
@@ -341,19 +341,19 @@ module _ (rules : Rules) (s : Shown) (exact : Bool) (before mid last : Entries) 
 
   module _ (has : HasFound rules (contents s) mid q.found.entries q.inst d) (none : start_of rules q.inst.attribute ≡ None) where
     valued_found : HasValued rules s mid q (value_view d.value)
-    valued_found = valued rules s exact before mid last f m l w x y old q t g c turn traced (tried.Found d) h d has none
+    valued_found = valued rules s before mid last f m l w x y old q t g c turn traced (tried.Found d) h d has none
 
     keeps_found : KeepsEntries mid last
     keeps_found = let gains = h.gains in gains.stays
 
     whole_found : AreWhole rules (contents s) (q.found.entries ++ with_find d q.inst ∷ [])
-    whole_found = let st = standing_at rules s exact before mid f m w x old q t g c in
+    whole_found = let st = standing_at rules s before mid f m w x old q t g c in
         whole_push rules (contents s) q.found.entries q.inst d st.whole has.whole
 
     module _ (r : IsSettledTo q new d) (await : AwaitsLast q t u) where
       found_as : new.found.entries ≡ insert_entry same_instance q.found.entries q.inst d
       found_as = r.found ∙ ap (λ i. insert_entry same_instance q.found.entries i d)
-          (at_root rules s exact before mid last f m l w x y old q t g c turn traced (tried.Found d) h d has none)
+          (at_root rules s before mid last f m l w x y old q t g c turn traced (tried.Found d) h d has none)
 
       found_is : new.found.entries ≡ q.found.entries ++ with_find d q.inst ∷ []
       found_is = found_as ∙ goes_last q.found.entries q.inst d (no_key q.found.entries q.inst unfound)
@@ -372,56 +372,56 @@ module _ (rules : Rules) (s : Shown) (exact : Bool) (before mid last : Entries) 
       more_found : HasNoneCircular rules → IsOneMore (with_view (value_view d.value) q.inst) (found_of q.found.entries ++ passed_of q.passed.entries)
           (found_of new.found.entries ++ passed_of new.passed.entries)
       more_found plain =
-          let st = standing_at rules s exact before mid f m w x old q t g c in
+          let st = standing_at rules s before mid f m w x old q t g c in
           let p = st.plainly plain in
           one_found (contents s) (equations rules) (asked (under_way q)) q p.on new d found_as r.passed
 
       took_now : FoundKept last new.found.entries
       took_now = subst (λ fs. FoundKept last fs) (sym found_is) (λ i e at. elim (lookup_push q.found.entries q.inst i d e at) [
-        | inl was ↦ took_on rules s exact before mid last f m l w x y old q t g c turn traced (tried.Found d) h d has none i e was
+        | inl was ↦ took_on rules s before mid last f m l w x y old q t g c turn traced (tried.Found d) h d has none i e was
         | inr (same, is) ↦ subst (λ (z : Find). AreValued last z.demanded.kept.items) is (valued_on mid last keeps_found d.demanded.kept.items has.kept)
       ])
 
-      pub settles_last : HasTurnedOn {E = AllocError} rules s exact before last w y old new u (Ok None)
+      pub settles_last : HasTurnedOn {E = AllocError} rules s before last w y old new u (Ok None)
       settles_last =
-          let st = standing_at rules s exact before mid f m w x old q t g c in
-          counted_so rules s exact turn.answerable.basis before last w y old new u
-          (carried_most rules s exact before mid last f m l w x y old q t g c (Ok (tried.Found d)) h traced {Whole = Unit {0}})
+          let st = standing_at rules s before mid f m w x old q t g c in
+          counted_so rules s turn.answerable.basis before last w y old new u
+          (carried_most rules s before mid last f m l w x y old q t g c (Ok (tried.Found d)) h traced {Whole = Unit {0}})
           (sound_at rules s before old turn) turn.standing (r.turns ∙ (let stays = c.stays in stays.turns))
-          (turned_by rules s exact before mid last f m l w x y old q t g c new (Ok None) (Ok None)
+          (turned_by rules s before mid last f m l w x y old q t g c new (Ok None) (Ok None)
           (turns_risen rules s mid last q new (value_view d.value) valued_found keeps_found r.waits r.ended r.turns h.right
-          (gained rules s exact before mid last f m l w x y old q t g c turn traced (tried.Found d) h d has none) finds_more known_now only_found more_found))
+          (gained rules s before mid last f m l w x y old q t g c turn traced (tried.Found d) h d has none) finds_more known_now only_found more_found))
           (stands_so rules s mid last q new (value_view d.value) valued_found keeps_found r.waits r.ended r.turns h.right
-          (gained rules s exact before mid last f m l w x y old q t g c turn traced (tried.Found d) h d has none) finds_more known_now only_found more_found
+          (gained rules s before mid last f m l w x y old q t g c turn traced (tried.Found d) h d has none) finds_more known_now only_found more_found
           took_now (λ i z b. value_on mid last keeps_found i z (st.passed i z (subst (λ ps. Among (with_view z i) (passed_of ps)) r.passed b)))
           (subst (λ fs. AreWhole rules (contents s) fs) (sym found_is) whole_found))
           (subst (λ (z : Trials). Fit rules s last new z) (sym await)
           (record {
             chain = fit_risen rules s mid last q new (value_view d.value) valued_found keeps_found r.waits r.ended
                 r.turns h.right
-                (gained rules s exact before mid last f m l w x y old q t g c turn traced (tried.Found d) h d has
+                (gained rules s before mid last f m l w x y old q t g c turn traced (tried.Found d) h d has
                 none) finds_more known_now only_found
-                more_found t.frames.items (fit_at rules s exact before mid last f m l w x y old q t g c turn traced
+                more_found t.frames.items (fit_at rules s before mid last f m l w x y old q t g c turn traced
                 (tried.Found d) h d has none);
-            noted = noted_at rules s exact before mid last f m l w x y old q t g c turn traced (tried.Found d) h d has
+            noted = noted_at rules s before mid last f m l w x y old q t g c turn traced (tried.Found d) h d has
                 none;
           }))
-          (λ k spare z. spares_risen rules s mid last q new (value_view d.value) valued_found keeps_found r.waits r.ended r.turns h.right
-          (gained rules s exact before mid last f m l w x y old q t g c turn traced (tried.Found d) h d has none) finds_more known_now only_found more_found
+          (λ spare z. spares_risen rules s mid last q new (value_view d.value) valued_found keeps_found r.waits r.ended r.turns h.right
+          (gained rules s before mid last f m l w x y old q t g c turn traced (tried.Found d) h d has none) finds_more known_now only_found more_found
           (subst (λ fs. AreLean rules (contents s) fs) (sym found_is)
-          (lean_push rules (contents s) q.found.entries q.inst d (let y = c.sparing k z in y.lean) has.lean))
-          (subst (λ fs. AreSettled rules last fs) (sym found_is) (settled_found k spare z)) (c.sparing k z))
+          (lean_push rules (contents s) q.found.entries q.inst d (let y = c.sparing z in y.lean) has.lean))
+          (subst (λ fs. AreSettled rules last fs) (sym found_is) (settled_found spare z)) (c.sparing z))
 
-    found_so_far : (o : Option AnswerCode) → IsSettledLast q new t u d o → HasTurnedOn {E = AllocError} rules s exact before last w y old new u (Ok o)
+    found_so_far : (o : Option AnswerCode) → IsSettledLast q new t u d o → HasTurnedOn {E = AllocError} rules s before last w y old new u (Ok o)
     found_so_far None (r, await) = settles_last r await
-    found_so_far (Some b) (r, await) = value_answers rules s exact before mid last f m l w x y old q t g c turn traced (tried.Found d) h d has none
+    found_so_far (Some b) (r, await) = value_answers rules s before mid last f m l w x y old q t g c turn traced (tried.Found d) h d has none
         (q.found.entries ++ with_find d q.inst ∷ []) whole_found settled_found (inr found_at) new u d.value b refl r
 
     found_by : (r : Result (Option AnswerCode) AllocError) → IfOk r (IsSettledLast q new t u d) →
-        HasTurnedOn {E = AllocError} rules s exact before last w y old new u r
+        HasTurnedOn {E = AllocError} rules s before last w y old new u r
     found_by (Ok o) z = found_so_far o z
-    found_by (Err e) z = value_fails rules s exact before mid last f m l w x y old q t g c turn traced (tried.Found d) h d has none new u e
+    found_by (Err e) z = value_fails rules s before mid last f m l w x y old q t g c turn traced (tried.Found d) h d has none new u e
 
   pub found_last : (r : Result (Option AnswerCode) AllocError) → IfOk r (IsSettledLast q new t u d) →
-      HasTurnedOn {E = AllocError} rules s exact before last w y old new u r
+      HasTurnedOn {E = AllocError} rules s before last w y old new u r
   found_last r z = let (has, none) = h.tried in found_by has none r z

@@ -6,12 +6,10 @@ use Rattle.std.proofs.lemmas.Option.{none-some}
 use Rattle.at_model.specs.Run.{Instance, Location, Value}
 use Rattle.at_model.specs.Meaning.{Among}
 use Rattle.at_body.specs.Same.{same_instance}
-use Rattle.at_cache.specs.declared.keeper.Put.{Put}
-use Rattle.at_cache.specs.declared.keeper.Put.TheVariants as put
-use Rattle.at_cache.specs.Kept.{Entries, HasPut, Kept}
+use Rattle.at_cache.specs.Kept.{Entries, Kept, Puts}
 use Rattle.at_cache.specs.Traced.{AreAlike, IsOutdated, IsSpared, Memories, SparesOthers, Trace}
 use Rattle.at_demand.specs.Known.{KeepsEntries}
-use Rattle.at_demand.specs.Made.{CountsPut, Makes}
+use Rattle.at_demand.specs.Made.{Makes}
 use Rattle.at_demand.proofs.Counting.{among_parts, distinct_append}
 use Rattle.at_demand.proofs.Entered.{entered_on, not_none}
 use Rattle.at_demand.proofs.Sameness.{same_refl, same_true}
@@ -119,6 +117,14 @@ module _ (e f g : Entries) (m n o : Memories) (j k l : ℕ) (first : KeepsEntrie
     count = summed j k l (length a.made) (length b.made) (length (a.made ++ b.made)) (length-append a.made b.made) a.count b.count;
   }
 
+-- one more, up to the greatest number
+one_more : (k l most : ℕ) → l ≡ min (k + 1) most → (b : Bool) → nat_lt (k + 1) most ≡ b → (l ≡ k + 1) ⊎ (most ≤ l)
+one_more k l most is true h = let less = ltb-true (k + 1) most h in inl (omega (arith, less, is))
+one_more k l most is false h = let no = ltb-false (k + 1) most h in inr (omega (arith, no, is))
+
+up_to : (k l most : ℕ) → l ≡ min (k + 1) most → (l ≡ k + 1) ⊎ (most ≤ l)
+up_to k l most is = one_more k l most is (nat_lt (k + 1) most) refl
+
 -- an instance was put that had no trace
 module _ (e f : Entries) (m n : Memories) (i : Instance ℕ) (absent : e i ≡ None) (s : SparesOthers i f m n)
     (none : m.traced i ≡ None) where
@@ -171,31 +177,12 @@ module _ (e f : Entries) (m n : Memories) (i : Instance ℕ) (absent : e i ≡ N
       reason_one j t (inr x) h = absurd x
 
   -- it is, where it is there
-  pub makes_put : (exact : Bool) (o : Option (Value ℕ)) (ls : List (Location ℕ)) (us : List (Instance ℕ)) → (p : Put)
-      → HasPut exact e i o ls us f p → (k l : ℕ) → CountsPut p k l → Makes e f m n k l
-  makes_put exact o ls us put.Kept h k l more = makes_one (put_there exact e f i o ls us h) k l more
-  makes_put exact o ls us put.Left h k l more = makes_as more (makes_unmade k)
-
--- one more, up to the greatest number
-one_more : (k l most : ℕ) → l ≡ min (k + 1) most → (b : Bool) → nat_lt (k + 1) most ≡ b → (l ≡ k + 1) ⊎ (most ≤ l)
-one_more k l most is true h = let less = ltb-true (k + 1) most h in inl (omega (arith, less, is))
-one_more k l most is false h = let no = ltb-false (k + 1) most h in inr (omega (arith, no, is))
-
-up_to : (k l most : ℕ) → l ≡ min (k + 1) most → (l ≡ k + 1) ⊎ (most ≤ l)
-up_to k l most is = one_more k l most is (nat_lt (k + 1) most) refl
-
-pub counted_put : (k l : ℕ) → l ≡ min (k + 1) (2 ^ 64 - 1) → CountsPut put.Kept k l
-counted_put k l is = up_to k l (2 ^ 64 - 1) is
+  pub makes_put : (o : Option (Value ℕ)) (ls : List (Location ℕ)) (us : List (Instance ℕ)) → Puts e i o ls us f
+      → (k l : ℕ) → l ≡ min (k + 1) (2 ^ 64 - 1) → Makes e f m n k l
+  makes_put o ls us h k l more = makes_one (put_there e f i o ls us h) k l (up_to k l (2 ^ 64 - 1) more)
 
 -- the same of an instance that is that one
 pub unmade : (e f : Entries) (m n : Memories) (i j : Instance ℕ) → j ≡ i → e i ≡ None → SparesOthers j f m n → m.traced
     i ≡ None → (k : ℕ)
     → Makes e f m n k k
 unmade e f m n i j is absent s none k = makes_unmade e f m n i absent (subst (λ x. SparesOthers x f m n) is s) none k
-
--- how a put counts, as it ended
-pub kept_counts : (p : Put) (k l : ℕ) → p ≡ put.Kept → l ≡ min (k + 1) (2 ^ 64 - 1) → CountsPut p k l
-kept_counts p k l is more = subst (λ x. CountsPut x k l) (sym is) (counted_put k l more)
-
-pub left_counts : (p : Put) (k : ℕ) → p ≡ put.Left → CountsPut p k k
-left_counts p k is = subst (λ x. CountsPut x k k) (sym is) refl

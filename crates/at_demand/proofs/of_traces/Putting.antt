@@ -1,5 +1,5 @@
 -- What is put as its evaluation took it is justified, and what was looked at for it is of the tree.
-use Rattle.std.proofs.Common.{◌≡◌, ℕ, Bool, true, List, Option, Some, None, inl, inr, refl, sym, ◌∙◌, subst, true≢false}
+use Rattle.std.proofs.Common.{◌≡◌, ℕ, true, List, Option, Some, None, inl, inr, refl, sym, ◌∙◌, subst, true≢false}
 use Rattle.std.proofs.lemmas.Option.{same_Some}
 use Rattle.at_model.specs.Run.{Value, Instance, Location}
 use Rattle.at_model.specs.Rules.{Rules, is_lazy, start_of}
@@ -7,9 +7,7 @@ use Rattle.at_model.specs.Meaning.{Among}
 use Rattle.at_model.specs.of_fixpoints.Resting.{Leads}
 use Rattle.at_model.proofs.of_nesting.Nesting.{only, taken_known}
 use Rattle.at_store.specs.Shown.{Shown, IsIdle, contents}
-use Rattle.at_cache.specs.Kept.{Entries, HasPut, same_location}
-use Rattle.at_cache.specs.declared.keeper.Put.{Put}
-use Rattle.at_cache.specs.declared.keeper.Put.TheVariants as put
+use Rattle.at_cache.specs.Kept.{Entries, Puts, same_location}
 use Rattle.at_cache.specs.declared.keeper.Order.{Order}
 use Rattle.at_cache.specs.declared.keeper.Order.TheVariants as order
 use Rattle.at_cache.specs.Traced.{IsTraceOf, Memories, PutsTrace, StayTraced, Trace}
@@ -136,8 +134,7 @@ module _ (rules : Rules) (s : Shown) where
     pub put_traced : StayJustified rules s i m m'
     put_traced = record { justified = put_justified; there = put_there }
 
--- what was entered stays, whatever became of an entry that was put
-pub stays_put : (exact : Bool) (old new : Entries) (i : Instance ℕ) (o : Option (Value ℕ)) (ls : List (Location ℕ))
-    (us : List (Instance ℕ)) (p : Put) → old i ≡ None → HasPut exact old i o ls us new p → KeepsEntries old new
-stays_put exact old new i o ls us put.Kept absent h = λ j some. put_stays exact old new i h.entry absent h.adds j some
-stays_put exact old new i o ls us put.Left absent h = λ j some. h.1 j
+-- what was entered stays where an entry was put
+pub stays_put : (old new : Entries) (i : Instance ℕ) (o : Option (Value ℕ)) (ls : List (Location ℕ))
+    (us : List (Instance ℕ)) → old i ≡ None → Puts old i o ls us new → KeepsEntries old new
+stays_put old new i o ls us absent h = λ j some. put_stays old new i h.entry absent h.adds j some

@@ -8,7 +8,6 @@ use Rattle.at_model.specs.of_fixpoints.Resting.{Leads}
 use Rattle.at_store.specs.Shown.{Shown, IsIdle, contents}
 use Rattle.at_body.specs.Same.{same_instance}
 use Rattle.at_cache.specs.Kept.{Entries, Puts, PutsBy, same_location, value_at}
-use Rattle.at_cache.specs.declared.keeper.Put.TheVariants as put
 use Rattle.at_cache.specs.Traced.{AreAllKept, IsNext, Memories, Settled, Trace, below, itself, nothing, one_more}
 use Rattle.at_cache.proofs.Locations.{same_location-is, same_location-itself}
 use Rattle.at_demand.specs.Known.{equations, meaning, kept_values}
@@ -23,7 +22,7 @@ use Rattle.at_demand.proofs.Gathered.{any_among}
 use Rattle.at_demand.proofs.OnlyLemmas.{any_one}
 use Rattle.at_demand.proofs.Sameness.{same_true}
 use Rattle.at_demand.proofs.of_nesting.Ground.{ground_of}
-use Rattle.at_demand.proofs.of_nesting.InnerGains.{Found, gains_none, gains_put_so, gains_then, gains_up}
+use Rattle.at_demand.proofs.of_nesting.InnerGains.{Found, gains_none, gains_put, gains_then, gains_up}
 use Rattle.at_demand.proofs.of_nesting.Remembered.{kept_now}
 use Rattle.at_demand.proofs.of_traces.Justified.{contains_of}
 use Rattle.at_demand.proofs.of_traces.SameWay.{AreAlike, evaluates_same, takes_next}
@@ -46,18 +45,18 @@ same_reads reads ls has had l = by (reads l) (list_any (same_location l) ls) ref
         let here = has l (subst (λ x. Among x ls) (sym (same_location-is l m is)) among) in
         absurd (true≢false (sym here ∙ e))
 
-puts_list : (exact : Bool) (old new : Entries) (i : Instance ℕ) (v : Value ℕ) (reads : Location ℕ → Bool)
+puts_list : (old new : Entries) (i : Instance ℕ) (v : Value ℕ) (reads : Location ℕ → Bool)
     (ls : List (Location ℕ)) (us : List (Instance ℕ)) → ((l : Location ℕ) → reads l ≡ list_any (same_location l) ls) →
-    PutsBy exact old i (Some v) reads us new → Puts exact old i (Some v) ls us new
-puts_list exact old new i v reads ls us same puts =
+    PutsBy old i (Some v) reads us new → Puts old i (Some v) ls us new
+puts_list old new i v reads ls us same puts =
     let is : reads ≡ (λ l. list_any (same_location l) ls) = λ k l. same l k in
-    subst (λ (r : Location ℕ → Bool). PutsBy exact old i (Some v) r us new) is puts
+    subst (λ (r : Location ℕ → Bool). PutsBy old i (Some v) r us new) is puts
 
 -- where none came all is as it was
-pub settled_none : (exact : Bool) (m : Memories) (q : Instance ℕ) (n : ℕ) (old new : Entries) →
-    Settled exact m q n old new → n ≡ 0 → new ≡ old
-settled_none exact m q _ old _ (nothing _) none = refl
-settled_none exact m q _ old new (one_more n _ mid _ i t before next is absent all p) none = absurd (no_more n none)
+pub settled_none : (m : Memories) (q : Instance ℕ) (n : ℕ) (old new : Entries) →
+    Settled m q n old new → n ≡ 0 → new ≡ old
+settled_none m q _ old _ (nothing _) none = refl
+settled_none m q _ old new (one_more n _ mid _ i t before next is absent all p) none = absurd (no_more n none)
 
 -- of what is kept the value is the last one
 abbrev pub LastKept : Memories → Entries → Type 0
@@ -70,10 +69,10 @@ module _ (m : Memories) where
       let (w, e) = is_some (kept_values entries u) (all u (contains_of us u h)) in e ∙ sym (last u w e)
 
   -- so it is of one entry more, with the value of its trace
-  last_more : (exact : Bool) (old new : Entries) (i : Instance ℕ) (v : Value ℕ) (reads : Location ℕ → Bool)
-      (us : List (Instance ℕ)) → LastKept m old → m.last i ≡ Some v → PutsBy exact old i (Some v) reads us new →
+  last_more : (old new : Entries) (i : Instance ℕ) (v : Value ℕ) (reads : Location ℕ → Bool)
+      (us : List (Instance ℕ)) → LastKept m old → m.last i ≡ Some v → PutsBy old i (Some v) reads us new →
       LastKept m new
-  last_more exact old new i v reads us last mine puts j w e = by (same_instance i j) refl
+  last_more old new i v reads us last mine puts j w e = by (same_instance i j) refl
     where
       by : (b : Bool) → same_instance i j ≡ b → m.last j ≡ Some w
       by true at =
@@ -84,7 +83,7 @@ module _ (m : Memories) where
           let there = puts.adds j ∙ ap (λ (b : Bool). if b then Some puts.entry else old j) at in
           last j w (sym (ap value_at there) ∙ e)
 
-module _ (rules : Rules) (s : Shown) (idle : IsIdle s) (exact : Bool) (m : Memories)
+module _ (rules : Rules) (s : Shown) (idle : IsIdle s) (m : Memories)
     (r : AreJustified rules (contents s) m) where
   -- demands lead from the instance to all that comes next
   pub next_demanded : (entries : Entries) → LastKept m entries → AreCircularWell rules →
@@ -124,21 +123,21 @@ module _ (rules : Rules) (s : Shown) (idle : IsIdle s) (exact : Bool) (m : Memor
   -- one entry is settled
   one_gains : (old new : Entries) (f : Found) (i : Instance ℕ) (t : Trace) (w x : ℕ) →
       AreKnown rules (contents s) old f → LastKept m old → m.traced i ≡ Some t → old i ≡ None → AreAllKept old t.uses →
-      PutsBy exact old i (Some t.value) t.reads t.uses new → x ≡ min (w + 1) (2 ^ 64 - 1) →
-      Gains rules s exact i old new f f w x
+      PutsBy old i (Some t.value) t.reads t.uses new → x ≡ min (w + 1) (2 ^ 64 - 1) →
+      Gains rules s i old new f f w x
   one_gains old new f i t w x known last is absent all p counted =
       let way = r.justified i t is in
-      let puts = puts_list exact old new i t.value t.reads way.looks t.uses
+      let puts = puts_list old new i t.value t.reads way.looks t.uses
       (same_reads t.reads way.looks way.reads way.looked) p in
-      gains_put_so rules s exact i old new f t.value way.looks t.uses known (r.own i t is) (comes old f i t last is all) (Some t.value)
+      gains_put rules s i old new f t.value way.looks t.uses known (r.own i t is) (comes old f i t last is all) (Some t.value)
       (inl (refl, r.lazily i t is)) absent w x
-      (λ k. counts_put old new exact i t.value way.looks t.uses w x k absent put.Kept puts counted) put.Kept puts
+      (counts_put old new i t.value way.looks t.uses w x absent puts counted) puts
 
   -- what comes so is demanded
-  demanded_one : (exact : Bool) (old new : Entries) (i : Instance ℕ) (t : Trace) (q : Instance ℕ) →
-      PutsBy exact old i (Some t.value) t.reads t.uses new → DemandsOn (contents s) (meaning rules) q i →
+  demanded_one : (old new : Entries) (i : Instance ℕ) (t : Trace) (q : Instance ℕ) →
+      PutsBy old i (Some t.value) t.reads t.uses new → DemandsOn (contents s) (meaning rules) q i →
       AddsDemanded (contents s) (meaning rules) q (kept_values old) (kept_values new)
-  demanded_one exact old new i t q puts d j absent some = by (same_instance i j) refl
+  demanded_one old new i t q puts d j absent some = by (same_instance i j) refl
     where
       by : (b : Bool) → same_instance i j ≡ b → DemandsOn (contents s) (meaning rules) q j
       by true at = subst (λ (x : Instance ℕ). DemandsOn (contents s) (meaning rules) q x) (same_true i j at) d
@@ -148,17 +147,17 @@ module _ (rules : Rules) (s : Shown) (idle : IsIdle s) (exact : Bool) (m : Memor
 
   -- and one behind the other
   pub record HasSettled (q : Instance ℕ) (old new : Entries) (f : Found) (w x : ℕ) : Type 0 where
-    pub gains : Gains rules s exact q old new f f w x
+    pub gains : Gains rules s q old new f f w x
     pub last : LastKept m new
     pub demanded : AddsDemanded (contents s) (meaning rules) q (kept_values old) (kept_values new)
 
-  settled : (q : Instance ℕ) (n : ℕ) (old new : Entries) (f : Found) (w : ℕ) → Settled exact m q n old new → w < 2 ^ 64
+  settled : (q : Instance ℕ) (n : ℕ) (old new : Entries) (f : Found) (w : ℕ) → Settled m q n old new → w < 2 ^ 64
       →
       AreKnown rules (contents s) old f → LastKept m old → HasSettled q old new f w (min (w + n) (2 ^ 64 - 1))
   settled q _ old _ f w (nothing _) few known last =
       let is : w ≡ min (w + 0) (2 ^ 64 - 1) = omega (arith, few) in
       record {
-        gains = subst (λ (z : ℕ). Gains rules s exact q old old f f w z) is (gains_none rules s exact q old f w few
+        gains = subst (λ (z : ℕ). Gains rules s q old old f f w z) is (gains_none rules s q old f w few
             known);
         last = last;
         demanded = demanded_none (contents s) (meaning rules) q (kept_values old);
@@ -170,26 +169,26 @@ module _ (rules : Rules) (s : Shown) (idle : IsIdle s) (exact : Bool) (m : Memor
       let sum : y ≡ min (w + suc n) (2 ^ 64 - 1) = omega (arith, few) in
       let led = next_led mid h.last h.gains.known.circular h.gains.known.right q i next in
       let one = one_gains mid new f i t x y h.gains.known h.last is absent all p refl in
-      let both = gains_then rules s exact q old mid new f f f w x y h.gains
-      (gains_up rules s exact idle q i mid new f f x y led one) in
+      let both = gains_then rules s q old mid new f f f w x y h.gains
+      (gains_up rules s idle q i mid new f f x y led one) in
       record {
-        gains = subst (λ (z : ℕ). Gains rules s exact q old new f f w z) sum both;
-        last = last_more m exact mid new i t.value t.reads t.uses h.last (r.value i t is) p;
+        gains = subst (λ (z : ℕ). Gains rules s q old new f f w z) sum both;
+        last = last_more m mid new i t.value t.reads t.uses h.last (r.value i t is) p;
         demanded = demanded_then (contents s) (meaning rules) q (kept_values old) (kept_values mid) (kept_values new)
-            h.demanded (demanded_one exact mid new i t q p
+            h.demanded (demanded_one mid new i t q p
             (next_demanded mid h.last h.gains.known.circular h.gains.known.right q i next));
       }
 
   -- all that is settled is demanded
-  pub settled_demanded : (q : Instance ℕ) (n : ℕ) (old new : Entries) (f : Found) → Settled exact m q n old new →
+  pub settled_demanded : (q : Instance ℕ) (n : ℕ) (old new : Entries) (f : Found) → Settled m q n old new →
       AreKnown rules (contents s) old f → LastKept m old →
       AddsDemanded (contents s) (meaning rules) q (kept_values old) (kept_values new)
   settled_demanded q n old new f steps known last =
       let few : 0 < 2 ^ 64 = omega arith in let h = settled q n old new f 0 steps few known last in h.demanded
 
-  pub settled_gains : (q : Instance ℕ) (n : ℕ) (old new : Entries) (f : Found) (w x : ℕ) → Settled exact m q n old new →
+  pub settled_gains : (q : Instance ℕ) (n : ℕ) (old new : Entries) (f : Found) (w x : ℕ) → Settled m q n old new →
       w < 2 ^ 64 → x ≡ min (w + n) (2 ^ 64 - 1) → AreKnown rules (contents s) old f → LastKept m old →
-      Gains rules s exact q old new f f w x
+      Gains rules s q old new f f w x
   settled_gains q n old new f w x steps few counted known last =
       let h = settled q n old new f w steps few known last in
-      subst (λ (z : ℕ). Gains rules s exact q old new f f w z) (sym counted) h.gains
+      subst (λ (z : ℕ). Gains rules s q old new f f w z) (sym counted) h.gains

@@ -1,6 +1,6 @@
 -- What turns put, one behind the other.
 use Rattle.std.proofs.Common.{◌≡◌, ◌≤◌, ◌+◌, ◌-◌, ◌^◌, ◌⊎◌, min, inl, inr, ℕ, Bool, true, false, List, length, Option, Some, refl, arith, subst, sym, ◌∙◌, ap, true≢false}
-use Rattle.std.specs.Prelude.{nat_lt, IsTrue}
+use Rattle.std.specs.Prelude.{nat_lt}
 use Rattle.std.proofs.lemmas.Bool.{ltb-false, ltb-true}
 use Rattle.at_model.specs.Edits.{Edit}
 use Rattle.at_model.specs.Run.{Instance, Location, Value}
@@ -96,12 +96,12 @@ pub went_edited : (m n : Memories) (s : Shown) (x : Edit) (b : Bool) (k l : ℕ)
 went_edited m n s x b k l same spares = subst (λ j. Went m k n j) (sym same) (edited m n s x b k begun spares)
 
 -- a turn behind steps
-pub went_turned : (exact : Bool) (e f : Entries) (first m n o : Memories) (j k x l : ℕ) → Went first j m k → Went m k n x → PutsInTurns n o
-    → (IsTrue exact → CountsKept e f x l) → IsTrue exact → Went first j o l
-went_turned exact e f first m n o j k x l w v p counts is = turned n o e f x l (went_then first m n j k x w v) p (counts is)
+pub went_turned : (e f : Entries) (first m n o : Memories) (j k x l : ℕ) → Went first j m k → Went m k n x → PutsInTurns n o
+    → CountsKept e f x l → Went first j o l
+went_turned e f first m n o j k x l w v p counts = turned n o e f x l (went_then first m n j k x w v) p counts
 
 -- what was kept again, and then a turn
-pub went_on : (exact : Bool) (e f : Entries) (first m n o : Memories) (j k x l : ℕ) → Went first j m k → x ≡ k → AreAlike m n → PutsInTurns n o
-    → (IsTrue exact → CountsKept e f x l) → IsTrue exact → Went first j o l
-went_on exact e f first m n o j k x l w same alike p counts is =
-    went_turned exact e f first m n o j k x l w (went_again e m n k x same alike) p counts is
+pub went_on : (e f : Entries) (first m n o : Memories) (j k x l : ℕ) → Went first j m k → x ≡ k → AreAlike m n → PutsInTurns n o
+    → CountsKept e f x l → Went first j o l
+went_on e f first m n o j k x l w same alike p counts =
+    went_turned e f first m n o j k x l w (went_again e m n k x same alike) p counts

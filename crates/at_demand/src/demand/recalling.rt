@@ -23,7 +23,7 @@ use std::alloc::AllocError;
 impl<K: Keeper> Demand<K> {
     // Keeps an instance again where that can be done with no evaluation, and before it what it used, and so on. What is kept again is counted.
     pub(super) fn keep_again(&mut self, inst: &Inst)
-        ensures kept { HasKeptAgain K.exact (K.memories self.old.keeper) (K.memories self.new.keeper) (K.contents self.old.keeper)
+        ensures kept { HasKeptAgain (K.memories self.old.keeper) (K.memories self.new.keeper) (K.contents self.old.keeper)
             (K.contents self.new.keeper) self.old.work self.new.work inst.now }
         ensures made { self.new.made ≡ self.old.made }
     {
@@ -33,7 +33,7 @@ impl<K: Keeper> Demand<K> {
 
     // So it does before a turn, where turns are to keep again; else all stays as it is.
     pub(super) fn keep_again_in_turns(&mut self, again: bool, inst: &Inst)
-        ensures kept { HasKeptAgain K.exact (K.memories self.old.keeper) (K.memories self.new.keeper) (K.contents self.old.keeper)
+        ensures kept { HasKeptAgain (K.memories self.old.keeper) (K.memories self.new.keeper) (K.contents self.old.keeper)
             (K.contents self.new.keeper) self.old.work self.new.work inst.now }
         ensures made { self.new.made ≡ self.old.made }
         ensures stays { again ≡ false → (K.contents self.new.keeper ≡ K.contents self.old.keeper)

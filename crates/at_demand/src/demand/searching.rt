@@ -67,7 +67,7 @@ impl<K: Keeper> Demand<K> {
         trials: &mut Trials<'a>,
     ) -> Result<Option<Answer>, AllocError>
         requires { CanGoAlong rules.now store.now (K.contents self.old.keeper) question.old trials.old }
-        ensures { HasGoneAlong rules.now store.now K.exact (K.contents self.old.keeper) (K.contents self.new.keeper) (K.memories self.old.keeper)
+        ensures { HasGoneAlong rules.now store.now (K.contents self.old.keeper) (K.contents self.new.keeper) (K.memories self.old.keeper)
             (K.memories self.new.keeper) self.old.work self.new.work question.old question.new trials.new result }
     {
         loop {
@@ -91,7 +91,7 @@ impl<K: Keeper> Demand<K> {
         trials: &mut Trials<'a>,
     ) -> Result<Left, AllocError>
         requires { CanLeave rules.now store.now (K.contents self.old.keeper) question.old trials.old }
-        ensures { HasLeft rules.now store.now K.exact (K.contents self.old.keeper) (K.contents self.new.keeper) (K.memories self.old.keeper)
+        ensures { HasLeft rules.now store.now (K.contents self.old.keeper) (K.contents self.new.keeper) (K.memories self.old.keeper)
             (K.memories self.new.keeper) self.old.work self.new.work question.old question.new trials.new result }
     {
         self.solve_level(rules, store, question)?;
@@ -150,7 +150,7 @@ impl<K: Keeper> Demand<K> {
         at: Inst,
     ) -> Result<Option<Answer>, AllocError>
         requires { CanClose rules.now store.now (K.contents self.old.keeper) question.old }
-        ensures { HasClosed rules.now store.now K.exact (K.contents self.old.keeper) (K.contents self.new.keeper) (K.memories self.old.keeper)
+        ensures { HasClosed rules.now store.now (K.contents self.old.keeper) (K.contents self.new.keeper) (K.memories self.old.keeper)
             (K.memories self.new.keeper) self.old.work self.new.work question.old question.new at result }
     {
         if question.is_plain() {
@@ -172,7 +172,7 @@ impl<K: Keeper> Demand<K> {
         question: &mut Question,
     ) -> Result<Searched, AllocError>
         requires { CanSearch rules.now store.now (K.contents self.old.keeper) question.old }
-        ensures { HasSearched rules.now store.now K.exact (K.contents self.old.keeper) (K.contents self.new.keeper) (K.memories self.old.keeper)
+        ensures { HasSearched rules.now store.now (K.contents self.old.keeper) (K.contents self.new.keeper) (K.memories self.old.keeper)
             (K.memories self.new.keeper) self.old.work self.new.work question.old question.new result }
     {
         loop {
@@ -190,7 +190,7 @@ impl<K: Keeper> Demand<K> {
         question: &mut Question,
     ) -> Result<Option<Searched>, AllocError>
         requires { CanSearch rules.now store.now (K.contents self.old.keeper) question.old }
-        ensures { HasSearchedOn rules.now store.now K.exact (K.contents self.old.keeper) (K.contents self.new.keeper) (K.memories self.old.keeper)
+        ensures { HasSearchedOn rules.now store.now (K.contents self.old.keeper) (K.contents self.new.keeper) (K.memories self.old.keeper)
             (K.memories self.new.keeper) self.old.work self.new.work question.old question.new result }
     {
         let Some(inst) = question.next() else {
@@ -219,7 +219,7 @@ impl<K: Keeper> Demand<K> {
         inst: &Inst,
     ) -> Result<Look, AllocError>
         requires { CanResolve rules.now store.now (K.contents self.old.keeper) question.old }
-        ensures { HasLookedAt rules.now store.now K.exact (K.contents self.old.keeper) (K.contents self.new.keeper) (K.memories self.old.keeper)
+        ensures { HasLookedAt rules.now store.now (K.contents self.old.keeper) (K.contents self.new.keeper) (K.memories self.old.keeper)
             (K.memories self.new.keeper) self.old.work self.new.work question.old question.new inst.now result }
     {
         if question.has_seen(inst) || self.is_known(question, inst) {
@@ -238,7 +238,7 @@ impl<K: Keeper> Demand<K> {
         inst: &Inst,
     ) -> Result<Resolved, AllocError>
         requires { CanResolve rules.now store.now (K.contents self.old.keeper) question.old }
-        ensures { HasResolved rules.now store.now K.exact (K.contents self.old.keeper) (K.contents self.new.keeper) (K.memories self.old.keeper)
+        ensures { HasResolved rules.now store.now (K.contents self.old.keeper) (K.contents self.new.keeper) (K.memories self.old.keeper)
             (K.memories self.new.keeper) self.old.work self.new.work question.old question.new inst.now result }
     {
         if question.is_tried(inst) {
@@ -264,7 +264,7 @@ impl<K: Keeper> Demand<K> {
         requires can { CanResolve rules.now store.now (K.contents self.old.keeper) question.old }
         requires ended { Among inst.now (keys_of question.old.ended.entries) }
         requires unmarked { IsMarked question.old.ended.entries inst.now → ⊥ }
-        ensures { HasResolved rules.now store.now K.exact (K.contents self.old.keeper) (K.contents self.new.keeper) (K.memories self.old.keeper)
+        ensures { HasResolved rules.now store.now (K.contents self.old.keeper) (K.contents self.new.keeper) (K.memories self.old.keeper)
             (K.memories self.new.keeper) self.old.work self.new.work question.old question.new inst.now result }
     {
         let Some(seen) = self.closure_of(question, inst)? else {
@@ -294,7 +294,7 @@ impl<K: Keeper> Demand<K> {
         question: &mut Question,
     ) -> Result<(), AllocError>
         requires { CanSolveLevel rules.now store.now (K.contents self.old.keeper) question.old }
-        ensures { HasSolvedLevel rules.now store.now K.exact (K.contents self.old.keeper) (K.contents self.new.keeper) (K.memories self.old.keeper)
+        ensures { HasSolvedLevel rules.now store.now (K.contents self.old.keeper) (K.contents self.new.keeper) (K.memories self.old.keeper)
             (K.memories self.new.keeper) self.old.work self.new.work question.old question.new result }
     {
         let seen = question.take_seen(self.alloc);

@@ -8,7 +8,7 @@ use super::Demand;
 use crate::evaluation::Find;
 use crate::gathering::Sources;
 use at_body::Inst;
-use at_cache::{Keeper, Order, Put};
+use at_cache::{Keeper, Order};
 use at_rules::Rules;
 use indexmap::IndexMap;
 use std::alloc::AllocError;
@@ -22,7 +22,7 @@ impl<K: Keeper> Demand<K> {
         find: &Find,
     ) -> Result<Sources, AllocError>
         requires { RestsOnKept (K.contents self.old.keeper) found.now.entries find.now }
-        ensures { IsGathered rules.now K.exact (K.contents self.old.keeper) (K.contents self.new.keeper)
+        ensures { IsGathered rules.now (K.contents self.old.keeper) (K.contents self.new.keeper)
             (K.memories self.old.keeper) (K.memories self.new.keeper) self.old.work self.new.work found.now.entries find.now result }
     {
         let sources = Sources::of(self.alloc, &self.keeper, found, find, &mut self.sharing)?;
@@ -46,7 +46,7 @@ impl<K: Keeper> Demand<K> {
         positions: &[usize],
     ) -> Result<bool, AllocError>
         requires { FoundKept (K.contents self.old.keeper) found.now.entries }
-        ensures { SharesAlone rules.now K.exact found.now.entries (K.contents self.old.keeper) (K.contents self.new.keeper)
+        ensures { SharesAlone rules.now found.now.entries (K.contents self.old.keeper) (K.contents self.new.keeper)
             (K.memories self.old.keeper) (K.memories self.new.keeper) self.old.work self.new.work }
     {
         let mut any = false;
@@ -68,7 +68,7 @@ impl<K: Keeper> Demand<K> {
         position: usize,
     ) -> Result<bool, AllocError>
         requires { FoundKept (K.contents self.old.keeper) found.now.entries }
-        ensures { SharesAlone rules.now K.exact found.now.entries (K.contents self.old.keeper) (K.contents self.new.keeper)
+        ensures { SharesAlone rules.now found.now.entries (K.contents self.old.keeper) (K.contents self.new.keeper)
             (K.memories self.old.keeper) (K.memories self.new.keeper) self.old.work self.new.work }
     {
         let Some((inst, find)) = found.get_index(position) else {
@@ -80,10 +80,11 @@ impl<K: Keeper> Demand<K> {
         if self.keeper.stands(inst) {
             return Ok(true);
         }
-        self.enter(rules, found, inst, find)
+        self.enter(rules, found, inst, find)?;
+        Ok(true)
     }
 
-    // Puts an entry without a value for the find, and says whether it is there.
+    // Puts an entry without a value for the find.
     #[tactic(auto, using(crate::proofs::of_traces::TurnsPut::puts_same))]
     fn enter(
         &mut self,
@@ -91,17 +92,16 @@ impl<K: Keeper> Demand<K> {
         found: &IndexMap<Inst, Find>,
         inst: &Inst,
         find: &Find,
-    ) -> Result<bool, AllocError>
+    ) -> Result<(), AllocError>
         requires { CanBeEntered rules.now (K.contents self.old.keeper) found.now.entries inst.now find.now }
-        ensures { SharesAlone rules.now K.exact found.now.entries (K.contents self.old.keeper) (K.contents self.new.keeper)
+        ensures { SharesAlone rules.now found.now.entries (K.contents self.old.keeper) (K.contents self.new.keeper)
             (K.memories self.old.keeper) (K.memories self.new.keeper) self.old.work self.new.work }
     {
         let sources = Sources::of(self.alloc, &self.keeper, found, find, &mut self.sharing)?;
         let uses = sources.kept.as_slice();
         let reads = sources.reads.as_slice();
-        let put = self
-            .keeper
+        self.keeper
             .put(inst.copy(self.alloc)?, None, reads, uses, Order::Any)?;
-        Ok(put == Put::Kept)
+        Ok(())
     }
 }

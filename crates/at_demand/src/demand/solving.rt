@@ -13,7 +13,7 @@ use crate::evaluation::{Demanded, Find};
 use crate::locations::Locations;
 use crate::question::Question;
 use at_body::{Inst, Piece, Value};
-use at_cache::{Keeper, Put};
+use at_cache::Keeper;
 use at_rules::Rules;
 use at_search::{Formed, Solved, formed_of, solve};
 use at_store::Store;
@@ -30,7 +30,7 @@ impl<K: Keeper> Demand<K> {
         seen: &IndexMap<Inst, ()>,
     ) -> Result<(), AllocError>
         requires { CanBeSolved rules.now store.now (K.contents self.old.keeper) question.old (keys_of seen.now.entries) }
-        ensures { HasMarkedSolved rules.now store.now K.exact (K.contents self.old.keeper) (K.contents self.new.keeper) (K.memories self.old.keeper)
+        ensures { HasMarkedSolved rules.now store.now (K.contents self.old.keeper) (K.contents self.new.keeper) (K.memories self.old.keeper)
             (K.memories self.new.keeper) self.old.work self.new.work question.old question.new (keys_of seen.now.entries) result }
     {
         self.solve(rules, store, question, seen)?;
@@ -47,7 +47,7 @@ impl<K: Keeper> Demand<K> {
         seen: &IndexMap<Inst, ()>,
     ) -> Result<(), AllocError>
         requires { CanBeSolved rules.now store.now (K.contents self.old.keeper) question.old (keys_of seen.now.entries) }
-        ensures { HasSolved rules.now store.now K.exact (K.contents self.old.keeper) (K.contents self.new.keeper) (K.memories self.old.keeper)
+        ensures { HasSolved rules.now store.now (K.contents self.old.keeper) (K.contents self.new.keeper) (K.memories self.old.keeper)
             (K.memories self.new.keeper) self.old.work self.new.work question.old question.new (keys_of seen.now.entries) result }
     {
         let insts = seen.keys().as_slice();
@@ -77,7 +77,7 @@ impl<K: Keeper> Demand<K> {
         group: &[Solved],
     ) -> Result<(), AllocError>
         requires { CanKeepGroup rules.now store.now (K.contents self.old.keeper) question.old insts.now group.now }
-        ensures { HasKeptGroup rules.now store.now K.exact (K.contents self.old.keeper) (K.contents self.new.keeper) (K.memories self.old.keeper)
+        ensures { HasKeptGroup rules.now store.now (K.contents self.old.keeper) (K.contents self.new.keeper) (K.memories self.old.keeper)
             (K.memories self.new.keeper) self.old.work self.new.work question.old question.new insts.now group.now result }
     {
         let Some(first) = group.first() else {
@@ -204,17 +204,15 @@ impl<K: Keeper> Demand<K> {
         find: Find,
     ) -> Result<Option<usize>, AllocError>
         requires { CanBeFirst rules.now (K.contents self.old.keeper) question.old inst.now find }
-        ensures { HasKeptFirst rules.now K.exact (K.contents self.old.keeper) (K.contents self.new.keeper) (K.memories self.old.keeper)
+        ensures { HasKeptFirst rules.now (K.contents self.old.keeper) (K.contents self.new.keeper) (K.memories self.old.keeper)
             (K.memories self.new.keeper) self.old.work self.new.work question.old question.new inst.now find result }
     {
-        let put = self.keep(rules, &question.found, inst, &find)?;
-        match put {
-            Put::Kept => Ok(None),
-            Put::Left => {
-                let place = put_last(self.alloc, question, inst, find)?;
-                Ok(Some(place))
-            }
+        let is_kept = self.keep(rules, &question.found, inst, &find)?;
+        if is_kept {
+            return Ok(None);
         }
+        let place = put_last(self.alloc, question, inst, find)?;
+        Ok(Some(place))
     }
 
     // Another member is kept, or found: it rests on what the first one does.
@@ -228,7 +226,7 @@ impl<K: Keeper> Demand<K> {
         member: Solved,
     ) -> Result<(), AllocError>
         requires { CanBeOther rules.now (K.contents self.old.keeper) question.old first.now place }
-        ensures { HasKeptOther rules.now K.exact (K.contents self.old.keeper) (K.contents self.new.keeper) (K.memories self.old.keeper)
+        ensures { HasKeptOther rules.now (K.contents self.old.keeper) (K.contents self.new.keeper) (K.memories self.old.keeper)
             (K.memories self.new.keeper) self.old.work self.new.work question.old question.new insts.now first.now place member result }
     {
         let Some(inst) = insts.get(member.position) else {

@@ -31,7 +31,7 @@ use crate::question::Question;
 use crate::trials::{Attempt, Trials};
 use crate::trying::{Going, Tried, Trying, came_to_formula, came_to_value};
 use at_body::{Inst, Step, Value};
-use at_cache::{Keeper, Put};
+use at_cache::Keeper;
 use at_rules::Rules;
 use at_search::{Ending, Fault, Formed};
 use at_store::Store;
@@ -67,7 +67,7 @@ impl<K: Keeper> Demand<K> {
     ) -> Result<(u64, Option<Answer>), AllocError>
         requires can { CanTurn rules.now store.now (K.contents self.old.keeper) question.old }
         requires justified { AreJustified rules.now (contents store.now) (K.memories self.old.keeper) }
-        ensures { TracesNothing K.exact (HasTurnedOften rules.now store.now K.exact (K.memories self.old.keeper) (K.contents self.old.keeper)
+        ensures { TracesNothing (HasTurnedOften rules.now store.now (K.memories self.old.keeper) (K.contents self.old.keeper)
             (K.contents self.new.keeper) self.old.work self.new.work limit question.old question.new result)
             (K.memories self.old.keeper) (K.memories self.new.keeper) self.old.made self.new.made }
     {
@@ -97,7 +97,7 @@ impl<K: Keeper> Demand<K> {
         trials: &mut Trials<'a>,
     ) -> Result<Option<Answer>, AllocError>
         requires { CanTurnWith rules.now store.now (K.contents self.old.keeper) question.old trials.old }
-        ensures { PutsAndCounts K.exact (HasTurnedWith rules.now store.now K.exact (K.contents self.old.keeper) (K.contents self.new.keeper)
+        ensures { PutsAndCounts (HasTurnedWith rules.now store.now (K.contents self.old.keeper) (K.contents self.new.keeper)
             self.old.work self.new.work question.old question.new trials.new result) (K.contents self.old.keeper) (K.contents self.new.keeper)
             (K.memories self.old.keeper) (K.memories self.new.keeper) self.old.made self.new.made }
     {
@@ -117,7 +117,7 @@ impl<K: Keeper> Demand<K> {
         trials: &mut Trials<'a>,
     ) -> Result<Option<Answer>, AllocError>
         requires { CanTurnWith rules.now store.now (K.contents self.old.keeper) question.old trials.old }
-        ensures { PutsSo (HasTurnedWith rules.now store.now K.exact (K.contents self.old.keeper) (K.contents self.new.keeper)
+        ensures { PutsSo (HasTurnedWith rules.now store.now (K.contents self.old.keeper) (K.contents self.new.keeper)
             self.old.work self.new.work question.old question.new trials.new result)
             (K.memories self.old.keeper) (K.memories self.new.keeper) }
     {
@@ -140,7 +140,7 @@ impl<K: Keeper> Demand<K> {
         trials: &mut Trials<'a>,
     ) -> Result<Option<Answer>, AllocError>
         requires { CanTurnOn rules.now store.now (K.contents self.old.keeper) question.old trials.old }
-        ensures { PutsSo (HasTurnedOn rules.now store.now K.exact (K.contents self.old.keeper) (K.contents self.new.keeper)
+        ensures { PutsSo (HasTurnedOn rules.now store.now (K.contents self.old.keeper) (K.contents self.new.keeper)
             self.old.work self.new.work question.old question.new trials.new result)
             (K.memories self.old.keeper) (K.memories self.new.keeper) }
     {
@@ -165,7 +165,7 @@ impl<K: Keeper> Demand<K> {
         trials: &mut Trials<'a>,
     ) -> Result<Option<Answer>, AllocError>
         requires { CanTryLast rules.now store.now (K.contents self.old.keeper) question.old trials.old }
-        ensures { PutsSo (HasTurnedOn rules.now store.now K.exact (K.contents self.old.keeper) (K.contents self.new.keeper)
+        ensures { PutsSo (HasTurnedOn rules.now store.now (K.contents self.old.keeper) (K.contents self.new.keeper)
             self.old.work self.new.work question.old question.new trials.new result)
             (K.memories self.old.keeper) (K.memories self.new.keeper) }
     {
@@ -204,7 +204,7 @@ impl<K: Keeper> Demand<K> {
     ) -> Result<Resolved, AllocError>
         requires can { CanResolve rules.now store.now (K.contents self.old.keeper) question.old }
         requires noted { IsNotedRight rules.now (contents store.now) trials.old.noted.entries }
-        ensures resolved { HasResolved rules.now store.now K.exact (K.contents self.old.keeper) (K.contents self.new.keeper) (K.memories self.old.keeper)
+        ensures resolved { HasResolved rules.now store.now (K.contents self.old.keeper) (K.contents self.new.keeper) (K.memories self.old.keeper)
             (K.memories self.new.keeper) self.old.work self.new.work question.old question.new inst.now result }
         ensures frames { trials.new.frames.items ≡ trials.old.frames.items }
         ensures awaited { trials.new.awaited ≡ trials.old.awaited }
@@ -230,7 +230,7 @@ impl<K: Keeper> Demand<K> {
     ) -> Result<Option<Answer>, AllocError>
         requires can { CanForm rules.now store.now (K.contents self.old.keeper) question.old trials.old formed }
         requires none { trials.old.awaited ≡ None }
-        ensures { HasFormed rules.now store.now K.exact (K.contents self.old.keeper) (K.contents self.new.keeper) (K.memories self.old.keeper)
+        ensures { HasFormed rules.now store.now (K.contents self.old.keeper) (K.contents self.new.keeper) (K.memories self.old.keeper)
             (K.memories self.new.keeper) self.old.work self.new.work question.old question.new trials.new result }
     {
         question.end(self.alloc, Ending::Formed(formed))?;
@@ -247,7 +247,7 @@ impl<K: Keeper> Demand<K> {
         fault: Fault,
     ) -> Result<Option<Answer>, AllocError>
         requires { CanSpoil rules.now store.now (K.contents self.old.keeper) question.old trials.old fault }
-        ensures { HasSpoilt rules.now store.now K.exact (K.contents self.old.keeper) (K.contents self.new.keeper) (K.memories self.old.keeper)
+        ensures { HasSpoilt rules.now store.now (K.contents self.old.keeper) (K.contents self.new.keeper) (K.memories self.old.keeper)
             (K.memories self.new.keeper) self.old.work self.new.work question.old question.new trials.new fault result }
     {
         if question.is_plain() {
@@ -288,7 +288,7 @@ impl<K: Keeper> Demand<K> {
         going: Going<'a>,
     ) -> Result<Tried<'a>, AllocError>
         requires { CanCarryOn rules.now store.now (K.contents self.old.keeper) found.now.entries inst.now going }
-        ensures tried { HasCarriedOn rules.now store.now K.exact (K.contents self.old.keeper) (K.contents self.new.keeper) self.old.work self.new.work
+        ensures tried { HasCarriedOn rules.now store.now (K.contents self.old.keeper) (K.contents self.new.keeper) self.old.work self.new.work
             found.now.entries inst.now result }
         ensures traces { PutsInTurns (K.memories self.old.keeper) (K.memories self.new.keeper) }
     {
@@ -325,7 +325,7 @@ impl<K: Keeper> Demand<K> {
         step: Step,
     ) -> Result<Attempt, AllocError>
         requires { CanGoOn rules.now store.now (K.contents self.old.keeper) found.now.entries inst.now frame.old step }
-        ensures attempted { HasAttempted rules.now store.now K.exact (K.contents self.old.keeper) (K.contents self.new.keeper) self.old.work self.new.work
+        ensures attempted { HasAttempted rules.now store.now (K.contents self.old.keeper) (K.contents self.new.keeper) self.old.work self.new.work
             found.now.entries inst.now frame.new result }
         ensures traces { PutsInTurns (K.memories self.old.keeper) (K.memories self.new.keeper) }
     {
@@ -333,10 +333,11 @@ impl<K: Keeper> Demand<K> {
         match step {
             Step::Value(value) => {
                 let find = frame.take_find(self.alloc, value);
-                let put = self.keep(rules, found, inst, &find)?;
-                match put {
-                    Put::Kept => Ok(Attempt::Kept(find.into_value())),
-                    Put::Left => Ok(Attempt::Found(find)),
+                let is_kept = self.keep(rules, found, inst, &find)?;
+                if is_kept {
+                    Ok(Attempt::Kept(find.into_value()))
+                } else {
+                    Ok(Attempt::Found(find))
                 }
             }
             Step::Fault(kind) => Ok(Attempt::Fails(kind)),

@@ -15,7 +15,7 @@ ghost use Rattle.at_demand.specs.InParts.{EndsEvaluated, EndsRecalled, EndsTold,
 ghost use Rattle.at_demand.specs.InParts.{AsksEachInner, AsksInner, MayHaveCome, MayHavePassedBy, Seeks};
 ghost use Rattle.at_demand.specs.Sparing.{AreSpare, HasWorthy};
 
-use super::keeping::{few_of, is_circular, is_inner, is_small};
+use super::keeping::{FEW, is_circular, is_inner, is_small};
 use super::operands::value_at_once;
 use super::{Direct, Level};
 use crate::basis::Basis;
@@ -75,9 +75,9 @@ impl Direct {
     ) -> Result<Value, Stop>
         requires { IsHeld basis.now.rules.now (contents basis.now.store.now) (held_by K.contents K.memories keeper.old self.old) }
         ensures value { IfOk result (λ v. HasValue (contents basis.now.store.now) (meaning basis.now.rules.now) inst.now (value_view v)) }
-        ensures all { IsTrue K.exact → AreSpare basis.now.rules.now (contents basis.now.store.now) (K.contents keeper.old)
+        ensures all { AreSpare basis.now.rules.now (contents basis.now.store.now) (K.contents keeper.old)
             → IfOk result (λ v. HasWorthy basis.now.rules.now (contents basis.now.store.now) inst.now (K.contents keeper.new)) }
-        ensures grown { HasGrown basis.now.rules.now basis.now.store.now K.exact inst.now
+        ensures grown { HasGrown basis.now.rules.now basis.now.store.now inst.now
             (held_by K.contents K.memories keeper.old self.old) (held_by K.contents K.memories keeper.new self.new) }
     {
         let mut asks = self.level();
@@ -108,7 +108,7 @@ impl Direct {
         above: usize,
     ) -> Result<Value, Stop>
         requires { IsHeld basis.now.rules.now (contents basis.now.store.now) (held_by K.contents K.memories keeper.old self.old) }
-        ensures { EndsTold basis.now.rules.now basis.now.store.now K.exact needed (held_by K.contents K.memories keeper.old self.old)
+        ensures { EndsTold basis.now.rules.now basis.now.store.now needed (held_by K.contents K.memories keeper.old self.old)
             (held_by K.contents K.memories keeper.new self.new) level.old level.new result }
     {
         let recalled = self.recall(keeper, basis, level, &needed)?;
@@ -139,13 +139,13 @@ impl Direct {
         above: usize,
     ) -> Result<Value, Stop>
         requires { IsHeldFor basis.now.rules.now (contents basis.now.store.now) (held_by K.contents K.memories keeper.old self.old) false needed }
-        ensures { EndsTold basis.now.rules.now basis.now.store.now K.exact needed (held_by K.contents K.memories keeper.old self.old)
+        ensures { EndsTold basis.now.rules.now basis.now.store.now needed (held_by K.contents K.memories keeper.old self.old)
             (held_by K.contents K.memories keeper.new self.new) level.old level.new result }
     {
         let reads = level.reads.len();
         let uses = level.uses.len();
         let value = self.evaluate(keeper, basis, level, &needed, above)?;
-        if is_small(basis, level.reads.as_slice(), reads, few_of(keeper)) {
+        if is_small(basis, level.reads.as_slice(), reads, FEW) {
             return Ok(value);
         }
         let below = level.split_off(reads, uses)?;
@@ -165,7 +165,7 @@ impl Direct {
         above: usize,
     ) -> Result<Option<Value>, Stop>
         requires { IsHeldAfresh basis.now.rules.now (contents basis.now.store.now) (held_by K.contents K.memories keeper.old self.old) needed.now }
-        ensures { EndsRecalled basis.now.rules.now basis.now.store.now K.exact needed.now (held_by K.contents K.memories keeper.old self.old)
+        ensures { EndsRecalled basis.now.rules.now basis.now.store.now needed.now (held_by K.contents K.memories keeper.old self.old)
             (held_by K.contents K.memories keeper.new self.new) level.old level.new result }
     {
         for _ in 0..IN_THE_WAY {
@@ -195,7 +195,7 @@ impl Direct {
         above: usize,
     ) -> Result<Value, Stop>
         requires { IsHeldAfresh basis.now.rules.now (contents basis.now.store.now) (held_by K.contents K.memories keeper.old self.old) needed }
-        ensures { EndsTold basis.now.rules.now basis.now.store.now K.exact needed (held_by K.contents K.memories keeper.old self.old)
+        ensures { EndsTold basis.now.rules.now basis.now.store.now needed (held_by K.contents K.memories keeper.old self.old)
             (held_by K.contents K.memories keeper.new self.new) level.old level.new result }
     {
         let mut below = self.level();
@@ -221,7 +221,7 @@ impl Direct {
         above: usize,
     ) -> Result<Value, Stop>
         requires { IsHeldFrom basis.now.rules.now (contents basis.now.store.now) (held_by K.contents K.memories keeper.old self.old) inst.now }
-        ensures { EndsEvaluated basis.now.rules.now basis.now.store.now K.exact inst.now (held_by K.contents K.memories keeper.old self.old)
+        ensures { EndsEvaluated basis.now.rules.now basis.now.store.now inst.now (held_by K.contents K.memories keeper.old self.old)
             (held_by K.contents K.memories keeper.new self.new) level.old level.new result }
     {
         let begun = begin(self.alloc, basis.rules, basis.store, &mut level.reads, inst)?;
@@ -240,7 +240,7 @@ impl Direct {
         above: usize,
     ) -> Result<Value, Stop>
         requires { IsHeld basis.now.rules.now (contents basis.now.store.now) (held_by K.contents K.memories keeper.old self.old) }
-        ensures { EvaluatesTo basis.now.rules.now basis.now.store.now K.exact
+        ensures { EvaluatesTo basis.now.rules.now basis.now.store.now
             (ev basis.now.rules.now.classes (body_view body.now) (place_at here.now)) value_view
             (held_by K.contents K.memories keeper.old self.old) (held_by K.contents K.memories keeper.new self.new) level.old level.new result }
     {
@@ -280,7 +280,7 @@ impl Direct {
         above: usize,
     ) -> Result<Value, Stop>
         requires { IsHeld basis.now.rules.now (contents basis.now.store.now) (held_by K.contents K.memories keeper.old self.old) }
-        ensures { EvaluatesTo basis.now.rules.now basis.now.store.now K.exact
+        ensures { EvaluatesTo basis.now.rules.now basis.now.store.now
             (ev basis.now.rules.now.classes (body_view body.now) (place_at here.now)) value_view
             (held_by K.contents K.memories keeper.old self.old) (held_by K.contents K.memories keeper.new self.new) level.old level.new result }
     {
@@ -305,7 +305,7 @@ impl Direct {
         above: usize,
     ) -> Result<Value, Stop>
         requires { IsHeld basis.now.rules.now (contents basis.now.store.now) (held_by K.contents K.memories keeper.old self.old) }
-        ensures { EvaluatesTo basis.now.rules.now basis.now.store.now K.exact
+        ensures { EvaluatesTo basis.now.rules.now basis.now.store.now
             (one_of basis.now.rules.now.classes (place_at here.now) unary operand.now) value_view
             (held_by K.contents K.memories keeper.old self.old) (held_by K.contents K.memories keeper.new self.new) level.old level.new result }
     {
@@ -328,7 +328,7 @@ impl Direct {
         above: usize,
     ) -> Result<Value, Stop>
         requires { IsHeld basis.now.rules.now (contents basis.now.store.now) (held_by K.contents K.memories keeper.old self.old) }
-        ensures { EvaluatesTo basis.now.rules.now basis.now.store.now K.exact
+        ensures { EvaluatesTo basis.now.rules.now basis.now.store.now
             (two_of basis.now.rules.now.classes (place_at here.now) binary left.now right.now) value_view
             (held_by K.contents K.memories keeper.old self.old) (held_by K.contents K.memories keeper.new self.new) level.old level.new result }
     {
@@ -352,7 +352,7 @@ impl Direct {
     ) -> Result<Value, Stop>
         requires comparison { IsComparison comparison }
         requires held { IsHeld basis.now.rules.now (contents basis.now.store.now) (held_by K.contents K.memories keeper.old self.old) }
-        ensures { EvaluatesTo basis.now.rules.now basis.now.store.now K.exact
+        ensures { EvaluatesTo basis.now.rules.now basis.now.store.now
             (two_of basis.now.rules.now.classes (place_at here.now) comparison left.now right.now) value_view
             (held_by K.contents K.memories keeper.old self.old) (held_by K.contents K.memories keeper.new self.new) level.old level.new result }
     {
@@ -386,7 +386,7 @@ impl Direct {
     ) -> Result<Value, Stop>
         requires comparison { IsComparison comparison }
         requires held { IsHeld basis.now.rules.now (contents basis.now.store.now) (held_by K.contents K.memories keeper.old self.old) }
-        ensures { EvaluatesTo basis.now.rules.now basis.now.store.now K.exact
+        ensures { EvaluatesTo basis.now.rules.now basis.now.store.now
             (two_of basis.now.rules.now.classes (place_at here.now) comparison left.now right.now) value_view
             (held_by K.contents K.memories keeper.old self.old) (held_by K.contents K.memories keeper.new self.new) level.old level.new result }
     {
@@ -412,7 +412,7 @@ impl Direct {
     ) -> Result<Value, Stop>
         requires comparison { IsComparison comparison }
         requires held { IsHeld basis.now.rules.now (contents basis.now.store.now) (held_by K.contents K.memories keeper.old self.old) }
-        ensures { EvaluatesTo basis.now.rules.now basis.now.store.now K.exact
+        ensures { EvaluatesTo basis.now.rules.now basis.now.store.now
             (beside_text basis.now.rules.now.classes (place_at here.now) comparison left.now text.now) value_view
             (held_by K.contents K.memories keeper.old self.old) (held_by K.contents K.memories keeper.new self.new) level.old level.new result }
     {
@@ -434,7 +434,7 @@ impl Direct {
         above: usize,
     ) -> Result<Value, Stop>
         requires { IsHeld basis.now.rules.now (contents basis.now.store.now) (held_by K.contents K.memories keeper.old self.old) }
-        ensures { EvaluatesTo basis.now.rules.now basis.now.store.now K.exact
+        ensures { EvaluatesTo basis.now.rules.now basis.now.store.now
             (either_of basis.now.rules.now.classes (place_at here.now) test.now yes.entry no.entry) value_view
             (held_by K.contents K.memories keeper.old self.old) (held_by K.contents K.memories keeper.new self.new) level.old level.new result }
     {
@@ -461,7 +461,7 @@ impl Direct {
         above: usize,
     ) -> Result<Value, Stop>
         requires { IsHeld basis.now.rules.now (contents basis.now.store.now) (held_by K.contents K.memories keeper.old self.old) }
-        ensures { EvaluatesTo basis.now.rules.now basis.now.store.now K.exact
+        ensures { EvaluatesTo basis.now.rules.now basis.now.store.now
             (call_of basis.now.rules.now.classes (place_at here.now) receiver.now attribute passed.now) value_view
             (held_by K.contents K.memories keeper.old self.old) (held_by K.contents K.memories keeper.new self.new) level.old level.new result }
     {
@@ -490,7 +490,7 @@ impl Direct {
         above: usize,
     ) -> Result<Arguments, Stop>
         requires { IsHeld basis.now.rules.now (contents basis.now.store.now) (held_by K.contents K.memories keeper.old self.old) }
-        ensures { EvaluatesTo basis.now.rules.now basis.now.store.now K.exact
+        ensures { EvaluatesTo basis.now.rules.now basis.now.store.now
             (ev_all basis.now.rules.now.classes (bodies_view passed.now) (place_at here.now)) (map value_view)
             (held_by K.contents K.memories keeper.old self.old) (held_by K.contents K.memories keeper.new self.new) level.old level.new result }
     {
@@ -523,7 +523,7 @@ impl Direct {
         above: usize,
     ) -> Result<Value, Stop>
         requires { IsHeld basis.now.rules.now (contents basis.now.store.now) (held_by K.contents K.memories keeper.old self.old) }
-        ensures { EvaluatesTo basis.now.rules.now basis.now.store.now K.exact
+        ensures { EvaluatesTo basis.now.rules.now basis.now.store.now
             (fold_of basis.now.rules.now.classes (place_at here.now) fold of.now part body.now) value_view
             (held_by K.contents K.memories keeper.old self.old) (held_by K.contents K.memories keeper.new self.new) level.old level.new result }
     {
@@ -556,7 +556,7 @@ impl Direct {
         above: usize,
     ) -> Result<Value, Stop>
         requires { IsHeld basis.now.rules.now (contents basis.now.store.now) (held_by K.contents K.memories keeper.old self.old) }
-        ensures { EvaluatesTo basis.now.rules.now basis.now.store.now K.exact
+        ensures { EvaluatesTo basis.now.rules.now basis.now.store.now
             (over basis.now.rules.now.classes fold (body_view body.now) (place_at here.now) nodes.now) value_view
             (held_by K.contents K.memories keeper.old self.old) (held_by K.contents K.memories keeper.new self.new) level.old level.new result }
     {
@@ -603,7 +603,7 @@ impl Direct {
     ) -> Result<Value, Stop>
         requires { IfSome asked.now (AsksInner basis.now.rules.now (place_at inside.now) body.now node)
             × IsHeld basis.now.rules.now (contents basis.now.store.now) (held_by K.contents K.memories keeper.old self.old) }
-        ensures { EvaluatesTo basis.now.rules.now basis.now.store.now K.exact
+        ensures { EvaluatesTo basis.now.rules.now basis.now.store.now
             (ev basis.now.rules.now.classes (body_view body.now) (place_at inside.now)) value_view
             (held_by K.contents K.memories keeper.old self.old) (held_by K.contents K.memories keeper.new self.new) level.old level.new result }
     {

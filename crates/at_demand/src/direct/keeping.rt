@@ -7,13 +7,13 @@ ghost use Rattle.at_store.specs.Shown.{contents};
 ghost use Rattle.at_body.specs.Values.{value_view};
 ghost use Rattle.at_body.specs.Same.{same_instance};
 ghost use Rattle.indexmap.specs.IndexMap.{insert_entry};
-ghost use Rattle.at_cache.specs.Kept.{AreKept, HasPut, KeepsAll};
+ghost use Rattle.at_cache.specs.Kept.{AreKept, KeepsAll, Puts};
 ghost use Rattle.at_cache.specs.Traced.{PutsTrace};
 ghost use Rattle.at_cache.specs.declared.keeper.Order.TheVariants as order_code;
 ghost use Rattle.at_demand.specs.Known.{kept_values, meaning};
 ghost use Rattle.at_demand.specs.Inner.{AreKnown, AreLazy, HasRecalled, IsOneOf, known_by, remembered};
 ghost use Rattle.at_demand.specs.InParts.{EndsRecalled, EndsTaken, HasEntered, IsEvaluatedAfresh, IsEvaluatedFor, IsHeld, IsHeldAfresh, LeavesFinds, held_by};
-ghost use Rattle.at_demand.specs.Made.{CountsPut, Makes};
+ghost use Rattle.at_demand.specs.Made.{Makes};
 ghost use Rattle.at_demand.specs.Meant.{AreCircularWell};
 ghost use Rattle.at_demand.specs.Reasons.{DemandsOn};
 ghost use Rattle.at_demand.specs.Sparing.{Counts};
@@ -22,18 +22,16 @@ use super::{Direct, Level};
 use crate::basis::Basis;
 use at_apply::Stop;
 use at_body::{Inst, Value};
-use at_cache::{Keeper, Order, Put};
+use at_cache::{Keeper, Order};
 use at_rules::{AttrId, Rules};
 use at_store::Loc;
 use indexmap::IndexMap;
 use std::alloc::AllocError;
 
-// An instance that isn't lazy is evaluated again at each demand where that looks at no more locations than that, and goes over no more elements.
-// The value of another one is remembered, and what it rests on stands once.
-const FEW: usize = 16;
-
-// The same where the keeper traces: no trace is made of what takes a remembered value, so it would be evaluated anew after each edit.
-const FEW_TRACED: usize = 64;
+/// An instance that isn't lazy is evaluated again at each demand where that looks at no more locations than that, and goes over no more elements.
+/// The value of another one is remembered, and what it rests on stands once; but what takes that has no trace, and is evaluated anew after each
+/// edit that touches any of it.
+pub const FEW: usize = 64;
 
 impl Direct {
     // What stands in the way of keeping the instance again: another one, to which demands lead from it, and of which no value is kept.
@@ -77,7 +75,7 @@ impl Direct {
         needed: &Inst,
     ) -> Result<Option<Value>, AllocError>
         requires { IsHeldAfresh basis.now.rules.now (contents basis.now.store.now) (held_by K.contents K.memories keeper.old self.old) needed.now }
-        ensures { EndsRecalled basis.now.rules.now basis.now.store.now K.exact needed.now (held_by K.contents K.memories keeper.old self.old)
+        ensures { EndsRecalled basis.now.rules.now basis.now.store.now needed.now (held_by K.contents K.memories keeper.old self.old)
             (held_by K.contents K.memories keeper.new self.new) level.old level.new result }
     {
         let count = keeper.settle(needed, 0);
@@ -150,7 +148,7 @@ impl Direct {
     ) -> Result<(), Stop>
         requires { IsEvaluatedAfresh basis.now.rules.now (contents basis.now.store.now) (held_by K.contents K.memories keeper.old self.old)
             needed (value_view value.now) below.now }
-        ensures { EndsTaken basis.now.rules.now basis.now.store.now K.exact needed (value_view value.now)
+        ensures { EndsTaken basis.now.rules.now basis.now.store.now needed (value_view value.now)
             (held_by K.contents K.memories keeper.old self.old) (held_by K.contents K.memories keeper.new self.new) level.old level.new result }
     {
         // Never so: what was used for it is kept where its evaluation has ended, and so it was kept again. It is put by turns then.
@@ -158,17 +156,12 @@ impl Direct {
             return Err(Stop::GivesUp);
         }
         let order = order_of(basis.rules, below.uses.as_slice());
-        let put = self.put(keeper, &needed, value, below, order)?;
-        match put {
-            Put::Kept => {
-                level.uses.push(needed)?;
-                Ok(())
-            }
-            Put::Left => Err(Stop::GivesUp),
-        }
+        self.put(keeper, &needed, value, below, order)?;
+        level.uses.push(needed)?;
+        Ok(())
     }
 
-    // Puts a value to what is kept, for all that its evaluation looked at and took, and counts it. It is made, if it is there.
+    // Puts a value to what is kept, for all that its evaluation looked at and took, and counts it: it is made.
     fn put<K: Keeper>(
         &mut self,
         keeper: &mut K,
@@ -176,14 +169,14 @@ impl Direct {
         value: &Value,
         level: &Level,
         order: Order,
-    ) -> Result<Put, AllocError>
+    ) -> Result<(), AllocError>
         requires absent { K.contents keeper.old inst.now ≡ None }
         requires present { AreKept (K.contents keeper.old) level.now.uses.items }
         requires anew { (K.memories keeper.old).traced inst.now ≡ None }
-        ensures puts { IfOk result (HasPut K.exact (K.contents keeper.old) inst.now (Some (value_view value.now)) level.now.reads
+        ensures puts { OnOk result (Puts (K.contents keeper.old) inst.now (Some (value_view value.now)) level.now.reads
             level.now.uses.items (K.contents keeper.new)) }
         ensures err { OnErr result (KeepsAll (K.contents keeper.old) (K.contents keeper.new)) }
-        ensures counts { IsTrue K.exact → Counts (K.contents keeper.old) (K.contents keeper.new) self.old.work self.new.work }
+        ensures counts { Counts (K.contents keeper.old) (K.contents keeper.new) self.old.work self.new.work }
         ensures found { self.new.found.entries ≡ self.old.found.entries }
         ensures traces { PutsTrace inst.now (Some (value_view value.now)) level.now.reads level.now.uses.items order
             (K.memories keeper.old) (K.memories keeper.new) }
@@ -191,7 +184,7 @@ impl Direct {
     {
         let reads = level.reads.as_slice();
         let uses = level.uses.as_slice();
-        let put = keeper.put(
+        keeper.put(
             inst.copy(self.alloc)?,
             Some(value.copy()?),
             reads,
@@ -199,8 +192,8 @@ impl Direct {
             order,
         )?;
         self.work = self.work.saturating_add(1);
-        self.made = counted(self.made, put);
-        Ok(put)
+        self.made = self.made.saturating_add(1);
+        Ok(())
     }
 
     // Remembers the value of an instance that isn't lazy, which is taken then.
@@ -215,7 +208,7 @@ impl Direct {
     ) -> Result<(), Stop>
         requires { IsEvaluatedFor basis.now.rules.now (contents basis.now.store.now) (held_by K.contents K.memories keeper.old self.old) false
             needed (value_view value.now) below.now }
-        ensures { EndsTaken basis.now.rules.now basis.now.store.now K.exact needed (value_view value.now)
+        ensures { EndsTaken basis.now.rules.now basis.now.store.now needed (value_view value.now)
             (held_by K.contents K.memories keeper.old self.old) (held_by K.contents K.memories keeper.new self.new) level.old level.new result }
     {
         self.stand(keeper, basis, &needed, value, below)?;
@@ -236,7 +229,7 @@ impl Direct {
     ) -> Result<(), Stop>
         requires { IsEvaluatedFor basis.now.rules.now (contents basis.now.store.now) (held_by K.contents K.memories keeper.old self.old) false
             needed.now (value_view value.now) below.now }
-        ensures { HasEntered basis.now.rules.now basis.now.store.now K.exact needed.now (held_by K.contents K.memories keeper.old self.old)
+        ensures { HasEntered basis.now.rules.now basis.now.store.now needed.now (held_by K.contents K.memories keeper.old self.old)
             (held_by K.contents K.memories keeper.new self.new) result }
     {
         if keeper.stands(needed) {
@@ -244,11 +237,8 @@ impl Direct {
         }
         let reads = below.reads.as_slice();
         let uses = below.uses.as_slice();
-        let put = keeper.put(needed.copy(self.alloc)?, None, reads, uses, Order::Any)?;
-        match put {
-            Put::Kept => Ok(()),
-            Put::Left => Err(Stop::GivesUp),
-        }
+        keeper.put(needed.copy(self.alloc)?, None, reads, uses, Order::Any)?;
+        Ok(())
     }
 
     // An instance of the attribute is remembered.
@@ -296,21 +286,6 @@ fn order_of(rules: &Rules, uses: &[Inst]) -> Order
         }
     }
     Order::AsTaken
-}
-
-// How many values were made once one was put.
-fn counted(made: u64, put: Put) -> u64
-    ensures { CountsPut put made result }
-{
-    match put {
-        Put::Kept => made.saturating_add(1),
-        Put::Left => made,
-    }
-}
-
-// How many locations, and elements, a small evaluation looks at.
-pub fn few_of<K: Keeper>(keeper: &K) -> usize {
-    if keeper.is_tracing() { FEW_TRACED } else { FEW }
 }
 
 // Whether an evaluation was a small one that looked at the locations behind the first so many, in all: a fold goes over the elements of a

@@ -1,5 +1,5 @@
 -- How what can be kept again came to be what it is, over what an engine does.
-use Rattle.std.proofs.Common.{◌≡◌, ℕ, Bool, refl, sym, subst}
+use Rattle.std.proofs.Common.{◌≡◌, ℕ, refl, sym, subst}
 use Rattle.at_cache.specs.Kept.{Entries}
 use Rattle.at_cache.specs.Traced.{Memories}
 use Rattle.at_demand.specs.declared.demand.Demand.{Demand}
@@ -13,26 +13,26 @@ pub went_still : (m : Memories) (k : ℕ) → Went m k m k
 went_still m k = begun
 
 -- where it is the same for questions
-pub went_same : {K : Type 0} (exact : Bool) (memories : K → Memories) (old new : Engine K) → new.demand ≡ old.demand → WentOn exact memories old new
-went_same {K} exact memories old new same is =
+pub went_same : {K : Type 0} (memories : K → Memories) (old new : Engine K) → new.demand ≡ old.demand → WentOn memories old new
+went_same {K} memories old new same =
     subst (λ (d : Demand K). Went (memories old.demand.keeper) (made_of old) (memories d.keeper) d.made) (sym same) begun
 
 -- and behind that
-pub went_along : {K : Type 0} (exact : Bool) (memories : K → Memories) (old mid new : Engine K) → new.demand ≡ mid.demand
-    → WentOn exact memories old mid → WentOn exact memories old new
-went_along {K} exact memories old mid new same went is =
-    subst (λ (d : Demand K). Went (memories old.demand.keeper) (made_of old) (memories d.keeper) d.made) (sym same) (went is)
+pub went_along : {K : Type 0} (memories : K → Memories) (old mid new : Engine K) → new.demand ≡ mid.demand
+    → WentOn memories old mid → WentOn memories old new
+went_along {K} memories old mid new same went =
+    subst (λ (d : Demand K). Went (memories old.demand.keeper) (made_of old) (memories d.keeper) d.made) (sym same) went
 
-went_both : {K : Type 0} (exact : Bool) (memories : K → Memories) (old mid new : Engine K) → WentOn exact memories old mid
-    → WentOn exact memories mid new → WentOn exact memories old new
-went_both exact memories old mid new first second is = went_then (memories old.demand.keeper) (memories mid.demand.keeper)
-    (memories new.demand.keeper) (made_of old) (made_of mid) (made_of new) (first is) (second is)
+went_both : {K : Type 0} (memories : K → Memories) (old mid new : Engine K) → WentOn memories old mid
+    → WentOn memories mid new → WentOn memories old new
+went_both memories old mid new first second = went_then (memories old.demand.keeper) (memories mid.demand.keeper)
+    (memories new.demand.keeper) (made_of old) (made_of mid) (made_of new) first second
 
 -- over all lines and turns
-pub went_over : {K : Type 0} (exact : Bool) (entries : K → Entries) (memories : K → Memories) (old new : Engine K)
-    → GoesBy exact entries memories old new → WentOn exact memories old new
-went_over exact entries memories old _ nowhere = went_same exact memories old old refl
-went_over exact entries memories old _ (by_line mid new line before after wants first served went) =
-    went_both exact memories old mid new (went_over exact entries memories old mid first) went
-went_over exact entries memories old _ (by_turns mid new limit before after spent first spends went) =
-    went_both exact memories old mid new (went_over exact entries memories old mid first) went
+pub went_over : {K : Type 0} (entries : K → Entries) (memories : K → Memories) (old new : Engine K)
+    → GoesBy entries memories old new → WentOn memories old new
+went_over entries memories old _ nowhere = went_same memories old old refl
+went_over entries memories old _ (by_line mid new line before after wants first served went) =
+    went_both memories old mid new (went_over entries memories old mid first) went
+went_over entries memories old _ (by_turns mid new limit before after spent first spends went) =
+    went_both memories old mid new (went_over entries memories old mid first) went

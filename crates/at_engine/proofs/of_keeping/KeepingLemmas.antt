@@ -31,13 +31,14 @@ use Rattle.at_demand.proofs.Entered.{entered}
 use Rattle.at_demand.specs.Called.{Keeps}
 use Rattle.at_demand.specs.Groups.{KeepsGroups}
 use Rattle.at_demand.specs.declared.demand.Demand.{Demand}
-use Rattle.at_engine.specs.Engines.{rules_of, state_of}
+use Rattle.at_engine.specs.Engines.{most_of, rules_of, settings_of, state_of}
 use Rattle.at_engine.specs.Following.{Follows, IsAtOnce}
 use Rattle.at_engine.specs.KeptOver.{AreWaiting, Grows, HasVerdict, obeys, refuses, IsWorthFor, IsWorthIn}
 use Rattle.at_engine.specs.Keeping.{AreAtOnce, GrowsLine, GrowsOver, IsSpare, IsSpareWith, KeepsLine, KeepsOver, KeepsServed, KeepsWhole, Spares, SparesLine, SparesVerdict, kept_of, work_of}
 use Rattle.at_engine.specs.Hearing.{Hears, at_once, by_turns}
 use Rattle.at_engine.specs.Telling.{IsToldFor, IsToldOf, Meets}
 use Rattle.at_engine.specs.declared.engine.Engine.{Engine}
+use Rattle.at_engine.specs.declared.engine.Settings.{Settings}
 use Rattle.at_engine.specs.declared.engine.saying.Told.{Told}
 use Rattle.at_engine.specs.declared.engine.editing.Obstacle.{Obstacle}
 use Rattle.at_engine.specs.declared.engine.editing.Obstacle.TheVariants as obstacle
@@ -64,6 +65,10 @@ quiet_keeps rules s (Asks q) before after w quiet same = absurd quiet
 quiet_keeps rules s (Posts q) before after w quiet same = record { kept = same; more = 0; is_work = refl; grows = λ small. omega (arith, small) }
 quiet_keeps rules s (Waits number) before after w quiet same = record { kept = same; more = 0; is_work = refl; grows = λ small. omega (arith, small) }
 
+-- where no bound is set, none is under the same settings
+pub unbounded_still : {K : Type 0} (old new : Engine K) → settings_of new ≡ settings_of old → most_of old ≡ None → most_of new ≡ None
+unbounded_still old new same none = ap (λ (s : Settings). s.most) same ∙ none
+
 -- where the store, the rules and the questions are as they were, so is what is kept
 module _ {K : Type 0} (entries : K → Entries) (old new : Engine K) (same_numbers : numbers new.store ≡ numbers old.store) (same_tree : tree new.store ≡ tree old.store) (same_rules : new.rules ≡ old.rules) (same_demand : new.demand ≡ old.demand) where
   kept_stays : (j : Instance Node) → kept_of entries new j ↔ kept_of entries old j
@@ -75,12 +80,17 @@ module _ {K : Type 0} (entries : K → Entries) (old new : Engine K) (same_numbe
       )
 
   -- what was done for open questions is spare, too
-  pub spare_stays : (same_posts : new.posts.items.items ≡ old.posts.items.items) → IsSpare entries old → IsSpare entries new
-  spare_stays same_posts h =
-      subst (λ (r : Rules). IsSpareWith r (contents new.store) (entries new.demand.keeper) new.posts.items.items) (sym same_rules)
-      (subst (λ (look : Contents ℕ). IsSpareWith old.rules look (entries new.demand.keeper) new.posts.items.items) (sym (shown_stays old.store new.store same_numbers same_tree))
-      (subst (λ (d : Demand K). IsSpareWith old.rules (contents old.store) (entries d.keeper) new.posts.items.items) (sym same_demand)
-      (subst (IsSpareWith old.rules (contents old.store) (entries old.demand.keeper)) (sym same_posts) h)))
+  pub spare_stays : (same_posts : new.posts.items.items ≡ old.posts.items.items) → settings_of new ≡ settings_of old → IsSpare entries old
+      → IsSpare entries new
+  spare_stays same_posts same_settings h = record {
+    unbounded = unbounded_still old new same_settings h.unbounded;
+    spare =
+        subst (λ (r : Rules). IsSpareWith r (contents new.store) (entries new.demand.keeper) new.posts.items.items) (sym same_rules)
+        (subst (λ (look : Contents ℕ). IsSpareWith old.rules look (entries new.demand.keeper) new.posts.items.items)
+        (sym (shown_stays old.store new.store same_numbers same_tree))
+        (subst (λ (d : Demand K). IsSpareWith old.rules (contents old.store) (entries d.keeper) new.posts.items.items) (sym same_demand)
+        (subst (IsSpareWith old.rules (contents old.store) (entries old.demand.keeper)) (sym same_posts) h.spare)));
+  }
 
   keeps_over : (v : Verdict) → IsQuiet v → KeepsOver entries v old new
   keeps_over v quiet =
@@ -217,8 +227,8 @@ at_once_unless rules s bytes (Posts q) h none = tt
 at_once_unless rules s bytes (Waits number) h none = none (number, h)
 
 -- a line that was read
-pub line_spares : {K : Type 0} (entries : K → Entries) (memories : K → Memories) (old new : Engine K) (bytes : List ℕ) (exact : Bool) (l : Line) (told : Told) → Spells bytes l → Hears exact entries memories old new l told → SparesVerdict entries (verdict (rules_of old) (state_of old) l) told.form old new → SparesLine entries bytes told.form old new
-line_spares entries memories old new bytes exact l told spells heard spares = by told.form refl
+pub line_spares : {K : Type 0} (entries : K → Entries) (memories : K → Memories) (old new : Engine K) (bytes : List ℕ) (l : Line) (told : Told) → Spells bytes l → Hears entries memories old new l told → SparesVerdict entries (verdict (rules_of old) (state_of old) l) told.form old new → SparesLine entries bytes told.form old new
+line_spares entries memories old new bytes l told spells heard spares = by told.form refl
   where
     v : Verdict
     v = verdict (rules_of old) (state_of old) l

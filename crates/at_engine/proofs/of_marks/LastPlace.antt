@@ -1,5 +1,5 @@
 -- Where the last question was asked.
-use Rattle.std.proofs.Common.{◌≡◌, ◌<◌, ℕ, Bool, List, [], Option, Some, None, Result, Ok, Err, Bor, length, arith, sym, subst}
+use Rattle.std.proofs.Common.{◌≡◌, ◌<◌, ℕ, List, [], Option, Some, None, Result, Ok, Err, Bor, length, arith, sym, subst}
 use Rattle.std.specs.Prelude.{IfSome}
 use Rattle.at_model.specs.Classes.{Classes}
 use Rattle.at_model.specs.Lines.{Place, From_root, IsPlace, max_sessions}
@@ -48,13 +48,13 @@ module _ {K : Type 0} (entries : K → Entries) (memories : K → Memories)
   spared v (Ok f) new h = h
   spared v (Err x) new h = h
 
-  pub noted_so : {E : Type 0} (exact : Bool) (v : Verdict) (result : Result Form E) (new : Engine K) → Fulfils exact entries memories mid v result new → Fulfils exact entries memories old v result new
-  noted_so {E} exact v result new fulfils =
-      let same : Fulfils {E = E} exact entries memories (record old { last = mid.last }) v result new = subst (λ (e : Engine K). Fulfils exact entries memories e v result new) rest fulfils in
+  pub noted_so : {E : Type 0} (v : Verdict) (result : Result Form E) (new : Engine K) → Fulfils entries memories mid v result new → Fulfils entries memories old v result new
+  noted_so {E} v result new fulfils =
+      let same : Fulfils {E = E} entries memories (record old { last = mid.last }) v result new = subst (λ (e : Engine K). Fulfils entries memories e v result new) rest fulfils in
       record {
         obeys = same.obeys;
         err = same.err;
-        spares = λ h spare. spared v result new (same.spares h spare);
-        stays = record { rules = same.stays.rules; slice = same.stays.slice; sound = same.stays.sound; known = λ k. same.stays.known known };
+        spares = λ it. spared v result new (same.spares (record { unbounded = it.unbounded; spare = it.spare }));
+        stays = record { rules = same.stays.rules; settings = same.stays.settings; sound = same.stays.sound; known = λ k. same.stays.known known };
         went = same.went;
       }

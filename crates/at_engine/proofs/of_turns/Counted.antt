@@ -1,5 +1,5 @@
 -- Single turns that stand one behind the other, and how many they are.
-use Rattle.std.proofs.Common.{◌≡◌, ◌∙◌, ℕ, ◌+◌, ◌<◌, ◌≤◌, Option, Some, None, refl, sym, arith, subst, Bool, inl, inr}
+use Rattle.std.proofs.Common.{◌≡◌, ◌∙◌, ℕ, ◌+◌, ◌<◌, ◌≤◌, Option, Some, None, refl, sym, arith, subst, inl, inr}
 use Rattle.std.specs.Prelude.{IfNone, IfSome}
 use Rattle.at_model.specs.Meaning.{Answer}
 use Rattle.at_model.specs.Replies.{Form}
@@ -256,20 +256,20 @@ module _ (rules : Rules) (s : Shown) (former latter : Memories) (stay : StayTrac
         };
   }
 
-module _ {K : Type 0} (exact : Bool) (kept : K
+module _ {K : Type 0} (kept : K
     → Entries) (memories : K → Memories) (e : Engine K) (d : Demand K) (p : Posted) (given : ℕ) (told : Form) where
-  pub some_given : EndsSo exact kept memories e d p given told → 0 < given
+  pub some_given : EndsSo kept memories e d p given told → 0 < given
   some_given (inl (refused, same, one)) = omega (arith, one)
   some_given (inr asks) = some_turn (rules_of e) e.store (memories e.demand.keeper) (kept e.demand.keeper) p.question asks.inst (kept d.keeper)
       asks.holds.end asks.holds.answer given asks.holds.turns
 
 -- what was answered, and can't be told
-pub out_behind : {K A : Type 0} (exact : Bool) (kept : K
+pub out_behind : {K A : Type 0} (kept : K
     → Entries) (memories : K → Memories) (limit : Option ℕ) (e : Engine K) (d : Demand K) (p : Posted) (given counted : ℕ) (a : A)
-    (told : Form) → CountsTurns limit given counted (Some a) → EndsSo exact kept memories e d p given told
+    (told : Form) → CountsTurns limit given counted (Some a) → EndsSo kept memories e d p given told
     → RunsOut kept memories limit e d p
-out_behind exact kept memories limit e d p given counted a told counts (inl (refused, same, one)) = inl same
-out_behind exact kept memories limit e d p given counted a told counts (inr asks) = inr (record {
+out_behind kept memories limit e d p given counted a told counts (inl (refused, same, one)) = inl same
+out_behind kept memories limit e d p given counted a told counts (inr asks) = inr (record {
   inst = asks.inst;
   named = asks.named;
   words = asks.words;

@@ -1,7 +1,7 @@
 -- What the turns of the first open question come to, in the words of the machine.
 use Rattle.std.proofs.Common.{◌≡◌, ℕ, zero, suc, ◌+◌, ◌-◌, ◌<◌, ◌≤◌, Bool, true, false, not, if◌then◌else◌, List, [], ◌∷◌, ◌++◌, length, map, Option, Some, None, Result, Ok, Err, refl, sym, ap, ◌∙◌, subst, arith, append-nil}
 use Rattle.std.proofs.lemmas.List.{length-map}
-use Rattle.std.specs.Prelude.{slice_get, slice_set, remove, IfSome, IsTrue, MatchBool, Vec, vec_capacity}
+use Rattle.std.specs.Prelude.{slice_get, slice_set, remove, IfSome, MatchBool, Vec, vec_capacity}
 use Rattle.std.specs.Global.{Global}
 use Rattle.std.proofs.lemmas.Option.{slice_get_within}
 use Rattle.std.specs.declared.alloc.AllocError.{AllocError}
@@ -88,10 +88,10 @@ module _ {K : Type 0} (kept : K → Entries) (e : Engine K) {remembered : Memori
         (items ∙ ap (λ (l : List Posted). remove l position) opens.items ∙ removed_anew e.posts.items.items position (record p { question = o }))
         (ap (λ (x : Engine K). x.posts.count) tells ∙ opens.count)
 
-    pub closed_so : (exact : Bool) (memories : K → Memories) (r : Result Form AllocError) → HasEnded exact kept memories e n.demand p r → (told : Told) → told ≡ told_of p m.version r
-        → IsClosed exact kept memories e n p told
-    closed_so exact memories r ended told is =
-        subst (IsClosed exact kept memories e n p) (sym (is ∙ ap (λ (v : ℕ). told_of p v r) (ap (λ (x : Engine K). x.version) rest))) (record {
+    pub closed_so : (memories : K → Memories) (r : Result Form AllocError) → HasEnded kept memories e n.demand p r → (told : Told) → told ≡ told_of p m.version r
+        → IsClosed kept memories e n p told
+    closed_so memories r ended told is =
+        subst (IsClosed kept memories e n p) (sym (is ∙ ap (λ (v : ℕ). told_of p v r) (ap (λ (x : Engine K). x.version) rest))) (record {
           there = is_numbered (rules_of e) e.store e.version (marks_of e) e.posts position p there sound.numbered;
           gone = state_gone;
           session = refl;
@@ -99,7 +99,7 @@ module _ {K : Type 0} (kept : K → Entries) (e : Engine K) {remembered : Memori
           ended = ended;
         })
 
-module _ {K : Type 0} (exact : Bool) (kept : K → Entries) (memories : K → Memories) (e : Engine K) {remembered : Memories}
+module _ {K : Type 0} (kept : K → Entries) (memories : K → Memories) (e : Engine K) {remembered : Memories}
     (sound : IsSoundWith (rules_of e) e.store (marks_of e) e.posts (kept e.demand.keeper) remembered) (p : Posted) (others : List Posted) (least : e.posts.items.items ≡ p ∷ others) where
   abbrev view : Posted → PostedOf
   view = posted_view (path e.store)
@@ -174,9 +174,9 @@ module _ {K : Type 0} (exact : Bool) (kept : K → Entries) (memories : K → Me
             → CountsTurns {A = Bool × Reply} limit given counted (Some (wants, reply))
             → Given (rules_of e) given (state_of e) ((wants, reply) ∷ []) (state_of n)
             → after ≡ before ++ reply_text reply
-            → HasTried exact kept memories limit e n p others given (Some (wants, reply))
-            → (KeepsWhole (rules_of e) wants → IsTrue exact → IsSpare kept e → IsSpare kept n)
-            → HasGiven exact kept memories limit e n before after (record { turns = counted; told = Some wants })
+            → HasTried kept memories limit e n p others given (Some (wants, reply))
+            → (KeepsWhole (rules_of e) wants → IsSpare kept e → IsSpare kept n)
+            → HasGiven kept memories limit e n before after (record { turns = counted; told = Some wants })
         spent_so given counted wants reply some counts turns appended tried spare = gives (record {
           first = p;
           others = others;
@@ -194,14 +194,14 @@ module _ {K : Type 0} (exact : Bool) (kept : K → Entries) (memories : K → Me
 
         -- the last of them answers it
         pub gives_told : (counted : ℕ) (f : Form)
-            → Came {E = AllocError} exact kept memories limit e m.demand p o (Ok (counted, Some f)) → (wants : Bool)
+            → Came {E = AllocError} kept memories limit e m.demand p o (Ok (counted, Some f)) → (wants : Bool)
             → IsSaid (told_of p m.version (Ok f)) wants before after
-            → (IsTrue exact → IsSpare kept e → IsSpare kept n)
-            → HasGiven exact kept memories limit e n before after (record { turns = counted; told = Some wants })
+            → (IsSpare kept e → IsSpare kept n)
+            → HasGiven kept memories limit e n before after (record { turns = counted; told = Some wants })
         gives_told counted f (given, counts, x, ends) wants said spare =
             let t = told_so wants before after f x said in
             let start = turns_given p.question in
-            let some = some_given exact kept memories e m.demand p given x.form ends in
+            let some = some_given kept memories e m.demand p given x.form ends in
             let turn = subst (λ (r : Reply). Turns (rules_of e) (at_turn (start + (given - 1))) p.number (state_of n)
             (Some (wants, r))) (sym t.reply_is)
             (turn_at (start + (given - 1)) wants x.form x.answers) in
@@ -216,27 +216,27 @@ module _ {K : Type 0} (exact : Bool) (kept : K → Entries) (memories : K → Me
             (by given counted wants t.reply x.form t.is_form ends counts) (λ whole. spare)
           where
             by : (given counted : ℕ) (wants : Bool) (reply : Reply) (g : FormOf) → (wants ≡ false → reply.form ≡ g)
-                → EndsSo exact kept memories e m.demand p given g
+                → EndsSo kept memories e m.demand p given g
                 → CountsTurns limit given counted (Some f)
-                → HasTried exact kept memories limit e n p others given (Some (wants, reply))
+                → HasTried kept memories limit e n p others given (Some (wants, reply))
             by given counted false reply g is ends counts = subst (λ
-                (d : Demand K). EndsSo exact kept memories e d p given reply.form) (sym demand_end)
-                (subst (EndsSo exact kept memories e m.demand p given) (sym (is refl)) ends)
+                (d : Demand K). EndsSo kept memories e d p given reply.form) (sym demand_end)
+                (subst (EndsSo kept memories e m.demand p given) (sym (is refl)) ends)
             by given counted true reply g is ends counts = subst (λ (d : Demand K). RunsOut kept memories limit e d p)
                 (sym demand_end)
-                (out_behind exact kept memories limit e m.demand p given counted f g counts ends)
+                (out_behind kept memories limit e m.demand p given counted f g counts ends)
 
         -- or memory runs out
-        pub gives_failed : (e' : AllocError) → Came exact kept memories limit e m.demand p o (Err e') → IfSome limit (λ n. 0 < n)
+        pub gives_failed : (e' : AllocError) → Came kept memories limit e m.demand p o (Err e') → IfSome limit (λ n. 0 < n)
             → (wants : Bool)
             → IsSaid (told_of p m.version (Err e')) wants before after
-            → (HasNoneCircular (rules_of e) → IsTrue exact → IsSpare kept e → IsSpare kept n)
-            → HasGiven exact kept memories limit e n before after (record { turns = 1; told = Some wants })
+            → (HasNoneCircular (rules_of e) → IsSpare kept e → IsSpare kept n)
+            → HasGiven kept memories limit e n before after (record { turns = 1; told = Some wants })
         gives_failed e' out some wants said spare = by wants (failed_so wants before after e' said)
           where
             by : (wants : Bool) → (wants ≡ true) × TurnTold (rules_of e) (state_of e) (view p)
                 (state_of n) wants Memory before after
-                → HasGiven exact kept memories limit e n before after (record { turns = 1; told = Some wants })
+                → HasGiven kept memories limit e n before after (record { turns = 1; told = Some wants })
             by true (is, t) = spent_so 1 1 true t.reply (omega arith) (counts_refused {A = Bool × Reply} limit
                 (true, t.reply) some)
                 (telling (view p) (ap first_of viewed) t.turns (spent (state_of n))) t.appended
@@ -246,9 +246,9 @@ module _ {K : Type 0} (exact : Bool) (kept : K → Entries) (memories : K → Me
     -- it has no answer yet
     pub gives_silent : (limit : Option ℕ) (o : Option Question) → Reopens 0 e.posts m.posts p o
         → (counted : ℕ) (before after : List ℕ) → after ≡ before
-        → IfSome limit (λ n. 0 < n) → Came {E = AllocError} exact kept memories limit e m.demand p o (Ok (counted, None))
-        → (IsTrue exact → IsSpare kept e → IsSpare kept m)
-        → HasGiven exact kept memories limit e m before after (record { turns = counted; told = None })
+        → IfSome limit (λ n. 0 < n) → Came {E = AllocError} kept memories limit e m.demand p o (Ok (counted, None))
+        → (IsSpare kept e → IsSpare kept m)
+        → HasGiven kept memories limit e m before after (record { turns = counted; told = None })
     gives_silent limit o opens counted before after same some (given, counts, still) spare =
         let start = turns_given p.question in
         let count : turns_given o ≡ start + given = ap turns_given still.holds.1 ∙ still.holds.2.counted in
@@ -272,24 +272,24 @@ module _ {K : Type 0} (exact : Bool) (kept : K → Entries) (memories : K → Me
         })
 
 -- no question is open, and nothing is done
-pub gives_nothing : {K : Type 0} (exact : Bool) (kept : K
+pub gives_nothing : {K : Type 0} (kept : K
     → Entries) (memories : K → Memories) (limit : Option ℕ) (e : Engine K) (before after : List ℕ) → e.posts.items.items ≡ []
-    → after ≡ before → HasGiven exact kept memories limit e e before after (record { turns = 0; told = None })
-gives_nothing exact kept memories limit e before after none same = none_open (ap (map (posted_view
+    → after ≡ before → HasGiven kept memories limit e e before after (record { turns = 0; told = None })
+gives_nothing kept memories limit e before after none same = none_open (ap (map (posted_view
     (path e.store))) none) refl same refl
 
 -- one turn, where a question is open
-pub turned_once : {K : Type 0} (exact : Bool) (kept : K
+pub turned_once : {K : Type 0} (kept : K
     → Entries) (memories : K → Memories) (e n : Engine K) (before after : List ℕ) (it : Spent) (is_settled : Bool)
     → MatchBool is_settled (e.posts.items.items ≡ []) (0 < length e.posts.items.items)
-    → HasGiven exact kept memories (Some 1) e n before after it
-    → HasTurned exact kept memories e n before after (not is_settled)
-turned_once exact kept memories e n before after it true none (none_open posted same appended told) = (posted, same, appended)
-turned_once exact kept memories e n before after it true none
+    → HasGiven kept memories (Some 1) e n before after it
+    → HasTurned kept memories e n before after (not is_settled)
+turned_once kept memories e n before after it true none (none_open posted same appended told) = (posted, same, appended)
+turned_once kept memories e n before after it true none
     (gives s) = let no : s.first ∷ s.others ≡ [] = sym s.least ∙ none in absurd cc
-turned_once exact kept memories e n before after it false some (none_open posted same appended told) =
+turned_once kept memories e n before after it false some (none_open posted same appended told) =
     absurd (omega (arith, some, sym (length-map e.posts.items.items (posted_view (path e.store))) ∙ ap length posted))
-turned_once exact kept memories e n before after it false some (gives s) = (it, s)
+turned_once kept memories e n before after it false some (gives s) = (it, s)
 
 -- what is told of a question that was given all turns
 abbrev pub IsResult : Result (ℕ × Option Form) AllocError → Result Form AllocError → Type 0
@@ -303,47 +303,47 @@ whole_result : (rules : Rules) (r : Result (ℕ × Option Form) AllocError) (for
 whole_result rules (Ok g) form is whole = tt
 whole_result rules (Err e') form is whole = subst (λ (x : Result Form AllocError). KeepsGroups rules x) is whole
 
-module _ {K : Type 0} (exact : Bool) (kept : K
+module _ {K : Type 0} (kept : K
     → Entries) (memories : K → Memories) (e : Engine K) (d : Demand K) (p : Posted) (o : Option Question) where
-  ends_with : (r : Result (ℕ × Option Form) AllocError) (form : Result Form AllocError) → IsResult r form → Came exact kept memories None e d p o r
-      → HasEnded exact kept memories e d p form
+  ends_with : (r : Result (ℕ × Option Form) AllocError) (form : Result Form AllocError) → IsResult r form → Came kept memories None e d p o r
+      → HasEnded kept memories e d p form
   ends_with (Ok (counted, None)) form is came = absurd is
-  ends_with (Ok (counted, Some f)) form is (given, counts, said, ends) = subst (HasEnded exact kept memories e d p) (sym is) (given, said, ends)
-  ends_with (Err e') form is came = subst (HasEnded exact kept memories e d p) (sym is) came
+  ends_with (Ok (counted, Some f)) form is (given, counts, said, ends) = subst (HasEnded kept memories e d p) (sym is) (given, said, ends)
+  ends_with (Err e') form is came = subst (HasEnded kept memories e d p) (sym is) came
 
 -- what a line that waits is told
-pub waited : {K : Type 0} (exact : Bool) (kept : K → Entries) (memories : K → Memories) (e : Engine K)
+pub waited : {K : Type 0} (kept : K → Entries) (memories : K → Memories) (e : Engine K)
     → IsHeld kept memories e → (position : ℕ) → position < length e.posts.items.items → (m : Engine K)
     (r : Result (ℕ × Option Form) AllocError)
-    → Attends exact kept memories e m position (λ p. HasGone exact kept memories None e m position p r) (KeepsGroups (rules_of e) r)
+    → Attends kept memories e m position (λ p. HasGone kept memories None e m position p r) (KeepsGroups (rules_of e) r)
     → (form : Result Form AllocError) → IsResult r form → (n : Engine K) (told : Told)
-    → TakesOff exact kept memories m n position (λ p. told ≡ told_of p m.version form)
-    → Attends exact kept memories e n position (λ p. IsClosed exact kept memories e n p told) (KeepsGroups (rules_of e) told.form)
-waited {K} exact kept memories e held position within m r a form is n told off = record {
+    → TakesOff kept memories m n position (λ p. told ≡ told_of p m.version form)
+    → Attends kept memories e n position (λ p. IsClosed kept memories e n p told) (KeepsGroups (rules_of e) told.form)
+waited {K} kept memories e held position within m r a form is n told off = record {
   done = λ p there.
       let h = a.done p there in
-      let ended = ends_with exact kept memories e m.demand p h.now r form is h.came in
+      let ended = ends_with kept memories e m.demand p h.now r form is h.came in
       let still = stands_open kept e held position p there m a.rest h.now h.reopens in
       let same : n.demand ≡ m.demand = ap (λ (x : Engine K). x.demand) off.rest in
-      closed_so kept e held position p there m a.rest h.now h.reopens n off.rest off.items exact memories form
-      (subst (λ (x : Demand K). HasEnded exact kept memories e x p form) (sym same) ended) told
+      closed_so kept e held position p there m a.rest h.now h.reopens n off.rest off.items memories form
+      (subst (λ (x : Demand K). HasEnded kept memories e x p form) (sym same) ended) told
       (off.told (record p { question = h.now }) still);
   rest = rest_end e m n a.rest off.rest;
-  spare = λ whole ex spare.
+  spare = λ whole spare.
       let (p, there) = there_at e.posts.items.items position within in
       let h = a.done p there in
       let same : told.form ≡ form = ap (λ (x : Told). x.form) (off.told (record p { question = h.now })
       (stands_open kept e held position p there m a.rest h.now h.reopens)) in
-      off.spare ex (a.spare (whole_result (rules_of e) r form is (subst (λ (x : Result Form AllocError). KeepsGroups (rules_of e) x) same whole)) ex spare);
+      off.spare (a.spare (whole_result (rules_of e) r form is (subst (λ (x : Result Form AllocError). KeepsGroups (rules_of e) x) same whole)) spare);
   sound = off.sound;
 }
 
-pub stays_there : {K : Type 0} (exact : Bool) (kept : K → Entries) (memories : K
+pub stays_there : {K : Type 0} (kept : K → Entries) (memories : K
     → Memories) (e : Engine K) (position : ℕ) → position < length e.posts.items.items
     → (m : Engine K) (r : Result (ℕ × Option Form) AllocError) {Whole : Type 0}
-    → Attends exact kept memories e m position (λ p. HasGone exact kept memories None e m position p r) Whole
+    → Attends kept memories e m position (λ p. HasGone kept memories None e m position p r) Whole
     → position < length m.posts.items.items
-stays_there exact kept memories e position within m r a =
+stays_there kept memories e position within m r a =
     let (p, there) = there_at e.posts.items.items position within in
     let h = a.done p there in
     let q : Posted = record p { question = h.now } in
@@ -352,19 +352,19 @@ stays_there exact kept memories e position within m r a =
     (get_set e.posts.items.items position p q there))
 
 -- without a limit it has an answer
-pub never_silent : {K : Type 0} (exact : Bool) (kept : K → Entries) (memories : K
+pub never_silent : {K : Type 0} (kept : K → Entries) (memories : K
     → Memories) (e m : Engine K) (position : ℕ) → position < length e.posts.items.items
     → (counted : ℕ) (o : Option Form) {Whole : Type 0}
-    → Attends exact kept memories e m position (λ p. HasGone {E = AllocError} exact kept memories None e m position p (Ok
+    → Attends kept memories e m position (λ p. HasGone {E = AllocError} kept memories None e m position p (Ok
     (counted, o))) Whole → o ≡ None → ⊥
-never_silent exact kept memories e m position within counted o a is =
+never_silent kept memories e m position within counted o a is =
     let (p, there) = there_at e.posts.items.items position within in
     let h = a.done p there in
-    (subst (λ (x : Option Form). Came {E = AllocError} exact kept memories None e m.demand p h.now (Ok
+    (subst (λ (x : Option Form). Came {E = AllocError} kept memories None e m.demand p h.now (Ok
     (counted, x))) is h.came).1
 
 -- the first question was given turns
-pub record FirstGone {K E : Type 0} (exact : Bool) (kept : K
+pub record FirstGone {K E : Type 0} (kept : K
     → Entries) (memories : K → Memories) (limit : Option ℕ) (e m : Engine K) (r : Result (ℕ × Option Form) E) : Type 0 where
   pub p : Posted
   pub others : List Posted
@@ -374,13 +374,13 @@ pub record FirstGone {K E : Type 0} (exact : Bool) (kept : K
   pub reopens : Reopens 0 e.posts m.posts p now
   pub still : StandsAt m.posts.items.items 0 (record p { question = now })
   pub within : 0 < length m.posts.items.items
-  pub came : Came exact kept memories limit e m.demand p now r
+  pub came : Came kept memories limit e m.demand p now r
 
-pub first_gone : {K E : Type 0} (exact : Bool) (kept : K → Entries) (memories : K
+pub first_gone : {K E : Type 0} (kept : K → Entries) (memories : K
     → Memories) (limit : Option ℕ) (e m : Engine K)
     (r : Result (ℕ × Option Form) E) {Whole : Type 0} → 0 < length e.posts.items.items
-    → Attends exact kept memories e m 0 (λ p. HasGone exact kept memories limit e m 0 p r) Whole → FirstGone exact kept memories limit e m r
-first_gone exact kept memories limit e m r some a =
+    → Attends kept memories e m 0 (λ p. HasGone kept memories limit e m 0 p r) Whole → FirstGone kept memories limit e m r
+first_gone kept memories limit e m r some a =
     let (p, others, least) = first_there e.posts.items.items some in
     let there : StandsAt e.posts.items.items 0 p = ap (λ (l : List Posted). slice_get l 0) least in
     let h = a.done p there in
@@ -400,25 +400,25 @@ first_gone exact kept memories limit e m r some a =
     }
 
 -- what a call promises that gives turns
-pub called : {K T E : Type 0} (exact : Bool) (kept : K → Entries) (memories : K
+pub called : {K T E : Type 0} (kept : K → Entries) (memories : K
     → Memories) (e m n : Engine K) (out next : Vec ℕ Global) (Done : T → Type 0) (t : T)
-    → WentOn exact memories e m → IsSound kept memories e → m ≡ record e { demand = m.demand; posts = m.posts }
+    → WentOn memories e m → IsSound kept memories e → m ≡ record e { demand = m.demand; posts = m.posts }
     → n ≡ record m { posts = record n.posts { count = m.posts.count } }
     → IsHeld kept memories n → vec_capacity out ≤ vec_capacity next
     → Done t
-    → Calls {E = E} exact kept memories e n out next Done (Ok t)
-called {K} exact kept memories e m n out next Done t went sound rest tells held room done = record {
+    → Calls {E = E} kept memories e n out next Done (Ok t)
+called {K} kept memories e m n out next Done t went sound rest tells held room done = record {
   done = done;
   same = tt;
   full = tt;
   err = tt;
   room = room;
   rules = ap (λ (x : Engine K). x.rules) tells ∙ ap (λ (x : Engine K). x.rules) rest;
-  slice = ap (λ (x : Engine K). x.slice) tells ∙ ap (λ (x : Engine K). x.slice) rest;
+  settings = ap (λ (x : Engine K). x.settings) tells ∙ ap (λ (x : Engine K). x.settings) rest;
   sound = record {
     held = held;
     typed = typed_end m n tells (typed_rest e m rest sound.typed);
     known = subst (Knows {K = K}) (sym tells) (subst (Knows {K = K}) (sym rest) sound.known);
   };
-  went = went_along exact memories e m n (ap (λ (x : Engine K). x.demand) tells) went;
+  went = went_along memories e m n (ap (λ (x : Engine K). x.demand) tells) went;
 }

@@ -1,6 +1,6 @@
 -- What turns do, and how much can be counted of lines and turns.
 use Rattle.std.proofs.Common.{◌≡◌, ℕ, suc, ◌+◌, ◌-◌, ◌^◌, ◌≤◌, ◌<◌, Bool, true, false, cond, not, nat_eq, if◌then◌else◌, List, [], ◌∷◌, ◌++◌, map, filter, length, inl, inr, refl, sym, ap, ◌∙◌, append_assoc, append-nil, subst, arith, length-append, Option, Some, None, Result, Ok, Err}
-use Rattle.std.specs.Prelude.{IfSome, IsTrue}
+use Rattle.std.specs.Prelude.{IfSome}
 use Rattle.std.specs.Option.{option_map}
 use Rattle.std.proofs.lemmas.Bool.Decides.{eqb_tells}
 use Rattle.std.proofs.lemmas.List.{length-map}
@@ -156,9 +156,9 @@ pub record Answers (rules : Rules) (limit : Option ℕ) (old new : State) (wants
   pub some : 0 < given
   pub counts : CountsTurns limit given counted (Some said)
 
-module _ {K : Type 0} (exact : Bool) (kept : K
+module _ {K : Type 0} (kept : K
     → Entries) (memories : K → Memories) (limit : Option ℕ) (old new : Engine K) (before after : List ℕ) (it : Spent) where
-  pub has_answer : (wants : Bool) → it.told ≡ Some wants → HasGiven exact kept memories limit old new before after it
+  pub has_answer : (wants : Bool) → it.told ≡ Some wants → HasGiven kept memories limit old new before after it
       → Answers (rules_of old) limit (state_of old) (state_of new) wants it.turns before after
   has_answer wants is (none_open none same appended told) = absurd (not_both it.told wants told is)
   has_answer wants is (gives s) =
@@ -176,7 +176,7 @@ module _ {K : Type 0} (exact : Bool) (kept : K
       }
 
   -- where no question is open, nothing has changed
-  pub none_changed : HasGiven exact kept memories limit old new before after it → (state_of old).posted ≡ [] → new ≡ old
+  pub none_changed : HasGiven kept memories limit old new before after it → (state_of old).posted ≡ [] → new ≡ old
   none_changed (none_open none same appended told) posted = same
   none_changed (gives s) posted =
       let some : posted_view (path old.store) s.first ∷ map (posted_view (path old.store)) s.others ≡ [] =
@@ -184,17 +184,17 @@ module _ {K : Type 0} (exact : Bool) (kept : K
       absurd cc
 
   -- what was kept spare is so still
-  pub given_spare : HasGiven exact kept memories limit old new before after it → KeepsWhole (rules_of old) (is_memory it.told) → IsTrue exact
+  pub given_spare : HasGiven kept memories limit old new before after it → KeepsWhole (rules_of old) (is_memory it.told)
       → IsSpare kept old → IsSpare kept new
-  given_spare (none_open none same appended told) whole ex spare = subst (λ (e : Engine K). IsSpare kept e) (sym same) spare
-  given_spare (gives s) whole ex spare = s.spare whole ex spare
+  given_spare (none_open none same appended told) whole spare = subst (λ (e : Engine K). IsSpare kept e) (sym same) spare
+  given_spare (gives s) whole spare = s.spare whole spare
 
   -- so the engine has gone on
-  pub has_gone : WentOn exact memories old new → HasGiven exact kept memories limit old new before after it → GoesBy exact kept memories old new
-  has_gone went (none_open none same appended told) = subst (GoesBy exact kept memories old) (sym same) nowhere
+  pub has_gone : WentOn memories old new → HasGiven kept memories limit old new before after it → GoesBy kept memories old new
+  has_gone went (none_open none same appended told) = subst (GoesBy kept memories old) (sym same) nowhere
   has_gone went (gives s) = by_turns old new limit before after it nowhere s went
 
-  pub no_more_open : HasGiven exact kept memories limit old new before after it
+  pub no_more_open : HasGiven kept memories limit old new before after it
       → length (state_of new).posted ≤ length (state_of old).posted
   no_more_open (none_open none same appended told) = omega (
     arith,
@@ -208,22 +208,22 @@ module _ {K : Type 0} (exact : Bool) (kept : K
   )
 
 -- and what the others leave
-pub quiet_leaves : {K : Type 0} (exact : Bool) (kept : K
+pub quiet_leaves : {K : Type 0} (kept : K
     → Entries) (memories : K → Memories) (limit : Option ℕ) (old new : Engine K) (before after : List ℕ) (it : Spent)
-    (desk next : Desk) (w : Option (List ℕ)) → it.told ≡ None → HasGiven exact kept memories limit old new before after it
+    (desk next : Desk) (w : Option (List ℕ)) → it.told ≡ None → HasGiven kept memories limit old new before after it
     → IfSome limit (λ n. 0 < n)
     → next.lines ≡ desk.lines → next.memory ≡ desk.memory
     → GivesSome (rules_of old) limit 0 (state_of old) (state_of new) desk next w w
-quiet_leaves {K} exact kept memories None old new before after it desk next w is
+quiet_leaves {K} kept memories None old new before after it desk next w is
     (none_open none same appended told) some l m = record {
       turns = 0;
       gives = gave_nothing (rules_of old) (state_of old) (state_of new) desk next w (ap (state_of {K = K}) same) l m;
       are_left = inl none;
     }
-quiet_leaves exact kept memories None old new before after it desk next w is (gives s) some l m = absurd (subst (λ (o : Option
+quiet_leaves kept memories None old new before after it desk next w is (gives s) some l m = absurd (subst (λ (o : Option
     (Bool × Reply)). CountsTurns None s.given it.turns o)
     (none_told s.told (s.named ∙ is)) s.counts)
-quiet_leaves {K} exact kept memories (Some limit) old new before after it desk next w is
+quiet_leaves {K} kept memories (Some limit) old new before after it desk next w is
     (none_open none same appended told) some l m = record {
       turns = limit;
       gives = gave_none (rules_of old) limit (state_of old) (state_of new) desk next w
@@ -231,7 +231,7 @@ quiet_leaves {K} exact kept memories (Some limit) old new before after it desk n
           (none_open_given limit (state_of old) none)) l m;
       are_left = (some, omega arith);
     }
-quiet_leaves exact kept memories (Some limit) old new before after it desk next w is (gives s) some l m =
+quiet_leaves kept memories (Some limit) old new before after it desk next w is (gives s) some l m =
     let none = none_told s.told (s.named ∙ is) in
     let counts = subst (λ (o : Option (Bool × Reply)). CountsTurns (Some limit) s.given it.turns o) none s.counts in
     let turns = subst (λ (o : Option (Bool × Reply)). Given (rules_of old) s.given (state_of old) (listed o)

@@ -1,6 +1,6 @@
 -- A question that is given all turns that it needs.
 use Rattle.std.proofs.Common.{◌≡◌, ℕ, ◌+◌, ◌-◌, ◌*◌, ◌<◌, ◌≤◌, List, [], ◌∷◌, length, Option, Some, None, ap, arith, refl, subst, sym}
-use Rattle.std.specs.Prelude.{Bool, IfNone, IfOk, OnErr, Result, Ok, Err}
+use Rattle.std.specs.Prelude.{IfNone, IfOk, OnErr, Result, Ok, Err}
 use Rattle.std.specs.Option.{option_map}
 use Rattle.std.specs.List.{flat_map}
 use Rattle.at_model.specs.Alike.{ListLike, ValueLike, end, int, more, nodes, ref, text, truth}
@@ -73,10 +73,10 @@ count_now None P h = h
 count_now (Some a) P h = tt
 
 -- so many turns at most, in the words of a question that may have a limit
-module _ (E : Type 0) (exact : Bool) (rules : Rules) (s : Shown) (limit : ℕ) (before after : Entries)
+module _ (E : Type 0) (rules : Rules) (s : Shown) (limit : ℕ) (before after : Entries)
     (work later : ℕ) (m n : Memories) (old new : Question) (standing : IsStanding rules s before old) (sound : AreSound rules s before) where
   abbrev Turned : Result (ℕ × Option AnswerCode) E → Type 0
-  Turned r = HasTurnedOften rules s exact m before after work later limit old new r
+  Turned r = HasTurnedOften rules s m before after work later limit old new r
 
   stood : (u : Search ℕ) × StandsFor rules s before old u
   stood = standing.levels sound
@@ -113,7 +113,7 @@ module _ (E : Type 0) (exact : Bool) (rules : Rules) (s : Shown) (limit : ℕ) (
   )
 
   pub as_one_record : (r : Result (ℕ × Option AnswerCode) E) → Turned r → StayTraced m n
-      → HasTurnedUpTo exact rules s (Some limit) before after m n old new r
+      → HasTurnedUpTo rules s (Some limit) before after m n old new r
   as_one_record r h traces = record {
     each = counted r h;
     broke = broken r h;

@@ -1,6 +1,6 @@
 -- What comes of turns of the question at a position.
-use Rattle.std.proofs.Common.{◌≡◌, ℕ, ◌<◌, Bool, List, [], length, Option, Some, None, Result, Ok, Err, refl, sym, ap, ◌∙◌, subst, inl, inr}
-use Rattle.std.specs.Prelude.{slice_get, slice_set, IfSome, IsTrue}
+use Rattle.std.proofs.Common.{◌≡◌, ℕ, ◌<◌, List, [], length, Option, Some, None, Result, Ok, Err, refl, sym, ap, ◌∙◌, subst, inl, inr}
+use Rattle.std.specs.Prelude.{slice_get, slice_set, IfSome}
 use Rattle.at_model.specs.Edits.{max_nodes}
 use Rattle.at_model.specs.Alike.{AnswerLike, InstanceLike, Names}
 use Rattle.at_model.specs.Machine.{answer_form, line_of}
@@ -26,7 +26,7 @@ use Rattle.at_demand.specs.declared.demand.Demand.{Demand}
 use Rattle.at_demand.specs.declared.question.Question.{Question}
 use Rattle.at_engine.specs.Engines.{marks_of, rules_of, state_of, IsHeld, IsTyped}
 use Rattle.at_engine.specs.Holding.{AreKeptTyped, HasBegun, IsBegunFor, IsPostedOn, IsSoundWith}
-use Rattle.at_engine.specs.Keeping.{IsSpare, IsSpareWith, IsSparingOn}
+use Rattle.at_engine.specs.Keeping.{IsSpare, IsSparingOn}
 use Rattle.at_engine.specs.Posted.{posted_view}
 use Rattle.at_engine.specs.Telling.{IsAnswerTo, IsToldAs}
 use Rattle.at_engine.specs.Turning.{Attends, Begins, BeginsSparing, BreaksOffIn, Came, CameFrom, CanAnswer, CanTurn, HasGone, HasTurnedUpTo, IsBegun, Reopens, TakesOut, StandsAt}
@@ -66,17 +66,17 @@ taken kept memories e held position within o t took =
     let at = took.there p there in
     record { posted = p; there = there; same = at.0; opens = at.1; held = held }
 
-module _ {K : Type 0} (exact : Bool) (kept : K → Entries) (memories : K
+module _ {K : Type 0} (kept : K → Entries) (memories : K
     → Memories) (e : Engine K) (position : ℕ) (limit : Option ℕ) (new : Engine K)
     (p : Posted) (there : StandsAt e.posts.items.items position p) (now : Option Question)
     (reopens : Reopens position e.posts new.posts p now)
     (rest : new ≡ record e { demand = new.demand; posts = new.posts })
     (sound : IsHeld kept memories new) where
   pub attended : {E : Type 0} (r : Result (ℕ × Option Form) E)
-      → (KeepsGroups (rules_of e) r → IsTrue exact → IsSpare kept e → IsSpare kept new) → Came exact kept memories limit e new.demand p now r
-      → Attends exact kept memories e new position (λ q. HasGone exact kept memories limit e new position q r) (KeepsGroups (rules_of e) r)
+      → (KeepsGroups (rules_of e) r → IsSpare kept e → IsSpare kept new) → Came kept memories limit e new.demand p now r
+      → Attends kept memories e new position (λ q. HasGone kept memories limit e new position q r) (KeepsGroups (rules_of e) r)
   attended r spare came = record {
-    done = λ q at. subst (λ (x : Posted). HasGone exact kept memories limit e new position x r)
+    done = λ q at. subst (λ (x : Posted). HasGone kept memories limit e new position x r)
         (same_there e.posts.items.items position p q there at)
         (record { now = now; reopens = reopens; came = came });
     rest = rest;
@@ -84,7 +84,7 @@ module _ {K : Type 0} (exact : Bool) (kept : K → Entries) (memories : K
     sound = sound;
   }
 
-module _ {K : Type 0} (exact : Bool) (kept : K → Entries) (memories : K
+module _ {K : Type 0} (kept : K → Entries) (memories : K
     → Memories) (e : Engine K) (position : ℕ) (limit : Option ℕ)
     (o : Option Question) (t : Posts) (it : Taken kept memories e position o t) where
   abbrev bare : Posted
@@ -114,10 +114,13 @@ module _ {K : Type 0} (exact : Bool) (kept : K → Entries) (memories : K
     within = within_still;
   }
 
-  spare_taken : IsSpare kept e → IsSpareWith (rules_of e) (contents e.store) entries t.items.items
-  spare_taken spare = spare_reopened (rules_of e) e.store entries entries (λ i some. refl)
-      (marks_of e) e.posts it.held position
-      it.posted it.there None t it.opens spare.kept tt spare
+  spare_taken : IsSpare kept e → IsSpare kept (record e { posts = t })
+  spare_taken h = record {
+    unbounded = h.unbounded;
+    spare = spare_reopened (rules_of e) e.store entries entries (λ i some. refl)
+        (marks_of e) e.posts it.held position
+        it.posted it.there None t it.opens h.spare.kept tt h.spare;
+  }
 
   begun_bare : (o : Option Question) → HasBegun (rules_of e) e.store entries it.posted o
       → HasBegun (rules_of e) e.store entries bare o
@@ -132,23 +135,23 @@ module _ {K : Type 0} (exact : Bool) (kept : K → Entries) (memories : K
   was_sparing spare = subst (IsSparingOn (rules_of e) (contents e.store) entries) (sym it.same)
       (holds_at (λ (x : Posted). IsSparingOn (rules_of e)
       (contents e.store) entries x.question) e.posts.items.items position it.posted
-      it.there spare.posted')
+      it.there spare.spare.posted')
 
   -- with nothing tried
   pub not_read : {E : Type 0} (r : Result (ℕ × Option Form) E) (e' : E) → r ≡ Err e'
-      → Attends exact kept memories e (record e { posts = t }) position (λ q. HasGone exact kept memories limit e
+      → Attends kept memories e (record e { posts = t }) position (λ q. HasGone kept memories limit e
       (record e { posts = t }) position q r) (KeepsGroups (rules_of e) r)
   not_read r e' is =
       let new : Engine K = record e { posts = t } in
-      attended exact kept memories e position limit new it.posted it.there None it.opens refl sound_taken r
-      (λ whole ex spare. spare_taken spare)
-      (subst (Came exact kept memories limit e new.demand it.posted None) (sym is) (inl refl))
+      attended kept memories e position limit new it.posted it.there None it.opens refl sound_taken r
+      (λ whole spare. spare_taken spare)
+      (subst (Came kept memories limit e new.demand it.posted None) (sym is) (inl refl))
 
   pub was_refused : {E : Type 0} {b : Begun} → ((x : Posted) → StandsAt t.items.items position x
       → HasBegun (rules_of e) e.store entries x o
       → Begins (rules_of e) e.store entries x o b) → (f : Refusal) → b ≡ begun.Refused f → IfSome limit (λ n. 0 < n)
-      → Attends exact kept memories e (record e { posts = t }) position
-      (λ q. HasGone {E = E} exact kept memories limit e (record e { posts = t }) position q (Ok (1, Some (form.Refused f)))) (Unit {0})
+      → Attends kept memories e (record e { posts = t }) position
+      (λ q. HasGone {E = E} kept memories limit e (record e { posts = t }) position q (Ok (1, Some (form.Refused f)))) (Unit {0})
   was_refused {E} {b} begins f is some =
       let new : Engine K = record e { posts = t } in
       let words = subst (Begins (rules_of e) e.store entries bare o) is (begins bare there_still was_begun) in
@@ -160,8 +163,8 @@ module _ {K : Type 0} (exact : Bool) (kept : K → Entries) (memories : K
         is_form = refl;
         answers = answers_refused (rules_of e) (state_of e) v (code_view f) words;
       } in
-      attended exact kept memories e position limit new it.posted it.there None it.opens refl sound_taken
-      {E = E} (Ok (1, Some (form.Refused f))) (λ whole ex spare. spare_taken spare) (
+      attended kept memories e position limit new it.posted it.there None it.opens refl sound_taken
+      {E = E} (Ok (1, Some (form.Refused f))) (λ whole spare. spare_taken spare) (
         1,
         counts_refused limit (form.Refused f) some,
         said,
@@ -215,7 +218,7 @@ module _ {K : Type 0} (exact : Bool) (kept : K → Entries) (memories : K
 
       -- it was given turns
       module _ {E' : Type 0} (d : Demand K) (later : Question) (r : Result (ℕ × Option AnswerCode) E')
-          (h : HasTurnedUpTo exact (rules_of e) e.store limit entries (kept d.keeper) (memories e.demand.keeper)
+          (h : HasTurnedUpTo (rules_of e) e.store limit entries (kept d.keeper) (memories e.demand.keeper)
           (memories d.keeper) q later r) where
         abbrev more : Entries
         more = kept d.keeper
@@ -232,23 +235,26 @@ module _ {K : Type 0} (exact : Bool) (kept : K → Entries) (memories : K
             (remembered_still (rules_of e) e.store (memories e.demand.keeper)
             (memories d.keeper) h.traces it.held.remembered)
 
-        spare_more : KeepsGroups (rules_of e) r → IsTrue exact → IsSpare kept e → IsSpareWith (rules_of e) (contents e.store) more t.items.items
-        spare_more whole ex spare = spare_grown (rules_of e) e.store entries more h.worthy.stays (marks_of e) t sound_taken
-            (h.spare whole ex spare.kept (sparing spare)) (spare_taken spare)
+        spare_more : KeepsGroups (rules_of e) r → IsSpare kept e → IsSpare kept (record e { posts = t; demand = d })
+        spare_more whole was = record {
+          unbounded = was.unbounded;
+          spare = spare_grown (rules_of e) e.store entries more h.worthy.stays (marks_of e) t sound_taken
+              (h.spare whole was.spare.kept (sparing was)) (spare_taken was).spare;
+        }
 
         module _ {E : Type 0} (result : Result (ℕ × Option Form) E) where
           abbrev HasAttended : Type 0
-          HasAttended = Attends exact kept memories e (record e { posts = t; demand = d }) position
-              (λ p. HasGone exact kept memories limit e (record e { posts = t; demand = d }) position p result) (KeepsGroups (rules_of e) result)
+          HasAttended = Attends kept memories e (record e { posts = t; demand = d }) position
+              (λ p. HasGone kept memories limit e (record e { posts = t; demand = d }) position p result) (KeepsGroups (rules_of e) result)
 
           without_memory : (e' : E) → result ≡ Err e' → (KeepsGroups (rules_of e) result → KeepsGroups (rules_of e) r)
               → BreaksOffIn (rules_of e) e.store (memories e.demand.keeper) limit entries (Some q) (asked_by q) more → HasAttended
           without_memory e' is keeps broke =
               let new : Engine K = record e { posts = t; demand = d } in
               let from = breaks_from (rules_of e) e.store (memories e.demand.keeper) entries q more it.posted.question came limit broke in
-              attended exact kept memories e position limit new it.posted it.there None it.opens refl sound_more result
-              (λ whole ex spare. spare_more (keeps whole) ex spare)
-              (subst (Came exact kept memories limit e new.demand it.posted None) (sym is)
+              attended kept memories e position limit new it.posted it.there None it.opens refl sound_more result
+              (λ whole spare. spare_more (keeps whole) spare)
+              (subst (Came kept memories limit e new.demand it.posted None) (sym is)
               (inr (record { inst = asked_by q; named = b.begun.named; words = b.begun.asks; like = b.begun.like; holds = from })))
 
           -- memory ran out in a turn, or behind the last one
@@ -258,7 +264,7 @@ module _ {K : Type 0} (exact : Bool) (kept : K → Entries) (memories : K
               (broken r failed h)
             where
               broken : (x : Result (ℕ × Option AnswerCode) E') → x ≡ Err f
-                  → HasTurnedUpTo exact (rules_of e) e.store limit entries more (memories e.demand.keeper)
+                  → HasTurnedUpTo (rules_of e) e.store limit entries more (memories e.demand.keeper)
                   (memories d.keeper) q later x
                   → BreaksOffIn (rules_of e) e.store (memories e.demand.keeper) limit entries (Some q) (asked_by q) more
               broken (Ok g) failed h = absurd cc
@@ -270,22 +276,22 @@ module _ {K : Type 0} (exact : Bool) (kept : K → Entries) (memories : K
 
         -- its answer can't be told
         pub untold : {E E' : Type 0} (a : AnswerCode)
-            (h : HasTurnedUpTo {E = E'} exact (rules_of e) e.store limit entries grown (memories e.demand.keeper)
+            (h : HasTurnedUpTo {E = E'} (rules_of e) e.store limit entries grown (memories e.demand.keeper)
             (memories d.keeper) q later (Ok (turns, Some a)))
             (result : Result (ℕ × Option Form) E) (e' : E) → result ≡ Err e'
-            → Attends exact kept memories e (record e { posts = t; demand = d }) position
-            (λ p. HasGone exact kept memories limit e (record e { posts = t; demand = d }) position p result) (KeepsGroups (rules_of e) result)
+            → Attends kept memories e (record e { posts = t; demand = d }) position
+            (λ p. HasGone kept memories limit e (record e { posts = t; demand = d }) position p result) (KeepsGroups (rules_of e) result)
         untold {E} {E'} a h result e' is = without_memory {E' = E'} d later (Ok (turns, Some a)) h result e' is (λ whole. tt)
             (breaks_behind (rules_of e) e.store (memories e.demand.keeper) entries (Some q) (asked_by q) grown later (answer_view a) limit turns h.each)
 
         -- it is told
         pub told : {E E' : Type 0} (a : AnswerCode)
-            (h : HasTurnedUpTo {E = E'} exact (rules_of e) e.store limit entries grown (memories e.demand.keeper)
+            (h : HasTurnedUpTo {E = E'} (rules_of e) e.store limit entries grown (memories e.demand.keeper)
             (memories d.keeper) q later (Ok (turns, Some a)))
             (f : Form) → ((x : Answer Node) → AnswerLike (Names (path e.store)) (answer_view a) x
             → IsToldAs (rules_of e) (tree e.store) x f)
-            → Attends exact kept memories e (record e { posts = t; demand = d }) position
-            (λ p. HasGone {E = E} exact kept memories limit e (record e { posts = t; demand = d }) position p (Ok (turns, Some f))) (Unit {0})
+            → Attends kept memories e (record e { posts = t; demand = d }) position
+            (λ p. HasGone {E = E} kept memories limit e (record e { posts = t; demand = d }) position p (Ok (turns, Some f))) (Unit {0})
         told {E} {E'} a h f tells =
             let new : Engine K = record e { posts = t; demand = d } in
             let (given, counts, each) = h.each in
@@ -299,9 +305,9 @@ module _ {K : Type 0} (exact : Bool) (kept : K → Entries) (memories : K
               is_form = is.is_form;
               answers = answers_asked (rules_of e) (state_of e) v b.begun.named x b.begun.asks answers;
             } in
-            attended exact kept memories e position limit new it.posted it.there None it.opens refl
+            attended kept memories e position limit new it.posted it.there None it.opens refl
             (sound_more {E' = E'} d later (Ok (turns, Some a)) h) {E = E} (Ok (turns, Some f))
-            (λ whole ex spare. spare_more {E' = E'} d later (Ok (turns, Some a)) h tt ex spare) (
+            (λ whole spare. spare_more {E' = E'} d later (Ok (turns, Some a)) h tt spare) (
               given,
               counts_same limit given turns (answer_view a) f counts,
               said,
@@ -317,18 +323,18 @@ module _ {K : Type 0} (exact : Bool) (kept : K → Entries) (memories : K
                   turns = turns_from (rules_of e) e.store (memories e.demand.keeper) entries q grown it.posted.question came given later (Some (answer_view a)) each;
                   like = like;
                   form = refl;
-                  all = λ ex spare. h.all ex spare.kept (sparing spare);
+                  all = λ was. h.all was.spare.kept (sparing was);
                 };
               }),
             )
 
         -- it has no answer yet
         pub not_yet : {E E' : Type 0}
-            (h : HasTurnedUpTo {E = E'} exact (rules_of e) e.store limit entries grown (memories e.demand.keeper)
+            (h : HasTurnedUpTo {E = E'} (rules_of e) e.store limit entries grown (memories e.demand.keeper)
             (memories d.keeper) q later (Ok (turns, None)))
             (k : Posts) → ((p : Posted) → slice_get t.items.items position ≡ Some p → Reopens position t k p (Some later))
-            → Attends exact kept memories e (record e { posts = k; demand = d }) position
-            (λ p. HasGone {E = E} exact kept memories limit e (record e { posts = k; demand = d }) position p (Ok (turns, None))) (Unit {0})
+            → Attends kept memories e (record e { posts = k; demand = d }) position
+            (λ p. HasGone {E = E} kept memories limit e (record e { posts = k; demand = d }) position p (Ok (turns, None))) (Unit {0})
         not_yet {E} {E'} h k keeps =
             let new : Engine K = record e { posts = k; demand = d } in
             let (given, counts, each) = h.each in
@@ -346,17 +352,20 @@ module _ {K : Type 0} (exact : Bool) (kept : K → Entries) (memories : K
                   (record it.posted { question = Some later })) it.opens.items
                   ∙ set_set e.posts.items.items position bare (record it.posted { question = Some later });
             } in
-            attended exact kept memories e position limit new it.posted it.there (Some later) opens refl
+            attended kept memories e position limit new it.posted it.there (Some later) opens refl
             (sound_reopened (rules_of e) e.store entries grown h.worthy.stays
             (marks_of e) t sound_taken position bare there_still (Some later) k
             put (h.stays there_asked it.held.right) (typed_later {E' = E'} d later (Ok (turns, None)) h)
             (remembered_still (rules_of e) e.store (memories e.demand.keeper)
             (memories d.keeper) h.traces it.held.remembered) still)
             {E = E} (Ok (turns, None))
-            (λ whole ex spare. spare_reopened (rules_of e) e.store entries grown h.worthy.stays
-            (marks_of e) t sound_taken position bare there_still
-            (Some later) k put (h.spare tt ex spare.kept (sparing spare)) (h.sparing ex spare.kept (sparing spare))
-            (spare_taken spare)) (
+            (λ whole was. record {
+              unbounded = was.unbounded;
+              spare = spare_reopened (rules_of e) e.store entries grown h.worthy.stays
+                  (marks_of e) t sound_taken position bare there_still
+                  (Some later) k put (h.spare tt was.spare.kept (sparing was)) (h.sparing was.spare.kept (sparing was))
+                  (spare_taken was).spare;
+            }) (
               given,
               silent_same (Answer ℕ) Form limit given turns counts,
               record {

@@ -1,6 +1,5 @@
 -- Turns of a question that follow each other, none of which answers it, and the last ones.
-use Rattle.std.proofs.Common.{◌≡◌, ◌∙◌, ◌+◌, ◌<◌, ◌-◌, ℕ, Bool, Option, Some, None, Result, Ok, Err, refl, sym, subst, arith}
-use Rattle.std.specs.Prelude.{IsTrue}
+use Rattle.std.proofs.Common.{◌≡◌, ◌∙◌, ◌+◌, ◌<◌, ◌-◌, ℕ, Option, Some, None, Result, Ok, Err, refl, sym, subst, arith}
 use Rattle.at_model.specs.Rules.{Rules}
 use Rattle.at_model.specs.Run.{Instance}
 use Rattle.at_model.specs.of_fixpoints.Circles.{Answers}
@@ -26,7 +25,7 @@ use Rattle.at_engine.proofs.of_turns.Counted.{breaks_before, breaks_later, turns
 use Rattle.at_engine.proofs.of_turns.Settling.{fewer_left, most_turns}
 
 -- so many turns were given without an answer, and the question stands
-pub record HasTurnedSo (exact : Bool) (rules : Rules) (s : Shown) (first now : Entries) (former latter : Memories) (old new : Question) : Type 0 where
+pub record HasTurnedSo (rules : Rules) (s : Shown) (first now : Entries) (former latter : Memories) (old new : Question) : Type 0 where
   pub given : ℕ
   pub each : AreTurns rules s former given first (Some old) (asked_by old) now new None
   pub standing : IsStanding rules s now new
@@ -35,7 +34,7 @@ pub record HasTurnedSo (exact : Bool) (rules : Rules) (s : Shown) (first now : E
   pub same : asked_by new ≡ asked_by old
   pub worthy : AddsWorthy rules (contents s) (asked_by old) first now
   pub stays : IsThere s (asked_by old) → AreRight rules s first → AreRight rules s now
-  pub spare : IsTrue exact → AreSpare rules (contents s) first → IsSparingTurns rules (contents s) first old
+  pub spare : AreSpare rules (contents s) first → IsSparingTurns rules (contents s) first old
       → AreSpare rules (contents s) now × IsSparingTurns rules (contents s) now new
   pub traces : StayTraced former latter
   pub alike : latter.in_turns ≡ former.in_turns
@@ -44,9 +43,9 @@ pub record HasTurnedSo (exact : Bool) (rules : Rules) (s : Shown) (first now : E
 abbrev pub with_answer : ℕ → Option AnswerCode → ℕ × Option AnswerCode
 with_answer n o = (n, o)
 
-module _ (E : Type 0) (exact : Bool) (rules : Rules) (s : Shown) (basis : IsBasis rules s) (first : Entries) (former : Memories) (old : Question) where
+module _ (E : Type 0) (rules : Rules) (s : Shown) (basis : IsBasis rules s) (first : Entries) (former : Memories) (old : Question) where
   abbrev So : Entries → Memories → Question → Type 0
-  So now latter new = HasTurnedSo exact rules s first now former latter old new
+  So now latter new = HasTurnedSo rules s first now former latter old new
 
   pub so_none : CanAnswer rules s first old → So first former old
   so_none can =
@@ -60,7 +59,7 @@ module _ (E : Type 0) (exact : Bool) (rules : Rules) (s : Shown) (basis : IsBasi
         same = refl;
         worthy = worthy_none rules (contents s) (asked_by old) first;
         stays = λ there right. right;
-        spare = λ ex spare sparing. (spare, sparing);
+        spare = λ spare sparing. (spare, sparing);
         traces = stay_same former;
         alike = refl;
       }
@@ -68,7 +67,7 @@ module _ (E : Type 0) (exact : Bool) (rules : Rules) (s : Shown) (basis : IsBasi
   module _ (now : Entries) (latter : Memories) (mid : Question) (inv : So now latter mid) (limit : ℕ) (next : Entries) (last : Memories)
       (p : Question) where
     abbrev Turned : Result (ℕ × Option AnswerCode) E → Type 0
-    Turned r = HasTurnedUpTo {E = E} exact rules s (Some limit) now next latter last mid p r
+    Turned r = HasTurnedUpTo {E = E} rules s (Some limit) now next latter last mid p r
 
     module _ (r : Result (ℕ × Option AnswerCode) E) (h : Turned r) where
       worthy_next : AddsWorthy rules (contents s) (asked_by old) first next
@@ -78,9 +77,9 @@ module _ (E : Type 0) (exact : Bool) (rules : Rules) (s : Shown) (basis : IsBasi
       stays_next : IsThere s (asked_by old) → AreRight rules s first → AreRight rules s next
       stays_next there right = h.stays (subst (λ (i : Instance ℕ). IsThere s i) (sym inv.same) there) (inv.stays there right)
 
-      spare_next : KeepsGroups rules r → IsTrue exact → AreSpare rules (contents s) first → IsSparingTurns rules (contents s) first old
+      spare_next : KeepsGroups rules r → AreSpare rules (contents s) first → IsSparingTurns rules (contents s) first old
           → AreSpare rules (contents s) next
-      spare_next whole ex spare sparing = let both = inv.spare ex spare sparing in h.spare whole ex both.0 both.1
+      spare_next whole spare sparing = let both = inv.spare spare sparing in h.spare whole both.0 both.1
 
       traces_next : StayTraced former last
       traces_next = stay_then former latter last inv.traces h.traces
@@ -99,9 +98,9 @@ module _ (E : Type 0) (exact : Bool) (rules : Rules) (s : Shown) (basis : IsBasi
           same = h.same ∙ inv.same;
           worthy = worthy_next r h;
           stays = stays_next r h;
-          spare = λ ex spare sparing.
-              let both = inv.spare ex spare sparing in
-              (h.spare tt ex both.0 both.1, h.sparing ex both.0 both.1);
+          spare = λ spare sparing.
+              let both = inv.spare spare sparing in
+              (h.spare tt both.0 both.1, h.sparing both.0 both.1);
           traces = traces_next r h;
           alike = alike ∙ inv.alike;
         }
@@ -117,7 +116,7 @@ module _ (E : Type 0) (exact : Bool) (rules : Rules) (s : Shown) (basis : IsBasi
 
     -- the last one answers it
     pub so_answered : (n : ℕ) (a : AnswerCode) → Turned (Ok (with_answer n (Some a)))
-        → HasTurnedUpTo {E = E} exact rules s None first next former last old p (Ok (with_answer n (Some a)))
+        → HasTurnedUpTo {E = E} rules s None first next former last old p (Ok (with_answer n (Some a)))
     so_answered n a h =
         let r : Result (ℕ × Option AnswerCode) E = Ok (with_answer n (Some a)) in
         record {
@@ -131,39 +130,39 @@ module _ (E : Type 0) (exact : Bool) (rules : Rules) (s : Shown) (basis : IsBasi
           broke = tt;
           same = tt;
           answers = subst (λ (i : Instance ℕ). Answers (contents s) (meaning rules) i (answer_view a)) inv.same h.answers;
-          all = λ ex spare sparing.
-              let both = inv.spare ex spare sparing in
-              subst (λ (i : Instance ℕ). HasWorthyFor rules (contents s) i (answer_view a) next) inv.same (h.all ex both.0 both.1);
+          all = λ spare sparing.
+              let both = inv.spare spare sparing in
+              subst (λ (i : Instance ℕ). HasWorthyFor rules (contents s) i (answer_view a) next) inv.same (h.all both.0 both.1);
           standing = h.standing;
           right = h.right;
           worthy = worthy_next r h;
           stays = stays_next r h;
           plain = h.plain;
           spare = spare_next r h;
-          sparing = λ ex spare sparing. let both = inv.spare ex spare sparing in h.sparing ex both.0 both.1;
+          sparing = λ spare sparing. let both = inv.spare spare sparing in h.sparing both.0 both.1;
           traces = traces_next r h;
         }
 
     -- or memory runs out
     pub so_broken : (r : Result (ℕ × Option AnswerCode) E) (f : E) → r ≡ Err f → Turned r
-        → HasTurnedUpTo {E = E} exact rules s None first next former last old p r
-    so_broken r f is h = subst (λ z. HasTurnedUpTo {E = E} exact rules s None first next former last old p z) (sym is)
+        → HasTurnedUpTo {E = E} rules s None first next former last old p r
+    so_broken r f is h = subst (λ z. HasTurnedUpTo {E = E} rules s None first next former last old p z) (sym is)
         (broken (subst (λ z. Turned z) is h))
       where
-        broken : Turned (Err f) → HasTurnedUpTo {E = E} exact rules s None first next former last old p (Err f)
+        broken : Turned (Err f) → HasTurnedUpTo {E = E} rules s None first next former last old p (Err f)
         broken h = record {
           each = tt;
           broke = breaks_later rules s former inv.given first now (Some old) (asked_by old) mid inv.each next (asked_by mid) h.broke.0
               (breaks_before rules s former latter inv.traces inv.alike h.broke.0 now next (Some mid) (asked_by mid) h.broke.2);
           same = tt;
           answers = tt;
-          all = λ ex spare sparing. tt;
+          all = λ spare sparing. tt;
           standing = tt;
           right = h.right;
           worthy = worthy_next (Err f) h;
           stays = stays_next (Err f) h;
           plain = h.plain;
           spare = spare_next (Err f) h;
-          sparing = λ ex spare sparing. tt;
+          sparing = λ spare sparing. tt;
           traces = traces_next (Err f) h;
         }

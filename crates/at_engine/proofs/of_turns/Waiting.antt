@@ -94,33 +94,33 @@ waits_or_filled rest line behind next desk waits o e keeps (inr (other, after, p
     inr (omega (arith, long, ap length keeps, next.line.ok.0))
 
 -- one after the other each reply was sent on
-pub each_then : {K W : Type 0} (exact : Bool) (entries : K → Entries) (memories : K → Memories)
+pub each_then : {K W : Type 0} (entries : K → Entries) (memories : K → Memories)
     (contents : W → Option (List ℕ)) (failure : W → Option Bool) (waiting : W → Bool) (old mid : Engine K)
     (writer between : W) (new : Engine K) (later : W)
-    → SendsEach exact entries memories contents failure waiting old writer mid between
-    → SendsEach exact entries memories contents failure waiting mid between new later
-    → SendsEach exact entries memories contents failure waiting old writer new later
-each_then exact entries memories contents failure waiting old mid writer between _ _ first sends_nothing = first
-each_then exact entries memories contents failure waiting old mid writer between _ _ first
+    → SendsEach entries memories contents failure waiting old writer mid between
+    → SendsEach entries memories contents failure waiting mid between new later
+    → SendsEach entries memories contents failure waiting old writer new later
+each_then entries memories contents failure waiting old mid writer between _ _ first sends_nothing = first
+each_then entries memories contents failure waiting old mid writer between _ _ first
     (sends_reply next new after later desk desk' done second serves sent) =
     sends_reply next new after later desk desk' done
-    (each_then exact entries memories contents failure waiting old mid writer between next after first second)
+    (each_then entries memories contents failure waiting old mid writer between next after first second)
     serves sent
-each_then exact entries memories contents failure waiting old mid writer between _ _ first
+each_then entries memories contents failure waiting old mid writer between _ _ first
     (sends_answers next new after later desk desk' done second works) =
     sends_answers next new after later desk desk' done
-    (each_then exact entries memories contents failure waiting old mid writer between next after first second) works
+    (each_then entries memories contents failure waiting old mid writer between next after first second) works
 
 -- and so were the answers to all that was open
-pub each_drained : {K W : Type 0} (exact : Bool) (entries : K → Entries) (memories : K → Memories)
+pub each_drained : {K W : Type 0} (entries : K → Entries) (memories : K → Memories)
     (contents : W → Option (List ℕ)) (failure : W → Option Bool) (waiting : W → Bool) (old mid new : Engine K)
     (writer between later : W) (desk next : Desk) (result : Result (Unit {0}) RunFault)
-    → SendsEach exact entries memories contents failure waiting old writer mid between
-    → Works exact entries memories contents failure waiting mid new desk next between later
+    → SendsEach entries memories contents failure waiting old writer mid between
+    → Works entries memories contents failure waiting mid new desk next between later
     (Drains result (rules_of mid)) result
-    → OnOk result (SendsEach exact entries memories contents failure waiting old writer new later)
-each_drained exact entries memories contents failure waiting old mid new writer between later desk next (Ok u) first
+    → OnOk result (SendsEach entries memories contents failure waiting old writer new later)
+each_drained entries memories contents failure waiting old mid new writer between later desk next (Ok u) first
     works =
     sends_answers mid new between later desk next u first works
-each_drained exact entries memories contents failure waiting old mid new writer between later desk next (Err e) first
+each_drained entries memories contents failure waiting old mid new writer between later desk next (Err e) first
     works = tt

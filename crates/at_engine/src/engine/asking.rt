@@ -59,7 +59,7 @@ impl<K: Keeper> Engine<K> {
     ) -> Result<Form, AllocError>
         requires { CanAskOf K.contents K.memories self.old session node attribute.now }
         ensures { (place : PlaceOf) → IsNumberOf self.old.store (node_named (rules_of self.old).classes (state_of self.old) session place) (Some node)
-            → Commands K.exact K.contents K.memories self.old session (Ask place attribute.now (arguments_view arguments.now)) result self.new }
+            → Commands K.contents K.memories self.old session (Ask place attribute.now (arguments_view arguments.now)) result self.new }
     {
         match self.view().asked_of(session, node, attribute, arguments)? {
             Asked::Instance(inst) => self.answer(&inst),
@@ -71,7 +71,7 @@ impl<K: Keeper> Engine<K> {
     fn answer(&mut self, inst: &Inst) -> Result<Form, AllocError>
         requires { CanEvaluate K.contents K.memories self.old inst.now }
         ensures { (q : Instance NodeOf) → InstanceLike (Names (path_shown self.old.store)) inst.now q
-            → Fulfils K.exact K.contents K.memories self.old (Asks q) result self.new }
+            → Fulfils K.contents K.memories self.old (Asks q) result self.new }
     {
         let answer = self.demand.answer(&self.rules, &self.store, inst)?;
         self.told(answer)

@@ -1,6 +1,6 @@
 //! Turns of open questions.
 
-ghost use Rattle.std.specs.Prelude.{None, IsTrue};
+ghost use Rattle.std.specs.Prelude.{None};
 ghost use Rattle.at_store.specs.Shown.{contents};
 ghost use Rattle.at_demand.specs.Traces.{AreJustified};
 ghost use Rattle.at_demand.specs.Went.{Went};
@@ -43,9 +43,9 @@ fn turns_up_to<K: Keeper>(
 ) -> Result<(u64, Option<Answer>), AllocError>
     requires can { CanAnswer rules.now store.now (K.contents demand.old.keeper) question.old }
     requires justified { AreJustified rules.now (contents store.now) (K.memories demand.old.keeper) }
-    ensures turned { HasTurnedUpTo K.exact rules.now store.now limit (K.contents demand.old.keeper) (K.contents demand.new.keeper)
+    ensures turned { HasTurnedUpTo rules.now store.now limit (K.contents demand.old.keeper) (K.contents demand.new.keeper)
         (K.memories demand.old.keeper) (K.memories demand.new.keeper) question.old question.new result }
-    ensures went { IsTrue K.exact → Went (K.memories demand.old.keeper) demand.old.made (K.memories demand.new.keeper) demand.new.made }
+    ensures went { Went (K.memories demand.old.keeper) demand.old.made (K.memories demand.new.keeper) demand.new.made }
 {
     match limit {
         Some(limit) => demand.turns(rules, store, question, limit),
@@ -62,9 +62,9 @@ fn all_turns<K: Keeper>(
 ) -> Result<(u64, Option<Answer>), AllocError>
     requires can { CanAnswer rules.now store.now (K.contents demand.old.keeper) question.old }
     requires justified { AreJustified rules.now (contents store.now) (K.memories demand.old.keeper) }
-    ensures turned { HasTurnedUpTo K.exact rules.now store.now None (K.contents demand.old.keeper) (K.contents demand.new.keeper)
+    ensures turned { HasTurnedUpTo rules.now store.now None (K.contents demand.old.keeper) (K.contents demand.new.keeper)
         (K.memories demand.old.keeper) (K.memories demand.new.keeper) question.old question.new result }
-    ensures went { IsTrue K.exact → Went (K.memories demand.old.keeper) demand.old.made (K.memories demand.new.keeper) demand.new.made }
+    ensures went { Went (K.memories demand.old.keeper) demand.old.made (K.memories demand.new.keeper) demand.new.made }
 {
     loop {
         let (turns, answer) = demand.turns(rules, store, question, u64::MAX)?;
@@ -98,8 +98,8 @@ impl<K: Keeper> Engine<K> {
     /// Where room for 64 bytes is refused, and then nothing has changed. Every other want of memory is an answer.
     pub fn turn(&mut self, out: &mut Vec<u8>) -> Result<bool, AllocError>
         requires sound { IsSound K.contents K.memories self.old }
-        ensures { Calls K.exact K.contents K.memories self.old self.new out.old out.new
-            (HasTurned K.exact K.contents K.memories self.old self.new out.old.items out.new.items) result }
+        ensures { Calls K.contents K.memories self.old self.new out.old out.new
+            (HasTurned K.contents K.memories self.old self.new out.old.items out.new.items) result }
     {
         let is_settled = self.posts.is_empty();
         self.give(Some(1), out)?;
@@ -122,8 +122,8 @@ impl<K: Keeper> Engine<K> {
         out: &mut Vec<u8>,
     ) -> Result<Spent, AllocError>
         requires { CanSpend K.contents K.memories self.old limit }
-        ensures { Calls K.exact K.contents K.memories self.old self.new out.old out.new
-            (HasGiven K.exact K.contents K.memories limit self.old self.new out.old.items out.new.items) result }
+        ensures { Calls K.contents K.memories self.old self.new out.old out.new
+            (HasGiven K.contents K.memories limit self.old self.new out.old.items out.new.items) result }
     {
         out.reserve(REPLY_ROOM)?;
         if self.posts.is_empty() {
@@ -151,9 +151,9 @@ impl<K: Keeper> Engine<K> {
     /// What is told of a line that waits for the question at the position, which is given turns until it is answered.
     pub(super) fn wait(&mut self, position: usize) -> Told
         requires { CanTurn K.contents K.memories self.old position }
-        ensures attends { Attends K.exact K.contents K.memories self.old self.new position
-            (λ p. IsClosed K.exact K.contents K.memories self.old self.new p result) (KeepsGroups (rules_of self.old) result.form) }
-        ensures went { WentOn K.exact K.memories self.old self.new }
+        ensures attends { Attends K.contents K.memories self.old self.new position
+            (λ p. IsClosed K.contents K.memories self.old self.new p result) (KeepsGroups (rules_of self.old) result.form) }
+        ensures went { WentOn K.memories self.old self.new }
     {
         let (_, form) = match self.go_on(position, None) {
             Ok(gone) => gone,
@@ -170,7 +170,7 @@ impl<K: Keeper> Engine<K> {
         requires there { IsHeldAt K.contents K.memories self.old position }
         requires writable { IfOk form IsWritable }
         requires room { vec_len out.old + 64 ≤ vec_capacity out.old }
-        ensures off { TakesOff K.exact K.contents K.memories self.old self.new position
+        ensures off { TakesOff K.contents K.memories self.old self.new position
             (λ p. IsSaid (told_of p self.old.version form) result out.old.items out.new.items) }
         ensures room { vec_capacity out.old ≤ vec_capacity out.new }
     {
@@ -180,7 +180,7 @@ impl<K: Keeper> Engine<K> {
     /// Takes the question at the position off; what is told of it.
     fn close(&mut self, position: usize, form: Result<Form, AllocError>) -> Told
         requires { IsHeldAt K.contents K.memories self.old position }
-        ensures { TakesOff K.exact K.contents K.memories self.old self.new position (λ p. result ≡ told_of p self.old.version form) }
+        ensures { TakesOff K.contents K.memories self.old self.new position (λ p. result ≡ told_of p self.old.version form) }
     {
         let posted = self.posts.remove(position);
         let done = Posting {
@@ -202,9 +202,9 @@ impl<K: Keeper> Engine<K> {
         limit: Option<u64>,
     ) -> Result<(u64, Option<Form>), AllocError>
         requires { CanGoOn K.contents K.memories self.old position limit }
-        ensures attends { Attends K.exact K.contents K.memories self.old self.new position
-            (λ p. HasGone K.exact K.contents K.memories limit self.old self.new position p result) (KeepsGroups (rules_of self.old) result) }
-        ensures went { WentOn K.exact K.memories self.old self.new }
+        ensures attends { Attends K.contents K.memories self.old self.new position
+            (λ p. HasGone K.contents K.memories limit self.old self.new position p result) (KeepsGroups (rules_of self.old) result) }
+        ensures went { WentOn K.memories self.old self.new }
     {
         let begun = self.posts.take(position);
         let mut question = match self.begin(position, begun)? {

@@ -1,20 +1,23 @@
 //! A keeper that is compared, entry by entry, with plain models of what it keeps.
 
 ghost use Rattle.std.proofs.Common.{refl};
-ghost use Rattle.std.specs.Prelude.{◌≡◌, None};
-ghost use Rattle.at_cache.specs.Kept.{KeepsAll};
+ghost use Rattle.at_cache.specs.Finding.{edges_to};
+ghost use Rattle.at_cache.specs.Info.{table_len};
 ghost use Rattle.at_cache.specs.Keeping.{recorded_by, remembered_by};
+ghost use Rattle.at_cache.specs.Shedding.{is_crowded};
+ghost use Rattle.at_cache.specs.Standings.{last_is};
+ghost use Rattle.at_engine.specs.Engines.{KeepsNothing};
 
 use super::models::Models;
 use at_body::{Inst, Value};
-use at_cache::{KeepRecorded, Keeper, Order, Put};
+use at_cache::{KeepRecorded, Keeper, Order};
 use at_store::{Loc, Places};
 use std::alloc::{AllocError, Global};
 
-/// Keeps what a `KeepRecorded` keeps, and the same in plain models. Where they differ behind a flush, or so many entries are gone, it
+/// Keeps what a `KeepRecorded` keeps, and the same in plain models. Where they differ, or so many entries are gone, it
 /// takes no entry any more, which is heard.
 pub struct KeepCompared {
-    keeper: KeepRecorded,
+    pub keeper: KeepRecorded,
     pub models: Models,
     limit: usize,
 }
@@ -33,7 +36,7 @@ impl Drop for KeepCompared {
 impl KeepCompared {
     /// A keeper that keeps nothing yet, and takes no entry any more behind so many that are gone.
     pub fn new(alloc: Global, limit: usize) -> KeepCompared
-        ensures { KeepsAll (λ _. None) (recorded_by result.keeper) }
+        ensures { KeepsNothing recorded_by remembered_by result.keeper }
     {
         KeepCompared {
             keeper: KeepRecorded::new(alloc),
@@ -46,30 +49,22 @@ impl KeepCompared {
     fn takes_none(&self) -> bool {
         self.models.differs || self.models.gone >= self.limit
     }
-
-    /// The models forget what is touched, and are compared with the keeper, which has done so.
-    fn follow<F: Fn(Loc) -> bool>(&mut self, touched: &F)
-        requires { F.IsAlwaysCallable touched.now }
-        ensures { self.new.keeper ≡ self.old.keeper }
-    {
-        self.models.flush(&self.keeper, touched);
-    }
 }
 
 impl Keeper for KeepCompared {
-    ghost use Rattle.std.specs.Prelude.{false, refl, true};
+    ghost use Rattle.std.specs.Prelude.{refl};
 
     ghost contents = { λ k. recorded_by k.keeper };
 
-    ghost exact = { true };
-
     ghost memories = { λ k. remembered_by k.keeper };
 
-    ghost crowded = { λ _. false };
+    ghost crowded = { λ k. is_crowded k.keeper.cut };
+
+    ghost count = { λ k. table_len k.keeper.cut.entries };
 
     ghost always_in_turns = { λ k l. refl };
 
-    ghost kept_last = { λ k i v kept. kept };
+    ghost kept_last = { λ k i v kept. last_is (edges_to k.keeper.readers) k.keeper.cut.entries k.keeper.cut.standings.items k.keeper.puts i v kept };
 
     fn get(&self, inst: &Inst) -> Option<&Value> {
         self.keeper.get(inst)
@@ -86,15 +81,14 @@ impl Keeper for KeepCompared {
         reads: &[Loc],
         uses: &[Inst],
         order: Order,
-    ) -> Result<Put, AllocError> {
+    ) -> Result<(), AllocError> {
         if self.takes_none() {
             return Err(AllocError);
         }
-        let mut entry = self.models.entry(&inst, &value, reads)?;
-        self.models.link(&mut entry, uses)?;
-        let put = self.keeper.put(inst, value, reads, uses, order)?;
+        let entry = self.models.entry(&inst, &value, reads, uses, order)?;
+        self.keeper.put(inst, value, reads, uses, order)?;
         self.models.push(entry);
-        Ok(put)
+        Ok(())
     }
 
     fn has_trace(&self, inst: &Inst) -> bool {
@@ -102,28 +96,34 @@ impl Keeper for KeepCompared {
     }
 
     fn settle(&mut self, inst: &Inst, work: u64) -> u64 {
-        self.keeper.settle(inst, work)
+        let settled = self.keeper.settle(inst, work);
+        if settled != work {
+            let count = self.models.settle(&self.keeper);
+            if settled != work.saturating_add(count) {
+                self.models.differs = true;
+            }
+        }
+        settled
     }
 
     fn blocker(&self, inst: &Inst) -> Option<&Inst> {
         self.keeper.blocker(inst)
     }
 
-    fn is_tracing(&self) -> bool {
-        self.keeper.is_tracing()
-    }
-
     fn keeps_in_turns(&self) -> bool {
         self.keeper.keeps_in_turns()
     }
 
-    fn flush<F: Fn(Loc) -> bool>(&mut self, touched: &F) {
-        self.keeper.flush(touched);
-        self.follow(touched);
+    fn flush<F: Fn(Loc) -> bool>(&mut self, places: &Places<'_>, touched: &F) {
+        self.keeper.flush(places, touched);
+        self.models.flush(&self.keeper, touched);
     }
 
-    fn flush_at<F: Fn(Loc) -> bool>(&mut self, places: &Places<'_>, touched: &F) {
-        self.keeper.flush_at(places, touched);
-        self.follow(touched);
+    fn fit(&mut self, most: usize) {
+        if self.keeper.len() <= most {
+            return;
+        }
+        self.keeper.fit(most);
+        self.models.fit(&self.keeper);
     }
 }

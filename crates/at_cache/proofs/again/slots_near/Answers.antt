@@ -1,10 +1,8 @@
 use Rattle.std.proofs.Common.{◌++◌, ◌∙◌, ◌∷◌, [], ℕ, arith, ap, sym, refl, subst, take_all}
 use Rattle.at_cache.specs.Info.{memory_of}
 use Rattle.at_cache.specs.Putting.{AreTaken}
-use Rattle.at_cache.specs.Recorded.{AreOf}
 use Rattle.at_cache.specs.Theirs.{AreTheirs}
-use Rattle.at_cache.proofs.Done.{of_more, of_none, taken_more}
-use Rattle.at_cache.proofs.of_cut.Ordered.{theirs_more, theirs_none}
+use Rattle.at_cache.proofs.of_cut.Ordered.{taken_more, theirs_more, theirs_none}
 use Rattle.at_cache.proofs.of_cut.Slotted.{has_slot, no_slot}
 use Rattle.at_cache.proofs.again.slots_near.Goals as goal
 use Rattle.at_cache.proofs.again.slots_near.Goals.{in-Some+in_ok-push, in_default}
@@ -13,7 +11,6 @@ pub loop-used-init : goal.loop-used-init
 loop-used-init c = record {
   taken = subst (AreTaken (memory_of c.args.entries.now)) (sym c.in_ok-slots.ensures.items)
       (λ s d. absurd (omega (arith, d.1)));
-  covers = subst (AreOf c.args.entries.now []) (sym c.in_ok-slots.ensures.items) (λ lists puts l. refl);
   theirs = subst (AreTheirs c.args.entries.now []) (sym c.in_ok-slots.ensures.items) (λ all. refl);
 }
 
@@ -27,8 +24,6 @@ loop-used-preserved c =
           ∙ ap (λ (s : ℕ). c.loop-used.slots.items ++ s ∷ []) (sym has.there) in
           record {
             taken = taken_more t _ has.entry _ _ has.found pushed c.loop-used.invariant.taken;
-            covers = of_more t c.args.uses.now _ _ c.used-item.is c.loop-used-test.true _ c.loop-used.invariant.covers
-                has.entry _ has.found pushed;
             theirs = theirs_more t c.args.uses.now _ _ c.used-item.is c.loop-used-test.true _
                 c.loop-used.invariant.theirs has.entry _ has.found pushed;
           }
@@ -37,16 +32,10 @@ loop-used-preserved c =
           let none = no_slot t _ w.in_default.ensures in
           record {
             taken = subst (AreTaken (memory_of t)) (sym same) c.loop-used.invariant.taken;
-            covers = of_none t c.args.uses.now _ _ c.used-item.is c.loop-used-test.true _ c.loop-used.invariant.covers
-                _ none same;
             theirs = theirs_none t c.args.uses.now _ _ c.used-item.is c.loop-used-test.true _
                 c.loop-used.invariant.theirs _ none same;
           }
     ]
-
-pub returns-clause-covers : goal.returns-clause-covers
-returns-clause-covers c = subst (λ us. AreOf c.args.entries.now us c.loop-used.slots.items)
-    (take_all c.loop-used.used-index c.args.uses.now c.loop-used-test.false) c.loop-used.invariant.covers
 
 pub returns-clause-theirs : goal.returns-clause-theirs
 returns-clause-theirs c = subst (λ us. AreTheirs c.args.entries.now us c.loop-used.slots.items)

@@ -1,13 +1,11 @@
 use Rattle.std.proofs.Common.{take}
 use Rattle.at_cache.specs.Info.{memory_of}
 use Rattle.at_cache.specs.Putting.{AreTaken}
-use Rattle.at_cache.specs.Recorded.{AreOf}
 use Rattle.at_cache.specs.Theirs.{AreTheirs}
 use Rattle.at_cache.proofs.again.slots_near.Given as goal
 
 abbrev pub invariant-loop-used : goal.invariant-loop-used
 invariant-loop-used l = record {
   taken : AreTaken (memory_of l.entries) l.slots.items;
-  covers : AreOf l.entries (take l.used-index l.uses) l.slots.items;
   theirs : AreTheirs l.entries (take l.used-index l.uses) l.slots.items;
 }

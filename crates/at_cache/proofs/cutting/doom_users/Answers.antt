@@ -1,4 +1,4 @@
-use Rattle.std.proofs.Common.{◌∙◌, ap, append-nil, sym, subst, List, [], refl}
+use Rattle.std.proofs.Common.{◌∙◌, ap, append-nil, sym, subst, List, []}
 use Rattle.at_cache.specs.declared.edge.Edge.{Edge}
 use Rattle.at_cache.specs.Edges.{edges_in}
 use Rattle.at_cache.specs.Flushing.{Work}

@@ -1,4 +1,4 @@
-use Rattle.std.proofs.Common.{◌∙◌, inl, inr, sym, refl, arith, []}
+use Rattle.std.proofs.Common.{◌∙◌, inl, inr, sym, arith, []}
 use Rattle.at_cache.specs.Info.{memory_of}
 use Rattle.at_cache.specs.Putting.{users_at}
 use Rattle.at_cache.specs.Standings.{standing_of}

@@ -3,12 +3,9 @@ use Rattle.slab.specs.Slab.{get}
 use Rattle.at_cache.specs.Finding.{edges_to}
 use Rattle.at_cache.specs.Folding.{AreOrdered, AreTaken, Relinks, listed_at, slots_at}
 use Rattle.at_cache.specs.Info.{memory_of}
-use Rattle.at_cache.proofs.Testing.{indexed_by, tested}
-use Rattle.at_cache.proofs.of_folding.Made.{indexed_then, kept_then, leaves_folded}
 use Rattle.at_cache.proofs.of_folding.Nodes.{noted_still}
 use Rattle.at_cache.proofs.of_folding.Reheld.{folds_held}
 use Rattle.at_cache.proofs.of_folding.Rerun.{all_rerun}
-use Rattle.at_cache.proofs.of_folding.Walking.{folds_by}
 use Rattle.at_cache.proofs.folding.fold.Goals as goal
 
 pub is_sound-requires : goal.is_sound-requires
@@ -33,27 +30,6 @@ invariant_of-readers-2 c = record {
   short = subst (λ n. n ≤ 2 ^ 32) (sym c.rewrite.ensures.len) c.args.readers.now.short;
   few = c.args.readers.now.few;
 }
-
-pub returns-clause-indexed : goal.returns-clause-indexed
-returns-clause-indexed c puts t =
-    let i = indexed_by t in
-    let plan = folds_by i (c.is_sound.ensures c.if-not-is_sound.false) in
-    let relinked = subst (λ ls. Relinks (slots_at c.args.plan.now) (listed_at (get c.args.entries.now.places) ls) (memory_of c.args.entries.now)
-    (memory_of c.relink.new.entries)) c.as_slice.ensures.value c.in_ok-relink.ensures.relinked in
-    let lists = all_rerun (memory_of c.args.entries.now) (slots_at c.args.plan.now) _ _ c.args.readers.now.seats.items _ _ c.in_ok-rewrite.ensures.lists
-    c.in_ok-rerun.ensures.edges in
-    tested (indexed_then i plan lists c.in_ok-links.ensures relinked c.remove_folded.ensures)
-
-pub returns-clause-kept : goal.returns-clause-kept
-returns-clause-kept c puts t =
-    let i = indexed_by t in
-    let plan = folds_by i (c.is_sound.ensures c.if-not-is_sound.false) in
-    let relinked = subst (λ ls. Relinks (slots_at c.args.plan.now) (listed_at (get c.args.entries.now.places) ls) (memory_of c.args.entries.now)
-    (memory_of c.relink.new.entries)) c.as_slice.ensures.value c.in_ok-relink.ensures.relinked in
-    let lists = all_rerun (memory_of c.args.entries.now) (slots_at c.args.plan.now) _ _ c.args.readers.now.seats.items _ _ c.in_ok-rewrite.ensures.lists
-    c.in_ok-rerun.ensures.edges in
-    leaves_folded (edges_to c.args.readers.now) _ c.args.entries.now c.remove_folded.new.entries puts
-    (kept_then i plan lists c.in_ok-links.ensures relinked c.remove_folded.ensures)
 
 pub returns-clause-held : goal.returns-clause-held
 returns-clause-held c standings puts on indexed =

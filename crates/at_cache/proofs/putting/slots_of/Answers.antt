@@ -1,10 +1,8 @@
 use Rattle.std.proofs.Common.{◌∙◌, [], arith, ap, sym, refl, subst, take_all}
 use Rattle.at_cache.specs.Info.{memory_of}
 use Rattle.at_cache.specs.Putting.{AreTaken}
-use Rattle.at_cache.specs.Recorded.{AreOf}
 use Rattle.at_cache.specs.Theirs.{AreTheirs}
-use Rattle.at_cache.proofs.Done.{of_more, of_none, taken_more}
-use Rattle.at_cache.proofs.of_cut.Ordered.{theirs_more, theirs_none}
+use Rattle.at_cache.proofs.of_cut.Ordered.{taken_more, theirs_more, theirs_none}
 use Rattle.at_cache.proofs.putting.slots_of.Goals as goal
 use Rattle.at_cache.proofs.putting.slots_of.Goals.{in-Some+in_ok-push, in_default}
 
@@ -12,7 +10,6 @@ pub loop-used-init : goal.loop-used-init
 loop-used-init c = record {
   taken = subst (AreTaken (memory_of c.args.entries.now)) (sym c.in_ok-slots.ensures.items)
       (λ s d. absurd (omega (arith, d.1)));
-  covers = subst (AreOf c.args.entries.now []) (sym c.in_ok-slots.ensures.items) (λ lists puts l. refl);
   theirs = subst (AreTheirs c.args.entries.now []) (sym c.in_ok-slots.ensures.items) (λ all. refl);
 }
 
@@ -25,8 +22,6 @@ loop-used-preserved c =
           let pushed = ap (λ v. v.items) w.slots-is ∙ w.in_ok-push.ensures.ok in
           record {
             taken = taken_more t _ w.in-Some.entry.now _ _ found pushed c.loop-used.invariant.taken;
-            covers = of_more t c.args.uses.now _ _ c.used-item.is c.loop-used-test.true _ c.loop-used.invariant.covers
-                w.in-Some.entry.now _ found pushed;
             theirs = theirs_more t c.args.uses.now _ _ c.used-item.is c.loop-used-test.true _
                 c.loop-used.invariant.theirs w.in-Some.entry.now _ found pushed;
           }
@@ -34,16 +29,10 @@ loop-used-preserved c =
           let same = ap (λ v. v.items) w.slots-is in
           record {
             taken = subst (AreTaken (memory_of t)) (sym same) c.loop-used.invariant.taken;
-            covers = of_none t c.args.uses.now _ _ c.used-item.is c.loop-used-test.true _ c.loop-used.invariant.covers
-                _ (sym w.in_default.ensures.value) same;
             theirs = theirs_none t c.args.uses.now _ _ c.used-item.is c.loop-used-test.true _
                 c.loop-used.invariant.theirs _ (sym w.in_default.ensures.value) same;
           }
     ]
-
-pub returns-clause-covers : goal.returns-clause-covers
-returns-clause-covers c = subst (λ us. AreOf c.args.entries.now us c.loop-used.slots.items)
-    (take_all c.loop-used.used-index c.args.uses.now c.loop-used-test.false) c.loop-used.invariant.covers
 
 pub returns-clause-theirs : goal.returns-clause-theirs
 returns-clause-theirs c = subst (λ us. AreTheirs c.args.entries.now us c.loop-used.slots.items)

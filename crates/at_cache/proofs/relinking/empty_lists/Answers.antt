@@ -1,4 +1,4 @@
-use Rattle.std.proofs.Common.{ap, refl}
+use Rattle.std.proofs.Common.{ap}
 use Rattle.at_cache.specs.Folding.{slots_at}
 use Rattle.at_cache.proofs.of_folding.Linking.{none_pushed}
 use Rattle.at_cache.proofs.relinking.empty_lists.Goals as goal

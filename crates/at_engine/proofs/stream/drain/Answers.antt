@@ -15,7 +15,7 @@ loop-engine-init g c =
       given = (0, gave_nothing (rules_of e) (state_of e) (state_of e) c.args.desk.now c.args.desk.now (contents c.args.writer.now) refl refl refl);
       none = λ h. refl;
       line = refl;
-      goes = goes_nowhere g.K.Keeper.exact g.K.Keeper.contents g.K.Keeper.memories g.W.Output.failed g.W.Output.waits e c.args.desk.now _ _ 0 tt c.requires.sound refl refl;
+      goes = goes_nowhere g.K.Keeper.contents g.K.Keeper.memories g.W.Output.failed g.W.Output.waits e c.args.desk.now _ _ 0 tt c.requires.sound refl refl;
     }
 
 pub loop-engine-preserved : goal.loop-engine-preserved
@@ -32,8 +32,8 @@ loop-engine-preserved g c =
       );
       none = λ h. one.none (ap (λ (e : Engine g.row.K.Denot). (state_of e).posted) (inv.none h) ∙ h) ∙ inv.none h;
       line = one.line ∙ inv.line;
-      goes = goes_on g.K.Keeper.exact g.K.Keeper.contents g.K.Keeper.memories g.W.Output.failed g.W.Output.waits _ _ _ _ _ _ _ _ _ _ 0 0 0 tt (Ok tt) inv.goes refl refl (omega arith)
-          (goes_alike g.K.Keeper.exact g.K.Keeper.contents g.K.Keeper.memories g.W.Output.failed g.W.Output.waits _ _ _ _ _ _ 0 (Ok c.in_ok-give_some.field-0) (Ok tt) refl one.goes);
+      goes = goes_on g.K.Keeper.contents g.K.Keeper.memories g.W.Output.failed g.W.Output.waits _ _ _ _ _ _ _ _ _ _ 0 0 0 tt (Ok tt) inv.goes refl refl (omega arith)
+          (goes_alike g.K.Keeper.contents g.K.Keeper.memories g.W.Output.failed g.W.Output.waits _ _ _ _ _ _ 0 (Ok c.in_ok-give_some.field-0) (Ok tt) refl one.goes);
     }
 
 pub loop-engine-smaller : goal.loop-engine-smaller
@@ -68,6 +68,6 @@ returns-in_err-give_some g c =
       );
       none = λ h. one.none (ap (λ (e : Engine g.row.K.Denot). (state_of e).posted) (inv.none h) ∙ h) ∙ inv.none h;
       line = one.line ∙ inv.line;
-      goes = goes_on g.K.Keeper.exact g.K.Keeper.contents g.K.Keeper.memories g.W.Output.failed g.W.Output.waits _ _ _ _ _ _ _ _ _ _ 0 0 0 tt c.from_residual.result inv.goes refl refl (omega arith)
-          (goes_alike g.K.Keeper.exact g.K.Keeper.contents g.K.Keeper.memories g.W.Output.failed g.W.Output.waits _ _ _ _ _ _ 0 _ c.from_residual.result (ap is_err (sym p.1)) one.goes);
+      goes = goes_on g.K.Keeper.contents g.K.Keeper.memories g.W.Output.failed g.W.Output.waits _ _ _ _ _ _ _ _ _ _ 0 0 0 tt c.from_residual.result inv.goes refl refl (omega arith)
+          (goes_alike g.K.Keeper.contents g.K.Keeper.memories g.W.Output.failed g.W.Output.waits _ _ _ _ _ _ 0 _ c.from_residual.result (ap is_err (sym p.1)) one.goes);
     }

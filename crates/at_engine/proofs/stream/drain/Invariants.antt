@@ -12,7 +12,7 @@ invariant-loop-engine g l =
       given : (turns : ℕ) × Gives (rules_of l.fn.engine) turns (state_of l.fn.engine) (state_of l.engine) l.fn.desk l.desk (contents l.fn.writer) (contents l.writer);
       none : (state_of l.fn.engine).posted ≡ [] → l.engine ≡ l.fn.engine;
       line : l.desk.line.items ≡ l.fn.desk.line.items;
-      goes : Goes {T = Unit {0}} g.K.Keeper.exact g.K.Keeper.contents g.K.Keeper.memories g.W.Output.failed g.W.Output.waits l.fn.engine l.engine l.fn.desk l.desk l.fn.writer l.writer 0 (Ok tt);
+      goes : Goes {T = Unit {0}} g.K.Keeper.contents g.K.Keeper.memories g.W.Output.failed g.W.Output.waits l.fn.engine l.engine l.fn.desk l.desk l.fn.writer l.writer 0 (Ok tt);
     }
 
 abbrev pub decreases-loop-engine : goal.decreases-loop-engine

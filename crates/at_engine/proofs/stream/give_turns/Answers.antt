@@ -19,7 +19,7 @@ returns-then-is_settled g c =
       done = gave_none (rules_of e) (slice_of e) (state_of e) (state_of e) c.args.desk.now c.args.desk.now (g.W.Output.contents c.args.writer.now) given refl refl;
       none = λ h. refl;
       line = refl;
-      goes = goes_nowhere g.K.Keeper.exact g.K.Keeper.contents g.K.Keeper.memories g.W.Output.failed g.W.Output.waits e c.args.desk.now _ _ 0 tt c.requires.sound refl refl;
+      goes = goes_nowhere g.K.Keeper.contents g.K.Keeper.memories g.W.Output.failed g.W.Output.waits e c.args.desk.now _ _ 0 tt c.requires.sound refl refl;
     }
 
 pub loop-left-init : goal.loop-left-init
@@ -33,7 +33,7 @@ loop-left-init g c =
       gives = as_many_given (rules_of e) 0 _ _ _ _ _ _ _ none (gave_nothing (rules_of e) (state_of e) (state_of e) c.args.desk.now c.args.desk.now (contents c.args.writer.now) refl refl refl);
       none = λ h. refl;
       line = refl;
-      goes = goes_nowhere g.K.Keeper.exact g.K.Keeper.contents g.K.Keeper.memories g.W.Output.failed g.W.Output.waits e c.args.desk.now _ _ 0 tt c.requires.sound refl refl;
+      goes = goes_nowhere g.K.Keeper.contents g.K.Keeper.memories g.W.Output.failed g.W.Output.waits e c.args.desk.now _ _ 0 tt c.requires.sound refl refl;
     }
 
 pub loop-left-preserved : goal.loop-left-preserved
@@ -53,8 +53,8 @@ loop-left-preserved g c =
           (slice - left) turns _ _ _ _ _ _ _ _ _ inv.gives more);
       none = λ h. some.none (ap (λ (e : Engine g.row.K.Denot). (state_of e).posted) (inv.none h) ∙ h) ∙ inv.none h;
       line = some.line ∙ inv.line;
-      goes = goes_on g.K.Keeper.exact g.K.Keeper.contents g.K.Keeper.memories g.W.Output.failed g.W.Output.waits _ _ _ _ _ _ _ _ _ _ 0 0 0 tt (Ok tt) inv.goes refl refl (omega arith)
-          (goes_alike g.K.Keeper.exact g.K.Keeper.contents g.K.Keeper.memories g.W.Output.failed g.W.Output.waits _ _ _ _ _ _ 0 (Ok rest) (Ok tt) refl some.goes);
+      goes = goes_on g.K.Keeper.contents g.K.Keeper.memories g.W.Output.failed g.W.Output.waits _ _ _ _ _ _ _ _ _ _ 0 0 0 tt (Ok tt) inv.goes refl refl (omega arith)
+          (goes_alike g.K.Keeper.contents g.K.Keeper.memories g.W.Output.failed g.W.Output.waits _ _ _ _ _ _ 0 (Ok rest) (Ok tt) refl some.goes);
     }
 
 pub returns : goal.returns
@@ -88,6 +88,6 @@ returns-in_err-left g c =
       );
       none = λ h. some.none (ap (λ (e : Engine g.row.K.Denot). (state_of e).posted) (inv.none h) ∙ h) ∙ inv.none h;
       line = some.line ∙ inv.line;
-      goes = goes_on g.K.Keeper.exact g.K.Keeper.contents g.K.Keeper.memories g.W.Output.failed g.W.Output.waits _ _ _ _ _ _ _ _ _ _ 0 0 0 tt c.from_residual.result inv.goes refl refl (omega arith)
-          (goes_alike g.K.Keeper.exact g.K.Keeper.contents g.K.Keeper.memories g.W.Output.failed g.W.Output.waits _ _ _ _ _ _ 0 _ c.from_residual.result (ap is_err (sym p.1)) some.goes);
+      goes = goes_on g.K.Keeper.contents g.K.Keeper.memories g.W.Output.failed g.W.Output.waits _ _ _ _ _ _ _ _ _ _ 0 0 0 tt c.from_residual.result inv.goes refl refl (omega arith)
+          (goes_alike g.K.Keeper.contents g.K.Keeper.memories g.W.Output.failed g.W.Output.waits _ _ _ _ _ _ 0 _ c.from_residual.result (ap is_err (sym p.1)) some.goes);
     }

@@ -10,7 +10,7 @@ use Rattle.at_engine.proofs.of_keeping.KeepingBytes.{kept_behind}
 use Rattle.at_engine.specs.Going.{unsaid}
 use Rattle.at_engine.specs.Loop.{lets_wait}
 use Rattle.at_engine.specs.Stepping.{by_line, nowhere}
-use Rattle.at_engine.proofs.GoingLemmas.{goes_on, goes_unsaid, goes_wrote, served_whole_so}
+use Rattle.at_engine.proofs.GoingLemmas.{goes_on, goes_unsaid, goes_wrote, same_slice, served_whole_so}
 use Rattle.at_engine.proofs.Remembering.{sent_where}
 use Rattle.at_engine.proofs.stream.serve.Goals as goal
 
@@ -38,10 +38,10 @@ returns-in_err-write_whole-in-Ok-clause-serves g c =
     let memory = c.count_answer.ensures.memory ∙ ap (λ n. n + (if c.in-Ok.wants then 1 else 0)) c.count_line.ensures.rest.0 in
     record {
       served = rw (p.1, p.2) (w.0, halts_in_line (rules_of old) (slice_of old) _ _ c.args.desk.now.line.items (c.in-Ok.wants, s.0) _ _ w.1 w.2 serves (sym text ∙ w.3) w.4);
-      keeps = λ exact spare. rw p.1 tt;
+      keeps = λ spare. rw p.1 tt;
       line = c.count_answer.ensures.rest.1 ∙ c.count_line.ensures.rest.1;
-      goes = goes_wrote g.K.Keeper.exact g.K.Keeper.contents g.K.Keeper.memories g.W.Output.failed unsaid _ _ c.args.desk.now _ _ _ 1 _ _ c.from_residual.result call
-          (λ whole exact spare. call.done.spare (served_whole_so (rules_of old) c.in-Ok.wants c.args.desk.now c.count_answer.new.self memory whole) exact spare)
+      goes = goes_wrote g.K.Keeper.contents g.K.Keeper.memories g.W.Output.failed unsaid _ _ c.args.desk.now _ _ _ 1 _ _ c.from_residual.result call
+          (λ whole spare. call.done.spare (served_whole_so (rules_of old) c.in-Ok.wants c.args.desk.now c.count_answer.new.self memory whole) spare)
           (omega (arith, memory)) (rw p.1 c.in_err-write_whole-in-Ok.ensures.failed) (rw p.1 tt)
           (by_line old c.serve.new.self _ _ _ c.in-Ok.wants nowhere call.done call.went)
           (omega (arith, counts_served (rules_of old) (state_of old) (state_of c.serve.new.self) c.args.desk.now.line.items (c.in-Ok.wants, s.0) c.args.desk.now c.count_answer.new.self serves (c.count_answer.ensures.rest.0 ∙ c.count_line.ensures.lines) (c.count_answer.ensures.memory ∙ ap (λ n. n + (if c.in-Ok.wants then 1 else 0)) c.count_line.ensures.rest.0)));
@@ -62,19 +62,19 @@ returns-clause-serves g c =
     let counted = counts_served (rules_of old) (state_of old) (state_of mid) c.args.desk.now.line.items (c.in-Ok.wants, s.0) c.args.desk.now c.count_answer.new.self serves (c.count_answer.ensures.rest.0 ∙ c.count_line.ensures.lines) (c.count_answer.ensures.memory ∙ ap (λ n. n + (if c.in-Ok.wants then 1 else 0)) c.count_line.ensures.rest.0) in
     record {
       served = then_turns c.give_turns.result (rules_of old) (rules_of mid) (slice_of old) (slice_of mid) (state_of old) (state_of mid) (state_of c.give_turns.new.engine) c.args.desk.now.line.items (c.in-Ok.wants, s.0) c.args.desk.now _ c.give_turns.new.desk _ _ _
-          turns.done call.rules call.slice serves (c.count_answer.ensures.rest.0 ∙ c.count_line.ensures.lines) (c.count_answer.ensures.memory ∙ ap (λ n. n + (if c.in-Ok.wants then 1 else 0)) c.count_line.ensures.rest.0) written;
-      keeps = λ exact spare.
-          let keeps = subst (λ (l : List ℕ). KeepsServed g.K.Keeper.contents c.in-Ok.wants l old mid) c.as_slice.ensures.value (call.done.keeps exact spare) in
+          turns.done call.rules (same_slice call.settings) serves (c.count_answer.ensures.rest.0 ∙ c.count_line.ensures.lines) (c.count_answer.ensures.memory ∙ ap (λ n. n + (if c.in-Ok.wants then 1 else 0)) c.count_line.ensures.rest.0) written;
+      keeps = λ spare.
+          let keeps = subst (λ (l : List ℕ). KeepsServed g.K.Keeper.contents c.in-Ok.wants l old mid) c.as_slice.ensures.value (call.done.keeps spare) in
           kept_behind c.give_turns.result g.K.Keeper.contents old mid c.give_turns.new.engine (rules_of mid) (slice_of mid) c.args.desk.now.line.items (c.in-Ok.wants, s.0) c.args.desk.now _ c.give_turns.new.desk _ _
           turns.done turns.none serves keeps (c.count_answer.ensures.memory ∙ ap (λ n. n + (if c.in-Ok.wants then 1 else 0)) c.count_line.ensures.rest.0);
       line = turns.line ∙ c.count_answer.ensures.rest.1 ∙ c.count_line.ensures.rest.1;
-      goes = goes_on g.K.Keeper.exact g.K.Keeper.contents g.K.Keeper.memories g.W.Output.failed unsaid _ _ _ _ _ _ _ _ _ _ 1 0 1 (tt {0}) c.give_turns.result
-          (goes_wrote g.K.Keeper.exact g.K.Keeper.contents g.K.Keeper.memories g.W.Output.failed unsaid _ _ c.args.desk.now c.count_answer.new.self _ _ 1 _ _ (Ok (tt {0})) call
-          (λ whole exact spare. call.done.spare (served_whole_so (rules_of old) c.in-Ok.wants c.args.desk.now c.count_answer.new.self memory whole) exact spare)
+      goes = goes_on g.K.Keeper.contents g.K.Keeper.memories g.W.Output.failed unsaid _ _ _ _ _ _ _ _ _ _ 1 0 1 (tt {0}) c.give_turns.result
+          (goes_wrote g.K.Keeper.contents g.K.Keeper.memories g.W.Output.failed unsaid _ _ c.args.desk.now c.count_answer.new.self _ _ 1 _ _ (Ok (tt {0})) call
+          (λ whole spare. call.done.spare (served_whole_so (rules_of old) c.in-Ok.wants c.args.desk.now c.count_answer.new.self memory whole) spare)
           (omega (arith, memory)) c.in_ok-write_whole-in-Ok.ensures.failed refl
           (by_line old c.serve.new.self _ _ _ c.in-Ok.wants nowhere call.done call.went) (omega (arith, counted)))
           refl refl (omega arith)
-          (goes_unsaid g.K.Keeper.exact g.K.Keeper.contents g.K.Keeper.memories g.W.Output.failed g.W.Output.waits _ _ _ _ _ _ 0 c.give_turns.result turns.goes);
+          (goes_unsaid g.K.Keeper.contents g.K.Keeper.memories g.W.Output.failed g.W.Output.waits _ _ _ _ _ _ 0 c.give_turns.result turns.goes);
     }
 
 pub returns-clause-sent : goal.returns-clause-sent

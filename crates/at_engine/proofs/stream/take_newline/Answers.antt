@@ -19,10 +19,10 @@ returns-in_err-serve-clause-takes g c = record {
       let some : 0 < vec_len c.args.desk.now.line = grind (arith, nat_tests) in
       let long : 0 < length (kept front) = omega (arith, some, c.args.desk.now.line.ok.0, ap length e) in
       rw (p.1, p.2) (s.0, stopped_at_line (rules_of c.args.engine.now) (slice_of c.args.engine.now) _ _ front c.args.desk.now.line.items _ _ o (filled_as_kept front long) e s.1);
-  keeps = λ exact spare whole front o e. let p = err_from_is_err_and c.from_residual.result c.from_residual.ensures.1 in rw p.1 tt;
+  keeps = λ spare whole front o e. let p = err_from_is_err_and c.from_residual.result c.from_residual.ensures.1 in rw p.1 tt;
   goes =
       let p = err_from_is_err_and c.from_residual.result c.from_residual.ensures.1 in
-      goes_alike g.K.Keeper.exact g.K.Keeper.contents g.K.Keeper.memories g.W.Output.failed unsaid _ _ _ _ _ _ 1 _ c.from_residual.result (ap is_err (sym p.1)) c.in_err-serve.ensures.serves.goes;
+      goes_alike g.K.Keeper.contents g.K.Keeper.memories g.W.Output.failed unsaid _ _ _ _ _ _ 1 _ c.from_residual.result (ap is_err (sym p.1)) c.in_err-serve.ensures.serves.goes;
 }
 
 pub returns-in_ok-serve-clause-takes : goal.returns-in_ok-serve-clause-takes
@@ -32,15 +32,15 @@ returns-in_ok-serve-clause-takes g c = record {
       let some : 0 < vec_len c.args.desk.now.line = grind (arith, nat_tests) in
       let long : 0 < length (kept front) = omega (arith, some, c.args.desk.now.line.ok.0, ap length e) in
       took_line (rules_of c.args.engine.now) (slice_of c.args.engine.now) _ _ front c.args.desk.now _ _ _ _ o (filled_as_kept front long) e s c.clear.ensures.items refl refl;
-  keeps = λ exact spare whole front o e.
+  keeps = λ spare whole front o e.
       let some : 0 < vec_len c.args.desk.now.line = grind (arith, nat_tests) in
       let long : 0 < length (kept front) = omega (arith, some, c.args.desk.now.line.ok.0, ap length e) in
       keeps_line g.K.Keeper.contents c.args.engine.now c.serve.new.engine front c.args.desk.now _ o (filled_as_kept front long) e c.clear.ensures.items
-      (λ none no_post. c.in_ok-serve.ensures.serves.keeps exact spare none no_post whole)
+      (λ none no_post. c.in_ok-serve.ensures.serves.keeps spare none no_post whole)
       (λ none no_post. none_after_line _ _ _ _ _ _ _ _ _ none no_post c.in_ok-serve.ensures.serves.served);
   goes =
       let s = c.in_ok-serve.ensures.serves.goes in
-      record { failed = s.failed; by = s.by; sent = s.sent; spare = s.spare; wanted = s.wanted; rules = s.rules; slice = s.slice; grows = s.grows; sound = s.sound };
+      record { failed = s.failed; by = s.by; sent = s.sent; spare = s.spare; wanted = s.wanted; rules = s.rules; settings = s.settings; grows = s.grows; sound = s.sound };
 }
 
 pub returns-else-not-is_empty-clause-takes : goal.returns-else-not-is_empty-clause-takes
@@ -50,12 +50,12 @@ returns-else-not-is_empty-clause-takes g c = record {
       let short : length (kept front) ≤ 0 = omega (arith, none, c.args.desk.now.line.ok.0, ap length e) in
       let line : c.args.desk.now.line.items ≡ [] = e ∙ ap kept (empty_as_kept front short) ∙ kept-nil in
       rw (empty_as_kept front short) (took_empty _ _ _ _ _ _ line refl refl);
-  keeps = λ exact spare whole front o e.
+  keeps = λ spare whole front o e.
       let none : vec_len c.args.desk.now.line ≡ 0 = grind (arith, nat_tests) in
       let short : length (kept front) ≤ 0 = omega (arith, none, c.args.desk.now.line.ok.0, ap length e) in
       let line : c.args.desk.now.line.items ≡ [] = e ∙ ap kept (empty_as_kept front short) ∙ kept-nil in
       rw (empty_as_kept front short) (keeps_empty g.K.Keeper.contents c.args.engine.now _ line);
-  goes = goes_nowhere g.K.Keeper.exact g.K.Keeper.contents g.K.Keeper.memories g.W.Output.failed unsaid c.args.engine.now c.args.desk.now _ _ 1 tt c.requires.sound refl refl;
+  goes = goes_nowhere g.K.Keeper.contents g.K.Keeper.memories g.W.Output.failed unsaid c.args.engine.now c.args.desk.now _ _ 1 tt c.requires.sound refl refl;
 }
 
 pub returns-else-not-is_empty-clause-sent : goal.returns-else-not-is_empty-clause-sent

@@ -1,4 +1,3 @@
-use Rattle.std.specs.Prelude.{IsTrue}
 use Rattle.std.proofs.Common.{false, ◌≡◌, ◌++◌, List, ℕ, Ok, length}
 use Rattle.at_engine.specs.Going.{Goes, SendsEach, unsaid}
 use Rattle.at_engine.proofs.of_turns.Waiting.{MayWait}
@@ -17,11 +16,11 @@ invariant-loop-line g l =
       split : l.piece ≡ done ++ l.rest;
       taken : (front : List ℕ) → IsOpen front → l.fn.desk.line.items ≡ kept front
           → Takes (rules_of l.fn.engine) (slice_of l.fn.engine) (state_of l.fn.engine) front done (state_of l.engine) l.fn.desk l.desk (contents l.fn.writer) (contents l.writer);
-      keeps : IsTrue g.K.Keeper.exact → IsSpare g.K.Keeper.contents l.fn.engine → l.desk.memory ≡ l.fn.desk.memory → (front : List ℕ) → IsOpen front
+      keeps : IsSpare g.K.Keeper.contents l.fn.engine → l.desk.memory ≡ l.fn.desk.memory → (front : List ℕ) → IsOpen front
           → l.fn.desk.line.items ≡ kept front → KeepsBytes g.K.Keeper.contents front done l.fn.engine l.engine l.desk;
-      goes : Goes {T = Unit {0}} g.K.Keeper.exact g.K.Keeper.contents g.K.Keeper.memories g.W.Output.failed unsaid l.fn.engine l.engine l.fn.desk l.desk l.fn.writer l.writer (length done) (Ok tt);
+      goes : Goes {T = Unit {0}} g.K.Keeper.contents g.K.Keeper.memories g.W.Output.failed unsaid l.fn.engine l.engine l.fn.desk l.desk l.fn.writer l.writer (length done) (Ok tt);
       each : l.fn.gathers ≡ false
-          → SendsEach g.K.Keeper.exact g.K.Keeper.contents g.K.Keeper.memories g.W.Output.contents g.W.Output.failed
+          → SendsEach g.K.Keeper.contents g.K.Keeper.memories g.W.Output.contents g.W.Output.failed
           g.W.Output.waits
           l.fn.engine l.fn.writer l.engine l.writer;
       sent : g.W.Output.waits l.fn.writer ≡ false → MayWait l.rest (g.W.Output.waits l.writer);

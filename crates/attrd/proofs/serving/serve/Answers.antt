@@ -12,16 +12,16 @@ loop-turn-init g c =
     let seen = g.D.Door.seen c.args.door.now in
     let zero : faults c.none-served.result + c.none-served.result.lacking ≡ 0 =
     ap (λ (s : Served). faults s + s.lacking) c.none-served.ensures in record {
-      serves = subst (ServesAll g.K.Keeper.exact g.K.Keeper.contents g.K.Keeper.memories g.D.Reader.Input.remaining
+      serves = subst (ServesAll g.K.Keeper.contents g.K.Keeper.memories g.D.Reader.Input.remaining
           g.D.Reader.Input.failed g.D.Reader.Input.ended g.D.Reader.Input.reads g.D.Writer.Output.contents
           g.D.Writer.Output.failed g.D.Writer.Output.waits
           g.D.Door.gathering engine seen 0 engine seen)
           (sym c.none-served.ensures) none;
-      spare = λ whole exact spare. spare;
+      spare = λ whole spare. spare;
       ended = ap (λ (s : Served). s.ended) c.none-served.ensures;
       faults = omega (arith, zero);
       rules = refl;
-      slice = refl;
+      settings = refl;
       sound = c.requires.sound;
     }
 
@@ -33,21 +33,21 @@ loop-turn-preserved g c =
     let first = c.args.engine.now in
     let mid = c.loop-turn.engine in
     record {
-      serves = subst (ServesAll g.K.Keeper.exact g.K.Keeper.contents g.K.Keeper.memories g.D.Reader.Input.remaining
+      serves = subst (ServesAll g.K.Keeper.contents g.K.Keeper.memories g.D.Reader.Input.remaining
           g.D.Reader.Input.failed g.D.Reader.Input.ended g.D.Reader.Input.reads g.D.Writer.Output.contents
           g.D.Writer.Output.failed g.D.Writer.Output.waits
           g.D.Door.gathering first (seen c.args.door.now) (c.loop-turn.turn + 1) c.serve_next-ended.new.engine
           (seen c.serve_next-ended.new.door)) (sym c.count.ensures) (one_more inv.serves next.serves);
-      spare = λ whole exact spare.
+      spare = λ whole spare.
           next.spare (whole_next c.serve_next-ended.result c.loop-turn.served c.count.new.self (rules_of first) (rules_of mid)
-          c.count.ensures inv.rules whole) exact
+          c.count.ensures inv.rules whole)
           (inv.spare (whole_before c.serve_next-ended.result c.loop-turn.served c.count.new.self (rules_of first)
-          c.count.ensures whole) exact spare);
+          c.count.ensures whole) spare);
       ended = counted_ends c.serve_next-ended.result c.loop-turn.served c.count.new.self c.loop-turn.turn
           c.count.ensures inv.ended;
       faults = counted_faults c.serve_next-ended.result c.loop-turn.served c.count.new.self c.loop-turn.turn
           c.count.ensures inv.faults;
       rules = next.rules ∙ inv.rules;
-      slice = next.slice ∙ inv.slice;
+      settings = next.settings ∙ inv.settings;
       sound = next.sound;
     }

@@ -13,6 +13,6 @@ pub returns-in_default-clause-serves : goal.returns-in_default-clause-serves
 returns-in_default-clause-serves g c = not_accepted refl c.in_default.ensures.refused refl
 
 pub returns-clause-spare : goal.returns-clause-spare
-returns-clause-spare g c whole exact spare =
+returns-clause-spare g c whole spare =
     c.run_gathering-served.ensures.spare (run_whole (rules_of c.args.engine.now) c.run_gathering-served.result c.ended.result
-    c.ended.ensures whole) exact spare
+    c.ended.ensures whole) spare

@@ -1,30 +1,143 @@
-use Rattle.std.proofs.Common.{◌+◌, map, option_map, true}
+use Rattle.std.proofs.Common.{◌+◌, ◌∙◌, ℕ, inl, map, option_map, rules, subst, sym, true, true≢false}
+use Rattle.at_model.specs.Run.{Instance}
 use Rattle.at_body.specs.Values.{value_view}
 use Rattle.at_store.specs.Located.{loc_view}
-use Rattle.at_cache.specs.Recorded.{kept_in}
 use Rattle.at_cache.specs.Finding.{edges_to}
-use Rattle.at_cache.proofs.Shown.{absent_entry}
-use Rattle.at_cache.proofs.of_cut.Spared.{alike_itself, spares_alike}
-use Rattle.at_cache.proofs.of_cut.Untraced.{others_untraced}
+use Rattle.at_cache.specs.Kept.{AreKept, Entries, Puts}
+use Rattle.at_cache.specs.Standings.{kept_held, remembered}
+use Rattle.at_cache.proofs.of_cut.Outdated.{puts_after, puts_nothing}
+use Rattle.at_cache.proofs.of_cut.Spared.{alike_itself, spares_after, spares_alike, sure_put}
 use Rattle.at_cache.proofs.keep_recorded.KeepRecordedKeeper.put.Goals as goal
 
-pub enter_with-requires : goal.enter_with-requires
-enter_with-requires c = record { absent = absent_entry (edges_to c.args.self.now.readers) c.args.self.now.entries c.args.self.now.puts c.args.inst c.requires.absent }
+pub returns-in_err-slot-clause-spares : goal.returns-in_err-slot-clause-spares
+returns-in_err-slot-clause-spares c = spares_alike c.args.inst _ _ _ (alike_itself _)
 
 pub invariant_of-self : goal.invariant_of-self
-invariant_of-self c = record { indexed = c.enter_with.ensures.indexed c.args.self.now.indexed; noted = c.enter_with.ensures.noted c.args.self.now.noted }
+invariant_of-self c =
+    let s = c.outdate-known.ensures (edges_to c.args.self.now.readers) c.args.inst (record {
+      indexed = c.args.self.now.indexed;
+      tied = c.args.self.now.tied;
+      valued = c.args.self.now.valued;
+      absent = c.requires.absent;
+      place = c.in_ok-slot.ensures.slot;
+      its = c.in_ok-slot.ensures.its;
+    }) in
+    record {
+      indexed = s.awaited.indexed;
+      tied = s.awaited.tied;
+      valued = s.awaited.valued;
+      noted = c.args.self.now.noted;
+      sure = λ off. absurd (true≢false off);
+    }
 
-pub returns-clause-puts : goal.returns-clause-puts
-returns-clause-puts c = c.enter_with.ensures.puts c.args.self.now.indexed
+pub returns-then-stamp : goal.returns-then-stamp
+returns-then-stamp c =
+    let s = c.outdate-known.ensures (edges_to c.args.self.now.readers) c.args.inst (record {
+      indexed = c.args.self.now.indexed;
+      tied = c.args.self.now.tied;
+      valued = c.args.self.now.valued;
+      absent = c.requires.absent;
+      place = c.in_ok-slot.ensures.slot;
+      its = c.in_ok-slot.ensures.its;
+    }) in
+    record {
+      puts = tt;
+      err = s.keeps;
+      traces = puts_nothing c.args.inst (option_map value_view c.args.value) (map loc_view c.args.reads.now)
+          c.args.uses.now c.args.order _ _ s.traced;
+      spares = record { spares = λ j t apart h. inl (s.others j apart t h); last = λ u. inl (s.last u) };
+    }
 
-pub returns-clause-err : goal.returns-clause-err
-returns-clause-err c = c.enter_with.ensures.err c.args.self.now.indexed
+pub enter_held-requires : goal.enter_held-requires
+enter_held-requires c =
+    let s = c.outdate-known.ensures (edges_to c.args.self.now.readers) c.args.inst (record {
+      indexed = c.args.self.now.indexed;
+      tied = c.args.self.now.tied;
+      valued = c.args.self.now.valued;
+      absent = c.requires.absent;
+      place = c.in_ok-slot.ensures.slot;
+      its = c.in_ok-slot.ensures.its;
+    }) in
+    record {
+      awaited = s.awaited;
+      present = subst (λ (es : Entries). AreKept es c.args.uses.now) (λ n j. sym (s.keeps j) n) c.requires.present;
+    }
 
-pub returns-clause-spares : goal.returns-clause-spares
-returns-clause-spares c = others_untraced true (kept_in (edges_to c.args.self.now.readers) c.args.self.now.entries c.args.self.now.puts)
-    (kept_in (edges_to c.enter_with.new.readers) c.enter_with.new.entries (c.args.self.now.puts + 1)) c.args.inst
-    (option_map value_view c.args.value) (map loc_view c.args.reads.now) c.args.uses.now c.enter_with.result
-    (c.enter_with.ensures.puts c.args.self.now.indexed) (c.enter_with.ensures.err c.args.self.now.indexed)
+pub invariant_of-self-in-Break-branch-2 : goal.invariant_of-self-in-Break-branch-2
+invariant_of-self-in-Break-branch-2 c = record {
+  indexed = c.enter_held.ensures.enters.indexed;
+  tied = c.enter_held.ensures.enters.tied;
+  valued = c.enter_held.ensures.enters.valued;
+  noted = c.enter_held.ensures.noted c.args.self.now.noted;
+  sure = λ off. absurd (true≢false off);
+}
 
-pub returns-then-stamp-clause-spares : goal.returns-then-stamp-clause-spares
-returns-then-stamp-clause-spares c = spares_alike c.args.inst _ _ _ (alike_itself _)
+pub returns-in_err-enter_held : goal.returns-in_err-enter_held
+returns-in_err-enter_held c =
+    let s = c.outdate-known.ensures (edges_to c.args.self.now.readers) c.args.inst (record {
+      indexed = c.args.self.now.indexed;
+      tied = c.args.self.now.tied;
+      valued = c.args.self.now.valued;
+      absent = c.requires.absent;
+      place = c.in_ok-slot.ensures.slot;
+      its = c.in_ok-slot.ensures.its;
+    }) in
+    record {
+      puts = search rules;
+      err = let all = λ (j : Instance ℕ). (rw c.in_err-enter_held.was at c.enter_held.ensures.enters.err) j ∙ s.keeps j in search rules;
+      traces = puts_after c.args.inst (option_map value_view c.args.value) (map loc_view c.args.reads.now)
+          c.args.uses.now c.args.order _ _ _ s.traced c.enter_held.ensures.enters.traces;
+      spares = spares_after c.args.inst _ _ _ _ s.others s.last c.enter_held.ensures.enters.spares;
+    }
+
+pub invariant_of-self-2 : goal.invariant_of-self-2
+invariant_of-self-2 c =
+    let k = c.args.self.now in
+    let s = c.outdate-known.ensures (edges_to k.readers) c.args.inst (record {
+      indexed = k.indexed;
+      tied = k.tied;
+      valued = k.valued;
+      absent = c.requires.absent;
+      place = c.in_ok-slot.ensures.slot;
+      its = c.in_ok-slot.ensures.its;
+    }) in
+    let v = option_map value_view c.args.value in
+    let looked = map loc_view c.args.reads.now in
+    let last = kept_held (edges_to c.enter_held.new.readers) c.enter_held.new.cut.entries
+    c.enter_held.new.cut.standings.items (c.outdate-known.new.puts + 1) in
+    record {
+      indexed = c.enter_held.ensures.enters.indexed;
+      tied = c.enter_held.ensures.enters.tied;
+      valued = c.enter_held.ensures.enters.valued;
+      noted = c.enter_held.ensures.noted k.noted;
+      sure = λ off. sure_put (kept_held (edges_to k.readers) k.cut.entries k.cut.standings.items k.puts) last
+          (remembered (edges_to k.readers) k.cut.entries k.cut.standings.items) _ c.args.inst v looked c.args.uses.now
+          c.args.order
+          (subst (λ (es : Entries). Puts es c.args.inst v looked c.args.uses.now last)
+          (λ n j. s.keeps j n) (rw c.in_ok-enter_held.was at c.enter_held.ensures.enters.puts))
+          (puts_after c.args.inst v looked c.args.uses.now c.args.order _ _ _ s.traced
+          c.enter_held.ensures.enters.traces)
+          (k.sure off);
+    }
+
+pub returns : goal.returns
+returns c =
+    let s = c.outdate-known.ensures (edges_to c.args.self.now.readers) c.args.inst (record {
+      indexed = c.args.self.now.indexed;
+      tied = c.args.self.now.tied;
+      valued = c.args.self.now.valued;
+      absent = c.requires.absent;
+      place = c.in_ok-slot.ensures.slot;
+      its = c.in_ok-slot.ensures.its;
+    }) in
+    let last = kept_held (edges_to c.enter_held.new.readers) c.enter_held.new.cut.entries
+    c.enter_held.new.cut.standings.items (c.outdate-known.new.puts + 1) in
+    record {
+      puts = subst (λ (es : Entries). Puts es c.args.inst (option_map value_view c.args.value)
+          (map loc_view c.args.reads.now) c.args.uses.now last)
+          (λ n j. s.keeps j n) (rw c.in_ok-enter_held.was at c.enter_held.ensures.enters.puts);
+      err = tt;
+      traces = puts_after c.args.inst (option_map value_view c.args.value) (map loc_view c.args.reads.now)
+          c.args.uses.now c.args.order _ _ _ s.traced c.enter_held.ensures.enters.traces;
+      spares = spares_after c.args.inst last _ _ _ s.others s.last c.enter_held.ensures.enters.spares;
+    }

@@ -11,7 +11,7 @@ use Rattle.at_demand.proofs.demand.Demand.answer.Goals as goal
 pub returns-in-Some : goal.returns-in-Some
 returns-in-Some g c = record {
   answered =
-      answered_kept c.args.rules.now c.args.store.now g.K.Keeper.exact c.args.inst.now (g.K.Keeper.contents
+      answered_kept c.args.rules.now c.args.store.now c.args.inst.now (g.K.Keeper.contents
       c.args.self.now.keeper) c.args.self.now.work c.in_ok-copy.field-0 c.args.self.now.few
       c.requires.answerable.basis.circular c.requires.answerable.right
       c.requires.answerable.plain
@@ -19,7 +19,7 @@ returns-in-Some g c = record {
   traces = record { justified = c.requires.justified; there = λ there all. all };
   makes = λ plain. makes_none (g.K.Keeper.contents c.args.self.now.keeper) (g.K.Keeper.memories c.args.self.now.keeper)
       c.args.self.now.made;
-  went = λ exact. begun;
+  went = begun;
 }
 
 pub returns-in_err-copy : goal.returns-in_err-copy
@@ -29,12 +29,12 @@ returns-in_err-copy g c = record {
       let s = c.args.store.now in
       let entries = g.K.Keeper.contents c.args.self.now.keeper in
       let is = (err_from_is_err_and c.from_residual.result c.from_residual.ensures.1).1 in
-      answered_by rules s g.K.Keeper.exact c.args.inst.now _ entries entries c.args.self.now.work c.args.self.now.work
-      (gains_none rules s g.K.Keeper.exact c.args.inst.now entries [] c.args.self.now.work c.args.self.now.few
+      answered_by rules s c.args.inst.now _ entries entries c.args.self.now.work c.args.self.now.work
+      (gains_none rules s c.args.inst.now entries [] c.args.self.now.work c.args.self.now.few
       (known_none rules (contents s) entries c.requires.answerable.basis.circular c.requires.answerable.right c.requires.answerable.plain))
-      (rw is tt) (λ k spare. rw is tt) (λ k spare. met_none rules (contents s) c.args.inst.now entries);
+      (rw is tt) (λ spare. rw is tt) (λ spare. met_none rules (contents s) c.args.inst.now entries);
   traces = record { justified = c.requires.justified; there = λ there all. all };
   makes = λ plain. makes_none (g.K.Keeper.contents c.args.self.now.keeper) (g.K.Keeper.memories c.args.self.now.keeper)
       c.args.self.now.made;
-  went = λ exact. begun;
+  went = begun;
 }

@@ -21,18 +21,18 @@ returns-in-Some g c = record {
       let rules = c.args.rules.now in
       let s = c.args.store.now in
       let new = g.K.Keeper.contents c.answer_at_once.new.self.keeper in
-      answered_by rules s g.K.Keeper.exact c.args.inst.now _ (g.K.Keeper.contents c.args.self.now.keeper) new
+      answered_by rules s c.args.inst.now _ (g.K.Keeper.contents c.args.self.now.keeper) new
       c.args.self.now.work c.answer_at_once.new.self.work c.answer_at_once.ensures.gains
       (subst (λ (o : Option ValueCode). IfSome o (λ v. HasValue (contents s) (meaning rules) c.args.inst.now (value_view
       v))) c.in-Some.is c.in_ok-at_once.ensures.value)
-      (λ k spare. subst (λ (o : Option ValueCode). IfSome o (λ v. HasWorthy rules (contents s) c.args.inst.now new))
-      c.in-Some.is (c.in_ok-at_once.ensures.all k spare))
-      (λ k spare. led_met rules s c.args.inst.now (record { basis = c.requires.answerable.basis; typed = c.requires.typed })
+      (λ spare. subst (λ (o : Option ValueCode). IfSome o (λ v. HasWorthy rules (contents s) c.args.inst.now new))
+      c.in-Some.is (c.in_ok-at_once.ensures.all spare))
+      (λ spare. led_met rules s c.args.inst.now (record { basis = c.requires.answerable.basis; typed = c.requires.typed })
       (g.K.Keeper.contents c.args.self.now.keeper) new spare c.requires.answerable.right
       c.answer_at_once.ensures.gains.known.right c.answer_at_once.ensures.gains.worthy c.answer_at_once.ensures.led);
   traces = c.answer_at_once.ensures.traces;
   makes = λ plain. c.answer_at_once.ensures.makes;
-  went = λ exact. went_made (g.K.Keeper.contents c.args.self.now.keeper) (g.K.Keeper.contents c.answer_at_once.new.self.keeper)
+  went = went_made (g.K.Keeper.contents c.args.self.now.keeper) (g.K.Keeper.contents c.answer_at_once.new.self.keeper)
       (g.K.Keeper.memories c.args.self.now.keeper) (g.K.Keeper.memories c.answer_at_once.new.self.keeper) c.args.self.now.made
       c.answer_at_once.new.self.made c.answer_at_once.ensures.makes;
 }
@@ -43,7 +43,7 @@ returns-in-None g c = record {
       let rules = c.args.rules.now in
       let s = c.args.store.now in
       let new = g.K.Keeper.contents c.answer_at_once.new.self.keeper in
-      answered_after c.args.rules.now c.args.store.now g.K.Keeper.exact c.args.inst.now c.answer_looking_ahead-told.result
+      answered_after c.args.rules.now c.args.store.now c.args.inst.now c.answer_looking_ahead-told.result
       (g.K.Keeper.contents c.args.self.now.keeper) (g.K.Keeper.contents c.answer_at_once.new.self.keeper)
       (g.K.Keeper.contents c.answer_looking_ahead-told.new.self.keeper)
       c.args.self.now.work c.answer_at_once.new.self.work c.answer_looking_ahead-told.new.self.work c.answer_at_once.ensures.gains
@@ -54,12 +54,12 @@ returns-in-None g c = record {
   traces = traced_then c.args.rules.now c.args.store.now c.args.inst.now (g.K.Keeper.memories c.args.self.now.keeper) (g.K.Keeper.memories c.answer_at_once.new.self.keeper)
       (g.K.Keeper.memories c.answer_looking_ahead-told.new.self.keeper) c.answer_at_once.ensures.traces c.answer_looking_ahead-told.ensures.traces;
   makes = λ plain. absurd (true≢false plain);
-  went = λ exact. went_then (g.K.Keeper.memories c.args.self.now.keeper) (g.K.Keeper.memories c.answer_at_once.new.self.keeper)
+  went = went_then (g.K.Keeper.memories c.args.self.now.keeper) (g.K.Keeper.memories c.answer_at_once.new.self.keeper)
       (g.K.Keeper.memories c.answer_looking_ahead-told.new.self.keeper) c.args.self.now.made c.answer_at_once.new.self.made
       c.answer_looking_ahead-told.new.self.made (went_made (g.K.Keeper.contents c.args.self.now.keeper)
       (g.K.Keeper.contents c.answer_at_once.new.self.keeper) (g.K.Keeper.memories c.args.self.now.keeper)
       (g.K.Keeper.memories c.answer_at_once.new.self.keeper) c.args.self.now.made c.answer_at_once.new.self.made c.answer_at_once.ensures.makes)
-      (c.answer_looking_ahead-told.ensures.went exact);
+      (c.answer_looking_ahead-told.ensures.went);
 }
 
 pub answer_at_once-requires-clause-idle : goal.answer_at_once-requires-clause-idle
@@ -94,14 +94,14 @@ returns-in_err-at_once g c = record {
       let s = c.args.store.now in
       let new = g.K.Keeper.contents c.answer_at_once.new.self.keeper in
       let is = (err_from_is_err_and c.from_residual.result c.from_residual.ensures.1).1 in
-      answered_by rules s g.K.Keeper.exact c.args.inst.now _ (g.K.Keeper.contents c.args.self.now.keeper) new
-      c.args.self.now.work c.answer_at_once.new.self.work c.answer_at_once.ensures.gains (rw is tt) (λ k spare. rw is tt)
-      (λ k spare. led_met rules s c.args.inst.now (record { basis = c.requires.answerable.basis; typed = c.requires.typed })
+      answered_by rules s c.args.inst.now _ (g.K.Keeper.contents c.args.self.now.keeper) new
+      c.args.self.now.work c.answer_at_once.new.self.work c.answer_at_once.ensures.gains (rw is tt) (λ spare. rw is tt)
+      (λ spare. led_met rules s c.args.inst.now (record { basis = c.requires.answerable.basis; typed = c.requires.typed })
       (g.K.Keeper.contents c.args.self.now.keeper) new spare c.requires.answerable.right
       c.answer_at_once.ensures.gains.known.right c.answer_at_once.ensures.gains.worthy c.answer_at_once.ensures.led);
   traces = c.answer_at_once.ensures.traces;
   makes = λ plain. c.answer_at_once.ensures.makes;
-  went = λ exact. went_made (g.K.Keeper.contents c.args.self.now.keeper) (g.K.Keeper.contents c.answer_at_once.new.self.keeper)
+  went = went_made (g.K.Keeper.contents c.args.self.now.keeper) (g.K.Keeper.contents c.answer_at_once.new.self.keeper)
       (g.K.Keeper.memories c.args.self.now.keeper) (g.K.Keeper.memories c.answer_at_once.new.self.keeper) c.args.self.now.made
       c.answer_at_once.new.self.made c.answer_at_once.ensures.makes;
 }

@@ -41,16 +41,16 @@ loop-given-init g c =
           (subst (λ (i : Instance ℕ). IsWellTyped rules (class_shown s) AnyText i) (sym copied) c.requires.typed);
       fit = none_fit rules s entries q t c.new-trials.ensures.frames c.new-trials.ensures.awaited
           (none_noted rules (contents s) t.noted.entries c.new-trials.ensures.noted);
-      gains = gains_none rules s g.K.Keeper.exact c.args.inst.now entries [] c.args.self.now.work c.args.self.now.few
+      gains = gains_none rules s c.args.inst.now entries [] c.args.self.now.work c.args.self.now.few
           (known_none rules (contents s) entries c.requires.answerable.basis.circular c.requires.answerable.right c.requires.answerable.plain);
-      sparing = λ exact spare. c.in_ok-question.ensures.sparing entries rules (contents s);
+      sparing = λ spare. c.in_ok-question.ensures.sparing entries rules (contents s);
       reasoned = begun_reasoned rules s c.args.inst.now entries q c.requires.answerable.right
           (subst (λ (i : Instance ℕ). StandsFor rules s entries q (search_posted i)) copied
           (c.in_ok-question.ensures.stands entries rules s
           (subst (λ (i : Instance ℕ). IsWellTyped rules (class_shown s) AnyText i) (sym copied) c.requires.typed)
           (record { right = c.requires.answerable.right; whole = c.requires.wholes })));
       traces = traced_same rules s c.args.inst.now (g.K.Keeper.memories c.args.self.now.keeper) c.requires.justified;
-      went = λ k. begun;
+      went = begun;
     }
 
 pub look_ahead-requires-clause-idle : goal.look_ahead-requires-clause-idle
@@ -66,7 +66,6 @@ pub turn_with-requires : goal.turn_with-requires
 turn_with-requires g c =
     let rules = c.args.rules.now in
     let s = c.args.store.now in
-    let exact = g.K.Keeper.exact in
     let i = c.args.inst.now in
     let first = g.K.Keeper.contents c.args.self.now.keeper in
     let old = g.K.Keeper.contents c.loop-given.self.keeper in
@@ -85,8 +84,8 @@ turn_with-requires g c =
           right = ahead.known.right;
           plain = ahead.known.plain;
         };
-        standing = stands_ahead rules s exact i q inv.same basis first old mid w x y inv.gains inv.sound inv.standing ahead;
-        wholes = (sound_ahead rules s exact i q inv.same basis first old mid w x y inv.gains inv.sound inv.standing ahead).whole;
+        standing = stands_ahead rules s i q inv.same basis first old mid w x y inv.gains inv.sound inv.standing ahead;
+        wholes = (sound_ahead rules s i q inv.same basis first old mid w x y inv.gains inv.sound inv.standing ahead).whole;
       };
       fit = record {
         chain = fit_grown rules s old mid ahead.worthy.stays q c.loop-given.trials.frames.items
@@ -99,7 +98,6 @@ pub loop-given-preserved : goal.loop-given-preserved
 loop-given-preserved g c =
     let rules = c.args.rules.now in
     let s = c.args.store.now in
-    let exact = g.K.Keeper.exact in
     let i = c.args.inst.now in
     let first = g.K.Keeper.contents c.args.self.now.keeper in
     let old = g.K.Keeper.contents c.loop-given.self.keeper in
@@ -114,40 +112,39 @@ loop-given-preserved g c =
     let new = g.K.Keeper.contents c.turn_with.new.self.keeper in
     let z = c.turn_with.new.self.work in
     let p = c.turn_with.new.question in
-    let sound = sound_ahead rules s exact i q inv.same basis first old mid w x y inv.gains inv.sound inv.standing ahead in
-    let stands = stands_ahead rules s exact i q inv.same basis first old mid w x y inv.gains inv.sound inv.standing ahead in
-    let gains = gains_ahead rules s exact i q inv.same basis first old mid w x y inv.gains inv.sound inv.standing ahead in
-    let sparing = spares_ahead rules s exact i q inv.same basis first old mid w x y inv.gains inv.sound inv.standing ahead inv.sparing in
-    let e = subst (λ (o : Option AnswerCode). HasTurnedWith {E = AllocError} rules s exact mid new y z q p c.turn_with.new.trials (Ok o)) c.in_default.is
+    let sound = sound_ahead rules s i q inv.same basis first old mid w x y inv.gains inv.sound inv.standing ahead in
+    let stands = stands_ahead rules s i q inv.same basis first old mid w x y inv.gains inv.sound inv.standing ahead in
+    let gains = gains_ahead rules s i q inv.same basis first old mid w x y inv.gains inv.sound inv.standing ahead in
+    let sparing = spares_ahead rules s i q inv.same basis first old mid w x y inv.gains inv.sound inv.standing ahead inv.sparing in
+    let e = subst (λ (o : Option AnswerCode). HasTurnedWith {E = AllocError} rules s mid new y z q p c.turn_with.new.trials (Ok o)) c.in_default.is
     c.in_ok-told.ensures.turned in
     record {
       same = asked_same rules s basis mid q sound stands new p e.turned ∙ inv.same;
-      sound = sound_turned rules s exact i q inv.same basis first old mid w x y inv.gains inv.sound inv.standing ahead
+      sound = sound_turned rules s i q inv.same basis first old mid w x y inv.gains inv.sound inv.standing ahead
           new z e.gains;
       standing = e.standing;
       fit = e.fit;
-      gains = gains_turned rules s exact i q inv.same basis first old mid w x y inv.gains inv.sound inv.standing ahead inv.sparing
+      gains = gains_turned rules s i q inv.same basis first old mid w x y inv.gains inv.sound inv.standing ahead inv.sparing
           new z e.gains;
-      sparing = λ k spare. e.sparing k (gains.spare k spare) (sparing k spare);
+      sparing = λ spare. e.sparing (gains.spare spare) (sparing spare);
       reasoned = turned_on rules s i (record { basis = basis; typed = c.requires.typed })
           first old mid q inv.reasoned ahead.worthy.stays c.look_ahead.ensures.led
           sound new e.gains.right e.gains.last p e.turned;
-      traces = traced_turned rules s exact i q inv.same basis first old mid w x y inv.gains inv.sound inv.standing ahead
+      traces = traced_turned rules s i q inv.same basis first old mid w x y inv.gains inv.sound inv.standing ahead
           (g.K.Keeper.memories c.args.self.now.keeper) (g.K.Keeper.memories c.loop-given.self.keeper)
           (g.K.Keeper.memories c.look_ahead.new.self.keeper)
           (g.K.Keeper.memories c.turn_with.new.self.keeper) inv.traces c.look_ahead.ensures.traces
           (puts_stay (g.K.Keeper.memories c.look_ahead.new.self.keeper) (g.K.Keeper.memories c.turn_with.new.self.keeper) c.turn_with.ensures.traces);
-      went = λ k. went_turned exact mid new (g.K.Keeper.memories c.args.self.now.keeper) (g.K.Keeper.memories c.loop-given.self.keeper)
+      went = went_turned mid new (g.K.Keeper.memories c.args.self.now.keeper) (g.K.Keeper.memories c.loop-given.self.keeper)
           (g.K.Keeper.memories c.look_ahead.new.self.keeper) (g.K.Keeper.memories c.turn_with.new.self.keeper) c.args.self.now.made
-          c.loop-given.self.made c.look_ahead.new.self.made c.turn_with.new.self.made (inv.went k) c.look_ahead.ensures.went
-          c.turn_with.ensures.traces c.turn_with.ensures.counts k;
+          c.loop-given.self.made c.look_ahead.new.self.made c.turn_with.new.self.made inv.went c.look_ahead.ensures.went
+          c.turn_with.ensures.traces c.turn_with.ensures.counts;
     }
 
 pub returns-in-Some : goal.returns-in-Some
 returns-in-Some g c =
     let rules = c.args.rules.now in
     let s = c.args.store.now in
-    let exact = g.K.Keeper.exact in
     let i = c.args.inst.now in
     let first = g.K.Keeper.contents c.args.self.now.keeper in
     let old = g.K.Keeper.contents c.loop-given.self.keeper in
@@ -162,32 +159,32 @@ returns-in-Some g c =
     let new = g.K.Keeper.contents c.turn_with.new.self.keeper in
     let z = c.turn_with.new.self.work in
     let p = c.turn_with.new.question in
-    let sound = sound_ahead rules s exact i q inv.same basis first old mid w x y inv.gains inv.sound inv.standing ahead in
-    let stands = stands_ahead rules s exact i q inv.same basis first old mid w x y inv.gains inv.sound inv.standing ahead in
-    let gains = gains_ahead rules s exact i q inv.same basis first old mid w x y inv.gains inv.sound inv.standing ahead in
-    let sparing = spares_ahead rules s exact i q inv.same basis first old mid w x y inv.gains inv.sound inv.standing ahead inv.sparing in
-    let e = subst (λ (o : Option AnswerCode). HasTurnedWith {E = AllocError} rules s exact mid new y z q p c.turn_with.new.trials (Ok o)) c.in-Some.is
+    let sound = sound_ahead rules s i q inv.same basis first old mid w x y inv.gains inv.sound inv.standing ahead in
+    let stands = stands_ahead rules s i q inv.same basis first old mid w x y inv.gains inv.sound inv.standing ahead in
+    let gains = gains_ahead rules s i q inv.same basis first old mid w x y inv.gains inv.sound inv.standing ahead in
+    let sparing = spares_ahead rules s i q inv.same basis first old mid w x y inv.gains inv.sound inv.standing ahead inv.sparing in
+    let e = subst (λ (o : Option AnswerCode). HasTurnedWith {E = AllocError} rules s mid new y z q p c.turn_with.new.trials (Ok o)) c.in-Some.is
     c.in_ok-told.ensures.turned in
-    let come = gains_turned rules s exact i q inv.same basis first old mid w x y inv.gains inv.sound inv.standing ahead inv.sparing
+    let come = gains_turned rules s i q inv.same basis first old mid w x y inv.gains inv.sound inv.standing ahead inv.sparing
     new z e.gains in
     record {
-      answered = answered_by rules s exact i _ first new w z come
+      answered = answered_by rules s i _ first new w z come
           (subst (λ j. Answers (contents s) (meaning rules) j (answer_view c.in-Some.answer)) inv.same
           (answers_right rules s basis mid q sound stands new p c.in-Some.answer e.turned))
-          (λ k spare. subst (λ j. HasWorthyFor rules (contents s) j (answer_view c.in-Some.answer) new) inv.same
-          (e.all k (gains.spare k spare) (sparing k spare)))
-          (λ k spare. reasoned_met rules s i first new spare come.worthy (turned_all rules s i (record { basis = basis; typed = c.requires.typed })
+          (λ spare. subst (λ j. HasWorthyFor rules (contents s) j (answer_view c.in-Some.answer) new) inv.same
+          (e.all (gains.spare spare) (sparing spare)))
+          (λ spare. reasoned_met rules s i first new spare come.worthy (turned_all rules s i (record { basis = basis; typed = c.requires.typed })
           first old mid q inv.reasoned ahead.worthy.stays c.look_ahead.ensures.led
           sound new e.gains.right e.gains.last));
-      traces = traced_turned rules s exact i q inv.same basis first old mid w x y inv.gains inv.sound inv.standing ahead
+      traces = traced_turned rules s i q inv.same basis first old mid w x y inv.gains inv.sound inv.standing ahead
           (g.K.Keeper.memories c.args.self.now.keeper) (g.K.Keeper.memories c.loop-given.self.keeper)
           (g.K.Keeper.memories c.look_ahead.new.self.keeper)
           (g.K.Keeper.memories c.turn_with.new.self.keeper) inv.traces c.look_ahead.ensures.traces
           (puts_stay (g.K.Keeper.memories c.look_ahead.new.self.keeper) (g.K.Keeper.memories c.turn_with.new.self.keeper) c.turn_with.ensures.traces);
-      went = λ k. went_turned exact mid new (g.K.Keeper.memories c.args.self.now.keeper) (g.K.Keeper.memories c.loop-given.self.keeper)
+      went = went_turned mid new (g.K.Keeper.memories c.args.self.now.keeper) (g.K.Keeper.memories c.loop-given.self.keeper)
           (g.K.Keeper.memories c.look_ahead.new.self.keeper) (g.K.Keeper.memories c.turn_with.new.self.keeper) c.args.self.now.made
-          c.loop-given.self.made c.look_ahead.new.self.made c.turn_with.new.self.made (inv.went k) c.look_ahead.ensures.went
-          c.turn_with.ensures.traces c.turn_with.ensures.counts k;
+          c.loop-given.self.made c.look_ahead.new.self.made c.turn_with.new.self.made inv.went c.look_ahead.ensures.went
+          c.turn_with.ensures.traces c.turn_with.ensures.counts;
       makes = λ plain. absurd (true≢false plain);
     }
 
@@ -195,7 +192,6 @@ pub returns-in_err-told : goal.returns-in_err-told
 returns-in_err-told g c =
     let rules = c.args.rules.now in
     let s = c.args.store.now in
-    let exact = g.K.Keeper.exact in
     let i = c.args.inst.now in
     let first = g.K.Keeper.contents c.args.self.now.keeper in
     let old = g.K.Keeper.contents c.loop-given.self.keeper in
@@ -211,22 +207,22 @@ returns-in_err-told g c =
     let z = c.turn_with.new.self.work in
     let is = (err_from_is_err_and c.from_residual-in_err-told.result c.from_residual-in_err-told.ensures.1).1 in
     record {
-      answered = broken_turned rules s exact i q inv.same basis first old mid w x y inv.gains inv.sound inv.standing ahead inv.sparing
+      answered = broken_turned rules s i q inv.same basis first old mid w x y inv.gains inv.sound inv.standing ahead inv.sparing
           new z _ _ is (keeps_groups rules c.turn_with.result) c.turn_with.ensures.turned.gains
-          (λ k spare. reasoned_met rules s i first new spare (worthy_turned rules s exact i q inv.same basis first old mid w x y
+          (λ spare. reasoned_met rules s i first new spare (worthy_turned rules s i q inv.same basis first old mid w x y
           inv.gains inv.sound inv.standing ahead new z c.turn_with.ensures.turned.gains) (turned_all rules s i (record { basis = basis; typed = c.requires.typed })
           first old mid q inv.reasoned ahead.worthy.stays c.look_ahead.ensures.led
-          (sound_ahead rules s exact i q inv.same basis first old mid w x y inv.gains inv.sound inv.standing ahead)
+          (sound_ahead rules s i q inv.same basis first old mid w x y inv.gains inv.sound inv.standing ahead)
           new c.turn_with.ensures.turned.gains.right c.turn_with.ensures.turned.gains.last));
-      traces = traced_turned rules s exact i q inv.same basis first old mid w x y inv.gains inv.sound inv.standing ahead
+      traces = traced_turned rules s i q inv.same basis first old mid w x y inv.gains inv.sound inv.standing ahead
           (g.K.Keeper.memories c.args.self.now.keeper) (g.K.Keeper.memories c.loop-given.self.keeper)
           (g.K.Keeper.memories c.look_ahead.new.self.keeper)
           (g.K.Keeper.memories c.turn_with.new.self.keeper) inv.traces c.look_ahead.ensures.traces
           (puts_stay (g.K.Keeper.memories c.look_ahead.new.self.keeper) (g.K.Keeper.memories c.turn_with.new.self.keeper) c.turn_with.ensures.traces);
-      went = λ k. went_turned exact mid new (g.K.Keeper.memories c.args.self.now.keeper) (g.K.Keeper.memories c.loop-given.self.keeper)
+      went = went_turned mid new (g.K.Keeper.memories c.args.self.now.keeper) (g.K.Keeper.memories c.loop-given.self.keeper)
           (g.K.Keeper.memories c.look_ahead.new.self.keeper) (g.K.Keeper.memories c.turn_with.new.self.keeper) c.args.self.now.made
-          c.loop-given.self.made c.look_ahead.new.self.made c.turn_with.new.self.made (inv.went k) c.look_ahead.ensures.went
-          c.turn_with.ensures.traces c.turn_with.ensures.counts k;
+          c.loop-given.self.made c.look_ahead.new.self.made c.turn_with.new.self.made inv.went c.look_ahead.ensures.went
+          c.turn_with.ensures.traces c.turn_with.ensures.counts;
       makes = λ plain. absurd (true≢false plain);
     }
 
@@ -234,7 +230,6 @@ pub returns-in_err-next : goal.returns-in_err-next
 returns-in_err-next g c =
     let rules = c.args.rules.now in
     let s = c.args.store.now in
-    let exact = g.K.Keeper.exact in
     let i = c.args.inst.now in
     let first = g.K.Keeper.contents c.args.self.now.keeper in
     let old = g.K.Keeper.contents c.loop-given.self.keeper in
@@ -247,28 +242,28 @@ returns-in_err-next g c =
     let y = c.look_ahead.new.self.work in
     let ahead = c.look_ahead.ensures.gains in
     let is = (err_from_is_err_and c.from_residual-in_err-next.result c.from_residual-in_err-next.ensures.1).1 in
-    let come = gains_ahead rules s exact i q inv.same basis first old mid w x y inv.gains inv.sound inv.standing ahead in
+    let come = gains_ahead rules s i q inv.same basis first old mid w x y inv.gains inv.sound inv.standing ahead in
     record {
-      answered = answered_by rules s exact i _ first mid w y come (rw is tt) (λ k spare. rw is tt)
-          (λ k spare. reasoned_met rules s i first mid spare come.worthy (ahead_all rules s i (record { basis = basis; typed = c.requires.typed })
+      answered = answered_by rules s i _ first mid w y come (rw is tt) (λ spare. rw is tt)
+          (λ spare. reasoned_met rules s i first mid spare come.worthy (ahead_all rules s i (record { basis = basis; typed = c.requires.typed })
           first old mid q inv.reasoned ahead.worthy.stays c.look_ahead.ensures.led
-          (sound_ahead rules s exact i q inv.same basis first old mid w x y inv.gains inv.sound inv.standing ahead)));
-      traces = traced_ahead rules s exact i q inv.same basis first old mid w x y inv.gains inv.sound inv.standing ahead
+          (sound_ahead rules s i q inv.same basis first old mid w x y inv.gains inv.sound inv.standing ahead)));
+      traces = traced_ahead rules s i q inv.same basis first old mid w x y inv.gains inv.sound inv.standing ahead
           (g.K.Keeper.memories c.args.self.now.keeper) (g.K.Keeper.memories c.loop-given.self.keeper)
           (g.K.Keeper.memories c.look_ahead.new.self.keeper)
           inv.traces c.look_ahead.ensures.traces;
-      went = λ k. went_then (g.K.Keeper.memories c.args.self.now.keeper) (g.K.Keeper.memories c.loop-given.self.keeper)
-          (g.K.Keeper.memories c.look_ahead.new.self.keeper) c.args.self.now.made c.loop-given.self.made c.look_ahead.new.self.made (inv.went k)
+      went = went_then (g.K.Keeper.memories c.args.self.now.keeper) (g.K.Keeper.memories c.loop-given.self.keeper)
+          (g.K.Keeper.memories c.look_ahead.new.self.keeper) c.args.self.now.made c.loop-given.self.made c.look_ahead.new.self.made inv.went
           c.look_ahead.ensures.went;
       makes = λ plain. absurd (true≢false plain);
     }
 
 pub returns : goal.returns
 returns g c = record {
-  answered = answered_by c.args.rules.now c.args.store.now g.K.Keeper.exact c.args.inst.now _ (g.K.Keeper.contents c.args.self.now.keeper)
+  answered = answered_by c.args.rules.now c.args.store.now c.args.inst.now _ (g.K.Keeper.contents c.args.self.now.keeper)
       (g.K.Keeper.contents c.loop-given.self.keeper) c.args.self.now.work c.loop-given.self.work c.loop-given.invariant.gains tt
-      (λ k spare. tt)
-      (λ k spare. reasoned_met c.args.rules.now c.args.store.now c.args.inst.now (g.K.Keeper.contents c.args.self.now.keeper)
+      (λ spare. tt)
+      (λ spare. reasoned_met c.args.rules.now c.args.store.now c.args.inst.now (g.K.Keeper.contents c.args.self.now.keeper)
       (g.K.Keeper.contents c.loop-given.self.keeper) spare c.loop-given.invariant.gains.worthy
       (λ d circle. (c.loop-given.invariant.reasoned.reasoned d circle).kept));
   traces = c.loop-given.invariant.traces;
@@ -283,12 +278,12 @@ returns-in_err-copy g c = record {
       let s = c.args.store.now in
       let entries = g.K.Keeper.contents c.args.self.now.keeper in
       let is = (err_from_is_err_and c.from_residual.result c.from_residual.ensures.1).1 in
-      answered_by rules s g.K.Keeper.exact c.args.inst.now _ entries entries c.args.self.now.work c.args.self.now.work
-      (gains_none rules s g.K.Keeper.exact c.args.inst.now entries [] c.args.self.now.work c.args.self.now.few
-      (known_none rules (contents s) entries c.requires.answerable.basis.circular c.requires.answerable.right c.requires.answerable.plain)) (rw is tt) (λ k spare. rw is tt)
-      (λ k spare. met_none rules (contents s) c.args.inst.now entries);
+      answered_by rules s c.args.inst.now _ entries entries c.args.self.now.work c.args.self.now.work
+      (gains_none rules s c.args.inst.now entries [] c.args.self.now.work c.args.self.now.few
+      (known_none rules (contents s) entries c.requires.answerable.basis.circular c.requires.answerable.right c.requires.answerable.plain)) (rw is tt) (λ spare. rw is tt)
+      (λ spare. met_none rules (contents s) c.args.inst.now entries);
   traces = traced_same c.args.rules.now c.args.store.now c.args.inst.now (g.K.Keeper.memories c.args.self.now.keeper) c.requires.justified;
-  went = λ k. begun;
+  went = begun;
   makes = λ plain. absurd (true≢false plain);
 }
 
@@ -299,11 +294,11 @@ returns-in_err-question g c = record {
       let s = c.args.store.now in
       let entries = g.K.Keeper.contents c.args.self.now.keeper in
       let is = (err_from_is_err_and c.from_residual-in_err-question.result c.from_residual-in_err-question.ensures.1).1 in
-      answered_by rules s g.K.Keeper.exact c.args.inst.now _ entries entries c.args.self.now.work c.args.self.now.work
-      (gains_none rules s g.K.Keeper.exact c.args.inst.now entries [] c.args.self.now.work c.args.self.now.few
-      (known_none rules (contents s) entries c.requires.answerable.basis.circular c.requires.answerable.right c.requires.answerable.plain)) (rw is tt) (λ k spare. rw is tt)
-      (λ k spare. met_none rules (contents s) c.args.inst.now entries);
+      answered_by rules s c.args.inst.now _ entries entries c.args.self.now.work c.args.self.now.work
+      (gains_none rules s c.args.inst.now entries [] c.args.self.now.work c.args.self.now.few
+      (known_none rules (contents s) entries c.requires.answerable.basis.circular c.requires.answerable.right c.requires.answerable.plain)) (rw is tt) (λ spare. rw is tt)
+      (λ spare. met_none rules (contents s) c.args.inst.now entries);
   traces = traced_same c.args.rules.now c.args.store.now c.args.inst.now (g.K.Keeper.memories c.args.self.now.keeper) c.requires.justified;
-  went = λ k. begun;
+  went = begun;
   makes = λ plain. absurd (true≢false plain);
 }

@@ -1,5 +1,4 @@
 use Rattle.std.proofs.Common.{◌≡◌, ◌-◌, ◌^◌, []}
-use Rattle.std.specs.Prelude.{IsTrue}
 use Rattle.at_store.specs.Shown.{contents}
 use Rattle.at_demand.specs.Inner.{Gains}
 use Rattle.at_demand.specs.KeptTrials.{Fit}
@@ -18,13 +17,13 @@ invariant-loop-given g l = record {
   sound : AreSound l.rules l.store (g.K.Keeper.contents l.self.keeper);
   standing : IsStanding l.rules l.store (g.K.Keeper.contents l.self.keeper) l.question;
   fit : Fit l.rules l.store (g.K.Keeper.contents l.self.keeper) l.question l.trials;
-  gains : Gains l.rules l.store g.K.Keeper.exact l.inst (g.K.Keeper.contents l.initial.self.keeper) (g.K.Keeper.contents l.self.keeper)
+  gains : Gains l.rules l.store l.inst (g.K.Keeper.contents l.initial.self.keeper) (g.K.Keeper.contents l.self.keeper)
       [] [] l.initial.self.work l.self.work;
-  sparing : IsTrue g.K.Keeper.exact → AreSpare l.rules (contents l.store) (g.K.Keeper.contents l.initial.self.keeper) →
+  sparing : AreSpare l.rules (contents l.store) (g.K.Keeper.contents l.initial.self.keeper) →
       IsSparingTurns l.rules (contents l.store) (g.K.Keeper.contents l.self.keeper) l.question;
   reasoned : StandsReasoned l.rules l.store l.inst (g.K.Keeper.contents l.initial.self.keeper) (g.K.Keeper.contents l.self.keeper) l.question;
   traces : StayJustified l.rules l.store l.inst (g.K.Keeper.memories l.initial.self.keeper) (g.K.Keeper.memories l.self.keeper);
-  went : IsTrue g.K.Keeper.exact → Went (g.K.Keeper.memories l.initial.self.keeper) l.initial.self.made (g.K.Keeper.memories l.self.keeper) l.self.made;
+  went : Went (g.K.Keeper.memories l.initial.self.keeper) l.initial.self.made (g.K.Keeper.memories l.self.keeper) l.self.made;
 }
 
 abbrev pub decreases-loop-given : goal.decreases-loop-given

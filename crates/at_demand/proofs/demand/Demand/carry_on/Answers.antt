@@ -47,9 +47,9 @@ returns-in_ok-attempt-in-Value-clause-tried g c =
       gains = a.gains;
       worthy = a.worthy;
       spare = a.spare;
-      settles = λ exact spare settled. value_settles rules after found inst c.in_ok-attempt-in-Value.attempt
+      settles = λ spare settled. value_settles rules after found inst c.in_ok-attempt-in-Value.attempt
           (with_value c.in-Value.frame c.go_on.new.frame) c.came_to_value.result
-          c.came_to_value.ensures (a.settles exact spare settled);
+          c.came_to_value.ensures (a.settles spare settled);
       counts = a.counts;
       idle = value_idle before after c.args.self.now.work c.go_on.new.self.work c.in_ok-attempt-in-Value.attempt
           (with_value c.in-Value.frame c.go_on.new.frame) c.came_to_value.result
@@ -77,10 +77,10 @@ returns-in_ok-progress-in-Formula-clause-tried g c =
       plain = c.requires.answerable.plain;
       gains = none_gained rules found entries inst;
       worthy = none_worthy rules look inst entries;
-      spare = λ exact spare lean settled. spare;
-      settles = λ exact spare settled. formed_settles rules entries found inst c.in_ok-progress-in-Formula.progress
+      spare = λ spare lean settled. spare;
+      settles = λ spare settled. formed_settles rules entries found inst c.in_ok-progress-in-Formula.progress
           (with_value c.in-Formula.formation c.go_on-in-Formula.new.self) c.came_to_formula.result c.came_to_formula.ensures settled;
-      counts = λ exact. counts_none entries c.args.self.now.work c.args.self.now.few;
+      counts = counts_none entries c.args.self.now.work c.args.self.now.few;
       idle = formed_idle entries c.args.self.now.work c.in_ok-progress-in-Formula.progress
           (with_value c.in-Formula.formation c.go_on-in-Formula.new.self) c.came_to_formula.result c.came_to_formula.ensures;
     }

@@ -12,14 +12,14 @@ pub returns-in_err-sources : goal.returns-in_err-sources
 returns-in_err-sources g c =
     let is = (err_from_is_err_and c.from_residual.result c.from_residual.ensures.1).1 in
     let old = g.K.Keeper.contents c.args.self.now.keeper in
-    record { shares = shares_none c.args.rules.now g.K.Keeper.exact c.args.found.now.entries old old (λ i. refl); work = refl; sources = rw is tt; traces = puts_same (g.K.Keeper.memories c.args.self.now.keeper) }
+    record { shares = shares_none c.args.rules.now c.args.found.now.entries old old (λ i. refl); work = refl; sources = rw is tt; traces = puts_same (g.K.Keeper.memories c.args.self.now.keeper) }
 
 pub returns-then-is_empty : goal.returns-then-is_empty
 returns-then-is_empty g c =
     let old = g.K.Keeper.contents c.args.self.now.keeper in
     let e = c.in_ok-sources.ensures in
     record {
-      shares = shares_none c.args.rules.now g.K.Keeper.exact c.args.found.now.entries old old (λ i. refl);
+      shares = shares_none c.args.rules.now c.args.found.now.entries old old (λ i. refl);
       work = refl;
       sources = record { gathered = e.gathered; from = e.only; kept = e.kept c.requires.finds c.requires.kept };
       traces = puts_same (g.K.Keeper.memories c.args.self.now.keeper);

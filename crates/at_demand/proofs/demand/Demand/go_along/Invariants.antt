@@ -3,7 +3,7 @@ use Rattle.at_demand.proofs.of_levels.AlongLevels.{IsAlong}
 use Rattle.at_demand.proofs.demand.Demand.go_along.Given as goal
 
 abbrev pub invariant-loop-at : goal.invariant-loop-at
-invariant-loop-at g l = IsAlong l.rules l.store g.K.Keeper.exact (g.K.Keeper.contents l.initial.self.keeper) (g.K.Keeper.contents l.self.keeper)
+invariant-loop-at g l = IsAlong l.rules l.store (g.K.Keeper.contents l.initial.self.keeper) (g.K.Keeper.contents l.self.keeper)
     (g.K.Keeper.memories l.initial.self.keeper) (g.K.Keeper.memories l.self.keeper) l.initial.self.work l.self.work l.initial.question l.question l.trials
 
 abbrev pub decreases-loop-at : goal.decreases-loop-at

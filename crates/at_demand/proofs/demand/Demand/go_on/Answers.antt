@@ -1,4 +1,4 @@
-use Rattle.std.proofs.Common.{[], Some, refl, sym, ap, ◌∙◌, subst, arith}
+use Rattle.std.proofs.Common.{Bool, [], Some, refl, sym, ap, ◌∙◌, subst, arith}
 use Rattle.std.proofs.lemmas.Result.{err_from_is_err_and}
 use Rattle.at_store.specs.Shown.{contents}
 use Rattle.at_body.specs.Values.{value_view}
@@ -7,7 +7,6 @@ use Rattle.at_body.specs.declared.trial.Step.{Step}
 use Rattle.at_cache.specs.Kept.{Entries}
 use Rattle.at_body.specs.declared.value.Value.{Value as ValueCode}
 use Rattle.at_demand.specs.declared.evaluation.Demanded.{Demanded}
-use Rattle.at_cache.specs.declared.keeper.Put.{Put}
 use Rattle.at_demand.specs.Keeping.{SaysKept}
 use Rattle.at_demand.specs.Known.{known_in, AreValued}
 use Rattle.at_demand.specs.UnderWay.{HasStepped, IsOpen}
@@ -27,7 +26,7 @@ returns-in_err-step g c = record {
   attempted =
       let is = (err_from_is_err_and c.from_residual.result c.from_residual.ensures.1).1 in
       let entries = g.K.Keeper.contents c.args.self.now.keeper in
-      record { tried = rw is tt; right = c.requires.answerable.right; stays = λ there finds right. right; plain = c.requires.answerable.plain; gains = gain_none c.args.rules.now (contents c.args.store.now) c.args.found.now.entries entries c.args.inst.now; worthy = worthy_none c.args.rules.now (contents c.args.store.now) c.args.inst.now entries; spare = λ exact spare lean settled. spare; settles = λ exact spare settled. rw is tt; counts = λ exact. counts_none entries c.args.self.now.work c.args.self.now.few; keeps = rw is tt; waits = rw is tt; idle = rw is tt };
+      record { tried = rw is tt; right = c.requires.answerable.right; stays = λ there finds right. right; plain = c.requires.answerable.plain; gains = gain_none c.args.rules.now (contents c.args.store.now) c.args.found.now.entries entries c.args.inst.now; worthy = worthy_none c.args.rules.now (contents c.args.store.now) c.args.inst.now entries; spare = λ spare lean settled. spare; settles = λ spare settled. rw is tt; counts = counts_none entries c.args.self.now.work c.args.self.now.few; keeps = rw is tt; waits = rw is tt; idle = rw is tt };
   traces = puts_same (g.K.Keeper.memories c.args.self.now.keeper);
 }
 
@@ -48,10 +47,10 @@ keep-requires g c = record {
   plain = c.requires.answerable.plain;
 }
 
-pub returns-in_err-put-in-Value : goal.returns-in_err-put-in-Value
-returns-in_err-put-in-Value g c = record {
+pub returns-in_err-is_kept-in-Value : goal.returns-in_err-is_kept-in-Value
+returns-in_err-is_kept-in-Value g c = record {
   attempted =
-      let is = (err_from_is_err_and c.from_residual-in_err-put-in-Value.result c.from_residual-in_err-put-in-Value.ensures.1).1 in
+      let is = (err_from_is_err_and c.from_residual-in_err-is_kept-in-Value.result c.from_residual-in_err-is_kept-in-Value.ensures.1).1 in
       let rules = c.args.rules.now in
       let look = contents c.args.store.now in
       let found = c.args.found.now.entries in
@@ -73,8 +72,8 @@ returns-in_err-put-in-Value g c = record {
         plain = c.keep.ensures.keeps.plain;
         gains = c.keep.ensures.keeps.gains;
         worthy = worthy_added rules look old new inst (value_view d.value) found c.keep.ensures.keeps.gains has.value;
-        spare = λ exact spare lean settled. spare_added rules look old new found inst d c.requires.answerable.basis.circular.lazy c.requires.own c.keep.ensures.keeps.gains c.requires.finds.whole has settled spare (c.keep.ensures.keeps.only look exact lean has.lean spare.only);
-        settles = λ exact spare settled. rw is tt;
+        spare = λ spare lean settled. spare_added rules look old new found inst d c.requires.answerable.basis.circular.lazy c.requires.own c.keep.ensures.keeps.gains c.requires.finds.whole has settled spare (c.keep.ensures.keeps.only look lean has.lean spare.only);
+        settles = λ spare settled. rw is tt;
         counts = c.keep.ensures.keeps.counts;
         keeps = rw is tt;
         waits = rw is tt;
@@ -83,8 +82,8 @@ returns-in_err-put-in-Value g c = record {
   traces = c.keep.ensures.traces;
 }
 
-pub returns-in-Kept : goal.returns-in-Kept
-returns-in-Kept g c = record {
+pub returns-then-is_kept : goal.returns-then-is_kept
+returns-then-is_kept g c = record {
   attempted =
       let rules = c.args.rules.now in
       let look = contents c.args.store.now in
@@ -100,7 +99,7 @@ returns-in-Kept g c = record {
       let takes = c.in_ok-step.ensures.only inst c.requires.own c.requires.standing.stepped c.requires.standing.takes in
       let has : HasFound rules look old found inst d = has_found rules look old found inst frame c.in-Value.value d c.requires.own stepped passed takes c.in_ok-step.ensures.kept e.value e.reads e.demanded in
       let adds = c.keep.ensures.keeps.adds in
-      let kept = subst (λ (r : Put). SaysKept new inst d r) c.in-Kept.is c.in_ok-put-in-Value.ensures.keeps.says in
+      let kept = subst (λ (r : Bool). SaysKept new inst d r) c.if-is_kept.true c.in_ok-is_kept-in-Value.ensures.keeps.says in
       record {
         tried = (d, sym c.into_value.ensures, has);
         right = right_added rules old new inst (value_view d.value) adds look has.value c.requires.answerable.right;
@@ -108,8 +107,8 @@ returns-in-Kept g c = record {
         plain = c.keep.ensures.keeps.plain;
         gains = c.keep.ensures.keeps.gains;
         worthy = worthy_added rules look old new inst (value_view d.value) found c.keep.ensures.keeps.gains has.value;
-        spare = λ exact spare lean settled. spare_added rules look old new found inst d c.requires.answerable.basis.circular.lazy c.requires.own c.keep.ensures.keeps.gains c.requires.finds.whole has settled spare (c.keep.ensures.keeps.only look exact lean has.lean spare.only);
-        settles = λ exact spare settled. settled_still rules look old new inst found c.keep.ensures.keeps.gains found settled;
+        spare = λ spare lean settled. spare_added rules look old new found inst d c.requires.answerable.basis.circular.lazy c.requires.own c.keep.ensures.keeps.gains c.requires.finds.whole has settled spare (c.keep.ensures.keeps.only look lean has.lean spare.only);
+        settles = λ spare settled. settled_still rules look old new inst found c.keep.ensures.keeps.gains found settled;
         counts = c.keep.ensures.keeps.counts;
         keeps = kept ∙ ap (λ (v : ValueCode). Some (value_view v)) (sym c.into_value.ensures);
         waits = tt;
@@ -118,8 +117,8 @@ returns-in-Kept g c = record {
   traces = c.keep.ensures.traces;
 }
 
-pub returns-in-Left : goal.returns-in-Left
-returns-in-Left g c = record {
+pub returns-else-is_kept : goal.returns-else-is_kept
+returns-else-is_kept g c = record {
   attempted =
       let rules = c.args.rules.now in
       let look = contents c.args.store.now in
@@ -142,8 +141,8 @@ returns-in-Left g c = record {
         plain = c.keep.ensures.keeps.plain;
         gains = c.keep.ensures.keeps.gains;
         worthy = worthy_added rules look old new inst (value_view d.value) found c.keep.ensures.keeps.gains has.value;
-        spare = λ exact spare lean settled. spare_added rules look old new found inst d c.requires.answerable.basis.circular.lazy c.requires.own c.keep.ensures.keeps.gains c.requires.finds.whole has settled spare (c.keep.ensures.keeps.only look exact lean has.lean spare.only);
-        settles = λ exact spare settled. settled_added rules look old new found inst d c.requires.answerable.basis.circular.lazy c.requires.own c.keep.ensures.keeps.gains c.requires.finds.whole has settled spare (c.in_ok-put-in-Value.ensures.keeps.keeps exact);
+        spare = λ spare lean settled. spare_added rules look old new found inst d c.requires.answerable.basis.circular.lazy c.requires.own c.keep.ensures.keeps.gains c.requires.finds.whole has settled spare (c.keep.ensures.keeps.only look lean has.lean spare.only);
+        settles = λ spare settled. settled_added rules look old new found inst d c.requires.answerable.basis.circular.lazy c.requires.own c.keep.ensures.keeps.gains c.requires.finds.whole has settled spare c.in_ok-is_kept-in-Value.ensures.keeps.keeps;
         counts = c.keep.ensures.keeps.counts;
         keeps = tt;
         waits = tt;
@@ -164,7 +163,7 @@ returns-in-Fault g c = record {
       let typed = subst (λ (s : Step). IsTypedStep rules (class_shown c.args.store.now) s c.go_on.new.self.trial) c.in-Fault.is c.in_ok-step.ensures.typed in
       let passed = subst (λ (s : Step). HasPassedTo rules look found inst c.go_on.new.self s) c.in-Fault.is (c.in_ok-step.ensures.passed inst c.requires.standing.passed) in
       let takes = c.in_ok-step.ensures.only inst c.requires.own c.requires.standing.stepped c.requires.standing.takes in
-      record { tried = has_failed rules look entries found inst c.go_on.new.self.trial c.in-Fault.kind c.requires.own stepped; right = c.requires.answerable.right; stays = λ there finds right. right; plain = c.requires.answerable.plain; gains = gain_none rules look found entries inst; worthy = worthy_none rules look inst entries; spare = λ exact spare lean settled. spare; settles = λ exact spare settled. settled; counts = λ exact. counts_none entries c.args.self.now.work c.args.self.now.few; keeps = tt; waits = record { stepped = stepped; passed = passed; takes = takes; typed = typed; kept = c.in_ok-step.ensures.kept }; idle = (refl, refl) };
+      record { tried = has_failed rules look entries found inst c.go_on.new.self.trial c.in-Fault.kind c.requires.own stepped; right = c.requires.answerable.right; stays = λ there finds right. right; plain = c.requires.answerable.plain; gains = gain_none rules look found entries inst; worthy = worthy_none rules look inst entries; spare = λ spare lean settled. spare; settles = λ spare settled. settled; counts = counts_none entries c.args.self.now.work c.args.self.now.few; keeps = tt; waits = record { stepped = stepped; passed = passed; takes = takes; typed = typed; kept = c.in_ok-step.ensures.kept }; idle = (refl, refl) };
   traces = puts_same (g.K.Keeper.memories c.args.self.now.keeper);
 }
 
@@ -182,6 +181,6 @@ returns-in-Need g c = record {
       let typed = subst (λ (s : Step). IsTypedStep rules (class_shown c.args.store.now) s trial) c.in-Need.is c.in_ok-step.ensures.typed in
       let passed = subst (λ (s : Step). HasPassedTo rules look found inst c.go_on.new.self s) c.in-Need.is (c.in_ok-step.ensures.passed inst c.requires.standing.passed) in
       let takes = c.in_ok-step.ensures.only inst c.requires.own c.requires.standing.stepped c.requires.standing.takes in
-      record { tried = has_needed rules look entries found inst (class_shown c.args.store.now) trial c.in-Need.needed c.requires.own stepped unknown typed; right = c.requires.answerable.right; stays = λ there finds right. right; plain = c.requires.answerable.plain; gains = gain_none rules look found entries inst; worthy = worthy_none rules look inst entries; spare = λ exact spare lean settled. spare; settles = λ exact spare settled. settled; counts = λ exact. counts_none entries c.args.self.now.work c.args.self.now.few; keeps = tt; waits = record { stepped = stepped; passed = passed; takes = takes; typed = typed; kept = c.in_ok-step.ensures.kept }; idle = (refl, refl) };
+      record { tried = has_needed rules look entries found inst (class_shown c.args.store.now) trial c.in-Need.needed c.requires.own stepped unknown typed; right = c.requires.answerable.right; stays = λ there finds right. right; plain = c.requires.answerable.plain; gains = gain_none rules look found entries inst; worthy = worthy_none rules look inst entries; spare = λ spare lean settled. spare; settles = λ spare settled. settled; counts = counts_none entries c.args.self.now.work c.args.self.now.few; keeps = tt; waits = record { stepped = stepped; passed = passed; takes = takes; typed = typed; kept = c.in_ok-step.ensures.kept }; idle = (refl, refl) };
   traces = puts_same (g.K.Keeper.memories c.args.self.now.keeper);
 }

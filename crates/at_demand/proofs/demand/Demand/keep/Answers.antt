@@ -1,12 +1,11 @@
-use Rattle.std.proofs.Common.{Some, map, true, false, sym, ap, ◌∙◌, subst}
-use Rattle.std.specs.Prelude.{IfOk}
-use Rattle.std.proofs.lemmas.Result.{IfOk-weaker}
+use Rattle.std.proofs.Common.{map, true, false, sym, ap, ◌∙◌, subst}
+use Rattle.std.proofs.lemmas.Result.{err_from_is_err_and}
 use Rattle.at_store.specs.Located.{loc_view}
 use Rattle.at_body.specs.Values.{value_view}
-use Rattle.at_cache.specs.Kept.{AreKept, HasPut}
+use Rattle.at_cache.specs.Kept.{AreKept}
 use Rattle.at_demand.proofs.Entered.{absent, all_entered}
 use Rattle.at_demand.proofs.Gaining.{told_lazy}
-use Rattle.at_demand.proofs.Putting.{adds, gains, covers_all, covers_only, keeps_alone, keeps_with, left_out, none_below, placed_alone, placed_with, plain_after, put_as, says_alone, says_with}
+use Rattle.at_demand.proofs.Putting.{keeps_failed, keeps_found, left_out, none_below, placed_alone, placed_with, put_as, unplaced, unplaced_with, valued, valued_with}
 use Rattle.at_demand.proofs.of_traces.TurnsPut.{puts_same}
 use Rattle.at_demand.proofs.demand.Demand.keep.Goals as goal
 
@@ -38,70 +37,81 @@ returns-then-not-is_lazy g c = record {
       let i = c.args.inst.now in
       let other = told_lazy rules c.is_lazy.result false c.attribute.result i.attribute c.is_lazy.ensures c.attribute.ensures
       c.if-not-is_lazy.true in
-      left_out rules g.K.Keeper.exact (g.K.Keeper.contents c.args.self.now.keeper) c.args.self.now.work
+      left_out rules (g.K.Keeper.contents c.args.self.now.keeper) c.args.self.now.work
       c.args.found.now.entries i c.args.find.now other c.requires.plain c.args.self.now.few;
   traces = puts_same (g.K.Keeper.memories c.args.self.now.keeper);
+}
+
+pub returns-in_err-put : goal.returns-in_err-put
+returns-in_err-put g c = record {
+  keeps =
+      let rules = c.args.rules.now in
+      let old = g.K.Keeper.contents c.args.self.now.keeper in
+      let new = g.K.Keeper.contents c.put.new.self.keeper in
+      let found = c.args.found.now.entries in
+      let i = c.args.inst.now in
+      let f = c.args.find.now in
+      let lazy = told_lazy rules c.is_lazy.result true c.attribute.result i.attribute c.is_lazy.ensures c.attribute.ensures
+      c.if-not-is_lazy.false in
+      let is = (err_from_is_err_and c.from_residual.result c.from_residual.ensures.1).1 in
+      rw is (keeps_failed rules old found i f new c.args.self.now.work c.put.new.self.work lazy c.requires.plain
+      (unplaced rules old found i f new c.in_err-put.ensures.err) c.put.ensures.counts _);
+  traces = c.put.ensures.traces;
 }
 
 pub returns-then-is_empty : goal.returns-then-is_empty
 returns-then-is_empty g c = record {
   keeps =
       let rules = c.args.rules.now in
-      let exact = g.K.Keeper.exact in
       let old = g.K.Keeper.contents c.args.self.now.keeper in
       let new = g.K.Keeper.contents c.put.new.self.keeper in
       let found = c.args.found.now.entries in
       let i = c.args.inst.now in
       let f = c.args.find.now in
-      let e = c.put.ensures in
       let lazy = told_lazy rules c.is_lazy.result true c.attribute.result i.attribute c.is_lazy.ensures c.attribute.ensures
       c.if-not-is_lazy.false in
-      let none = absent rules old c.requires.plain i lazy c.requires.unkept in
-      let placed : IfOk c.put.result (HasPut exact old i (Some (value_view f.value)) (map loc_view f.reads.items)
-      f.demanded.kept.items new) =
-      IfOk-weaker c.put.result _ _ (λ p puts. put_as exact old i (value_view f.value) _ (map loc_view f.reads.items) _
-      f.demanded.kept.items new p puts (ap (map loc_view) c.as_slice-reads.ensures) c.as_slice-kept.ensures.value) e.puts in
-      let put = placed_alone rules exact old found i f new c.put.result none
+      let puts = put_as old i (value_view f.value) _ (map loc_view f.reads.items) _ f.demanded.kept.items new c.in_ok-put.ensures.puts
+      (ap (map loc_view) c.as_slice-reads.ensures) c.as_slice-kept.ensures.value in
+      keeps_found rules old found i f new c.args.self.now.work c.put.new.self.work lazy c.requires.plain
+      (placed_alone rules old found i f new (absent rules old c.requires.plain i lazy c.requires.unkept)
       (none_below f.demanded.finds (sym c.is_empty.ensures ∙ c.if-is_empty.true))
-      (all_entered old f.demanded.kept.items c.requires.rests.kept) placed e.err in
-      record {
-        adds = adds rules exact old found i f new put;
-        covers = λ look. covers_all rules exact old found i f new look put;
-        gains = gains rules exact old found i f new lazy put;
-        keeps = λ is lazy. keeps_alone rules exact old found i f new old _ _ c.put.result is placed;
-        only = λ look is. covers_only rules exact old found i f new look is put;
-        plain = plain_after rules exact old found i f new c.requires.plain put;
-        counts = e.counts;
-        says = says_alone rules exact old found i f new old _ _ c.put.result placed;
-      };
+      (all_entered old f.demanded.kept.items c.requires.rests.kept) puts) c.put.ensures.counts
+      (valued rules old found i f new old (map loc_view f.reads.items) f.demanded.kept.items puts);
   traces = c.put.ensures.traces;
+}
+
+pub returns-in_err-keep_with : goal.returns-in_err-keep_with
+returns-in_err-keep_with g c = record {
+  keeps =
+      let rules = c.args.rules.now in
+      let old = g.K.Keeper.contents c.args.self.now.keeper in
+      let new = g.K.Keeper.contents c.keep_with.new.self.keeper in
+      let found = c.args.found.now.entries in
+      let i = c.args.inst.now in
+      let f = c.args.find.now in
+      let lazy = told_lazy rules c.is_lazy.result true c.attribute.result i.attribute c.is_lazy.ensures c.attribute.ensures
+      c.if-not-is_lazy.false in
+      let is = (err_from_is_err_and c.from_residual-in_err-keep_with.result c.from_residual-in_err-keep_with.ensures.1).1 in
+      rw is (keeps_failed rules old found i f new c.args.self.now.work c.keep_with.new.self.work lazy c.requires.plain
+      (unplaced_with rules old found i f new c.in_err-keep_with.ensures.err) c.keep_with.ensures.counts _);
+  traces = c.keep_with.ensures.traces;
 }
 
 pub returns : goal.returns
 returns g c = record {
   keeps =
       let rules = c.args.rules.now in
-      let exact = g.K.Keeper.exact in
       let old = g.K.Keeper.contents c.args.self.now.keeper in
       let new = g.K.Keeper.contents c.keep_with.new.self.keeper in
       let found = c.args.found.now.entries in
       let i = c.args.inst.now in
       let f = c.args.find.now in
-      let e = c.keep_with.ensures in
       let lazy = told_lazy rules c.is_lazy.result true c.attribute.result i.attribute c.is_lazy.ensures c.attribute.ensures
       c.if-not-is_lazy.false in
-      let put = placed_with rules exact old found i f new c.keep_with.result
+      keeps_found rules old found i f new c.args.self.now.work c.keep_with.new.self.work lazy c.requires.plain
+      (placed_with rules old found i f new
       (λ mid shares. absent rules mid (shares.plain c.requires.plain) i lazy (shares.same i ∙ c.requires.unkept))
-      e.placed e.err in
-      record {
-        adds = adds rules exact old found i f new put;
-        covers = λ look. covers_all rules exact old found i f new look put;
-        gains = gains rules exact old found i f new lazy put;
-        keeps = λ is lazy. keeps_with rules exact old found i f new c.keep_with.result is e.placed;
-        only = λ look is. covers_only rules exact old found i f new look is put;
-        plain = plain_after rules exact old found i f new c.requires.plain put;
-        counts = e.counts;
-        says = says_with rules exact old found i f new c.keep_with.result e.placed;
-      };
+      c.in_ok-keep_with.ensures.placed) c.keep_with.ensures.counts
+      (valued_with rules old found i f new c.in_ok-keep_with.ensures.placed);
   traces = c.keep_with.ensures.traces;
 }

@@ -13,17 +13,16 @@ pub returns-in_default : goal.returns-in_default
 returns-in_default g c =
     let rules = c.args.rules.now in
     let s = c.args.store.now in
-    let x = g.K.Keeper.exact in
     let before = g.K.Keeper.contents c.args.self.now.keeper in
     let m = g.K.Keeper.memories c.args.self.now.keeper in
     let w = c.args.self.now.work in
     let q = c.args.question.now in
     let insts = c.args.insts.now in
     let group = c.args.group.now in
-    group_none rules s x before m w q insts group c.requires before m w q
-    (tells_none rules s x before m w q (members insts group) ⊥ c.args.self.now.few c.requires.can.facts.values
+    group_none rules s before m w q insts group c.requires before m w q
+    (tells_none rules s before m w q (members insts group) ⊥ c.args.self.now.few c.requires.can.facts.values
     c.requires.can.took c.requires.can.answerable.plain)
-    refl tt (λ y a. none_first group y c.in_default.ensures.value a) (λ ex spare. spare)
+    refl tt (λ y a. none_first group y c.in_default.ensures.value a) (λ spare. spare)
 
 pub returns-in_default-get : goal.returns-in_default-get
 returns-in_default-get g c =
@@ -36,7 +35,6 @@ pub returns-in_err-find : goal.returns-in_err-find
 returns-in_err-find g c =
     let rules = c.args.rules.now in
     let s = c.args.store.now in
-    let x = g.K.Keeper.exact in
     let before = g.K.Keeper.contents c.args.self.now.keeper in
     let m = g.K.Keeper.memories c.args.self.now.keeper in
     let w = c.args.self.now.work in
@@ -53,8 +51,8 @@ returns-in_err-find g c =
       at,
       refl,
     ) in
-    group_failed rules s x before m w q insts group c.requires before m w q
-    (tells_none rules s x before m w q (members insts group) ⊥ c.args.self.now.few c.requires.can.facts.values
+    group_failed rules s before m w q insts group c.requires before m w q
+    (tells_none rules s before m w q (members insts group) ⊥ c.args.self.now.few c.requires.can.facts.values
     c.requires.can.took c.requires.can.answerable.plain)
     refl c.from_residual.result _ c.from_residual.ensures.1 inst (member_listed insts group inst first.value member)
 
@@ -72,7 +70,7 @@ keep_first-requires g c =
       at,
       refl,
     ) in
-    can_first c.args.rules.now c.args.store.now g.K.Keeper.exact (g.K.Keeper.contents c.args.self.now.keeper)
+    can_first c.args.rules.now c.args.store.now (g.K.Keeper.contents c.args.self.now.keeper)
     (g.K.Keeper.memories c.args.self.now.keeper)
     c.args.self.now.work c.args.question.now insts group c.requires inst first.value member c.in_ok-find.find
     c.in_ok-find.ensures
@@ -81,7 +79,6 @@ pub returns-in_err-place : goal.returns-in_err-place
 returns-in_err-place g c =
     let rules = c.args.rules.now in
     let s = c.args.store.now in
-    let x = g.K.Keeper.exact in
     let before = g.K.Keeper.contents c.args.self.now.keeper in
     let m = g.K.Keeper.memories c.args.self.now.keeper in
     let w = c.args.self.now.work in
@@ -100,12 +97,12 @@ returns-in_err-place g c =
     ) in
     let k = c.keep_first.new.self in
     let e = c.keep_first.ensures in
-    group_failed rules s x before m w q insts group c.requires (g.K.Keeper.contents k.keeper)
+    group_failed rules s before m w q insts group c.requires (g.K.Keeper.contents k.keeper)
     (g.K.Keeper.memories k.keeper) k.work c.keep_first.new.question
-    (tells_first rules s x before m w q insts group c.requires inst first.value member c.in_ok-find.find
+    (tells_first rules s before m w q insts group c.requires inst first.value member c.in_ok-find.find
     c.in_ok-find.ensures (g.K.Keeper.contents k.keeper)
     (g.K.Keeper.memories k.keeper) k.work c.keep_first.new.question c.keep_first.result e)
-    (same_first rules s x before m w q insts group c.requires inst first.value member c.in_ok-find.find
+    (same_first rules s before m w q insts group c.requires inst first.value member c.in_ok-find.find
     c.in_ok-find.ensures (g.K.Keeper.contents k.keeper)
     (g.K.Keeper.memories k.keeper) k.work c.keep_first.new.question c.keep_first.result e)
     c.from_residual-in_err-place.result _ c.from_residual-in_err-place.ensures.1 inst
@@ -115,7 +112,6 @@ pub loop-member-init : goal.loop-member-init
 loop-member-init g c =
     let rules = c.args.rules.now in
     let s = c.args.store.now in
-    let x = g.K.Keeper.exact in
     let before = g.K.Keeper.contents c.args.self.now.keeper in
     let m = g.K.Keeper.memories c.args.self.now.keeper in
     let w = c.args.self.now.work in
@@ -137,9 +133,9 @@ loop-member-init g c =
     let n = g.K.Keeper.memories k.keeper in
     let mid = c.keep_first.new.question in
     let place = c.in_ok-place.place in
-    since_none rules s x before m w q insts group c.requires inst (member_listed insts group inst first.value member)
+    since_none rules s before m w q insts group c.requires inst (member_listed insts group inst first.value member)
     place begun n k.work mid
-    (kept_first rules s x before m w q insts group c.requires inst first.value member c.in_ok-find.find
+    (kept_first rules s before m w q insts group c.requires inst first.value member c.in_ok-find.find
     c.in_ok-find.ensures begun n k.work mid c.keep_first.result
     c.keep_first.ensures place c.in_ok-place.was) k.few
 
@@ -147,7 +143,6 @@ pub keep_other-requires : goal.keep_other-requires
 keep_other-requires g c =
     let rules = c.args.rules.now in
     let s = c.args.store.now in
-    let x = g.K.Keeper.exact in
     let before = g.K.Keeper.contents c.args.self.now.keeper in
     let m = g.K.Keeper.memories c.args.self.now.keeper in
     let w = c.args.self.now.work in
@@ -172,11 +167,11 @@ keep_other-requires g c =
     let place = c.in_ok-place.place in
     let now = c.loop-member.self in
     let ms = take c.loop-member.member-index group in
-    can_other rules s x before m w q insts group c.requires inst listed place ms (g.K.Keeper.contents now.keeper)
+    can_other rules s before m w q insts group c.requires inst listed place ms (g.K.Keeper.contents now.keeper)
     (g.K.Keeper.memories now.keeper) now.work
     c.loop-member.question
-    (so_far rules s x before m w q insts group c.requires inst listed place begun n k.work mid
-    (kept_first rules s x before m w q insts group c.requires inst first.value member c.in_ok-find.find
+    (so_far rules s before m w q insts group c.requires inst listed place begun n k.work mid
+    (kept_first rules s before m w q insts group c.requires inst first.value member c.in_ok-find.find
     c.in_ok-find.ensures begun n k.work mid c.keep_first.result
     c.keep_first.ensures place c.in_ok-place.was) ms (g.K.Keeper.contents now.keeper) (g.K.Keeper.memories now.keeper)
     now.work c.loop-member.question
@@ -186,7 +181,6 @@ pub loop-member-preserved : goal.loop-member-preserved
 loop-member-preserved g c =
     let rules = c.args.rules.now in
     let s = c.args.store.now in
-    let x = g.K.Keeper.exact in
     let before = g.K.Keeper.contents c.args.self.now.keeper in
     let m = g.K.Keeper.memories c.args.self.now.keeper in
     let w = c.args.self.now.work in
@@ -211,8 +205,8 @@ loop-member-preserved g c =
     let place = c.in_ok-place.place in
     let now = c.loop-member.self in
     let after = c.keep_other.new.self in
-    since_next rules s x before m w q insts group c.requires inst listed place begun n k.work mid
-    (kept_first rules s x before m w q insts group c.requires inst first.value member c.in_ok-find.find
+    since_next rules s before m w q insts group c.requires inst listed place begun n k.work mid
+    (kept_first rules s before m w q insts group c.requires inst first.value member c.in_ok-find.find
     c.in_ok-find.ensures begun n k.work mid c.keep_first.result
     c.keep_first.ensures place c.in_ok-place.was) c.loop-member.member-index c.loop-member-test.true
     (g.K.Keeper.contents now.keeper)
@@ -226,7 +220,6 @@ pub returns-in_err-keep_other : goal.returns-in_err-keep_other
 returns-in_err-keep_other g c =
     let rules = c.args.rules.now in
     let s = c.args.store.now in
-    let x = g.K.Keeper.exact in
     let before = g.K.Keeper.contents c.args.self.now.keeper in
     let m = g.K.Keeper.memories c.args.self.now.keeper in
     let w = c.args.self.now.work in
@@ -252,8 +245,8 @@ returns-in_err-keep_other g c =
     let now = c.loop-member.self in
     let after = c.keep_other.new.self in
     let r = c.from_residual-in_err-keep_other in
-    other_failed rules s x before m w q insts group c.requires inst listed place begun n k.work mid
-    (kept_first rules s x before m w q insts group c.requires inst first.value member c.in_ok-find.find
+    other_failed rules s before m w q insts group c.requires inst listed place begun n k.work mid
+    (kept_first rules s before m w q insts group c.requires inst first.value member c.in_ok-find.find
     c.in_ok-find.ensures begun n k.work mid c.keep_first.result
     c.keep_first.ensures place c.in_ok-place.was) c.loop-member.member-index c.loop-member-test.true
     (g.K.Keeper.contents now.keeper)
@@ -266,7 +259,6 @@ pub returns : goal.returns
 returns g c =
     let rules = c.args.rules.now in
     let s = c.args.store.now in
-    let x = g.K.Keeper.exact in
     let before = g.K.Keeper.contents c.args.self.now.keeper in
     let m = g.K.Keeper.memories c.args.self.now.keeper in
     let w = c.args.self.now.work in
@@ -289,9 +281,9 @@ returns g c =
     let mid = c.keep_first.new.question in
     let place = c.in_ok-place.place in
     let now = c.loop-member.self in
-    all_others rules s x before m w q insts group c.requires inst (member_listed insts group inst first.value member)
+    all_others rules s before m w q insts group c.requires inst (member_listed insts group inst first.value member)
     place begun n k.work mid
-    (kept_first rules s x before m w q insts group c.requires inst first.value member c.in_ok-find.find
+    (kept_first rules s before m w q insts group c.requires inst first.value member c.in_ok-find.find
     c.in_ok-find.ensures begun n k.work mid c.keep_first.result
     c.keep_first.ensures place c.in_ok-place.was) (g.K.Keeper.contents now.keeper) (g.K.Keeper.memories now.keeper)
     now.work c.loop-member.question

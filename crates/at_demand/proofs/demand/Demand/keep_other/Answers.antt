@@ -41,7 +41,7 @@ returns g c =
     let l = c.in-Some.ensures.lookup in
     let at = get_at insts p inst (ltb-true p (length insts) (sym l.0)) l.1 in
     let unknown = none_entered (known_to before old inst) c.is_known.result c.is_known.ensures c.if-is_known.false in
-    let known = known_after c.args.rules.now g.K.Keeper.exact before after (g.K.Keeper.memories c.args.self.now.keeper)
+    let known = known_after c.args.rules.now before after (g.K.Keeper.memories c.args.self.now.keeper)
     (g.K.Keeper.memories c.keep_first.new.self.keeper) c.args.self.now.work c.keep_first.new.self.work old new inst c.in_ok-find.find
     c.keep_first.result c.in_ok-_place._place c.in_ok-_place.was unknown c.keep_first.ensures in
     record {

@@ -24,7 +24,7 @@ returns-in_err-sources g c =
     let e = c.gather.ensures in
     let old = g.K.Keeper.contents c.args.self.now.keeper in
     let mid = g.K.Keeper.contents c.gather.new.self.keeper in
-    record { placed = rw is tt; err = rw is e.shares; counts = λ exact. counts_shared old mid c.args.self.now.work c.gather.new.self.work e.work c.args.self.now.few e.shares.stays e.shares.same; traces = c.gather.ensures.traces }
+    record { placed = rw is tt; err = rw is e.shares; counts = counts_shared old mid c.args.self.now.work c.gather.new.self.work e.work c.args.self.now.few e.shares.stays e.shares.same; traces = c.gather.ensures.traces }
 
 pub returns-in_err-put : goal.returns-in_err-put
 returns-in_err-put g c =
@@ -35,8 +35,8 @@ returns-in_err-put g c =
     let new = g.K.Keeper.contents c.put.new.self.keeper in
     record {
       placed = rw is tt;
-      err = rw is (shares_on c.args.rules.now g.K.Keeper.exact c.args.found.now.entries old mid new e.shares (shares_none c.args.rules.now g.K.Keeper.exact c.args.found.now.entries mid new c.in_err-put.ensures.err));
-      counts = λ exact. counts_after old mid new c.args.self.now.work c.gather.new.self.work c.put.new.self.work e.work c.args.self.now.few e.shares.stays e.shares.same (c.put.ensures.counts exact);
+      err = rw is (shares_on c.args.rules.now c.args.found.now.entries old mid new e.shares (shares_none c.args.rules.now c.args.found.now.entries mid new c.in_err-put.ensures.err));
+      counts = counts_after old mid new c.args.self.now.work c.gather.new.self.work c.put.new.self.work e.work c.args.self.now.few e.shares.stays e.shares.same (c.put.ensures.counts);
       traces = puts_then (g.K.Keeper.memories c.args.self.now.keeper) (g.K.Keeper.memories c.gather.new.self.keeper) (g.K.Keeper.memories c.put.new.self.keeper) c.gather.ensures.traces c.put.ensures.traces;
     }
 
@@ -48,11 +48,11 @@ returns g c =
     let old = g.K.Keeper.contents c.args.self.now.keeper in
     let mid = g.K.Keeper.contents c.gather.new.self.keeper in
     let new = g.K.Keeper.contents c.put.new.self.keeper in
-    let puts = put_as g.K.Keeper.exact mid c.args.inst.now (value_view f.value) _ (map loc_view s.reads.items) _ s.kept.items new c.in_ok-put.put c.in_ok-put.ensures.puts (ap (map loc_view) c.as_slice.ensures) c.as_slice-2.ensures.value in
+    let puts = put_as mid c.args.inst.now (value_view f.value) _ (map loc_view s.reads.items) _ s.kept.items new c.in_ok-put.ensures.puts (ap (map loc_view) c.as_slice.ensures) c.as_slice-2.ensures.value in
     record {
       placed = (mid, e.shares, s, c.in_ok-sources.ensures.sources, puts);
       err = tt;
-      counts = λ exact. counts_after old mid new c.args.self.now.work c.gather.new.self.work c.put.new.self.work e.work c.args.self.now.few e.shares.stays e.shares.same (c.put.ensures.counts exact);
+      counts = counts_after old mid new c.args.self.now.work c.gather.new.self.work c.put.new.self.work e.work c.args.self.now.few e.shares.stays e.shares.same (c.put.ensures.counts);
       traces = puts_then (g.K.Keeper.memories c.args.self.now.keeper) (g.K.Keeper.memories c.gather.new.self.keeper) (g.K.Keeper.memories c.put.new.self.keeper) c.gather.ensures.traces c.put.ensures.traces;
     }
 

@@ -12,14 +12,14 @@ pub returns-in_err-solve_level : goal.returns-in_err-solve_level
 returns-in_err-solve_level g c =
     let can = c.requires in
     let along = can.along in
-    leave_failed c.args.rules.now c.args.store.now g.K.Keeper.exact (g.K.Keeper.contents c.args.self.now.keeper)
+    leave_failed c.args.rules.now c.args.store.now (g.K.Keeper.contents c.args.self.now.keeper)
     (g.K.Keeper.contents c.solve_level.new.self.keeper) (g.K.Keeper.memories c.args.self.now.keeper) (g.K.Keeper.memories c.solve_level.new.self.keeper)
     c.args.self.now.work c.solve_level.new.self.work c.args.question.now c.solve_level.new.question along.search c.solve_level.result c.solve_level.ensures
     c.args.trials.now c.from_residual.result _ ((err_from_is_err_and c.from_residual.result c.from_residual.ensures.1).1)
 
 pub returns-in_ok-rise-in-None : goal.returns-in_ok-rise-in-None
 returns-in_ok-rise-in-None g c =
-    leaves_told c.args.rules.now c.args.store.now g.K.Keeper.exact (g.K.Keeper.contents c.args.self.now.keeper)
+    leaves_told c.args.rules.now c.args.store.now (g.K.Keeper.contents c.args.self.now.keeper)
     (g.K.Keeper.contents c.solve_level.new.self.keeper) (g.K.Keeper.memories c.args.self.now.keeper) (g.K.Keeper.memories c.solve_level.new.self.keeper)
     c.args.self.now.work c.solve_level.new.self.work c.args.question.now c.solve_level.new.question c.args.trials.now c.requires
     c.in_ok-solve_level.field-0 c.in_ok-solve_level.ensures c.take_fault.new.self c.take_fault.ensures.lost c.take_fault.result c.take_fault.ensures.fault
@@ -28,7 +28,7 @@ returns-in_ok-rise-in-None g c =
 
 pub returns-in_err-rise-in-None : goal.returns-in_err-rise-in-None
 returns-in_err-rise-in-None g c =
-    leaves_failed c.args.rules.now c.args.store.now g.K.Keeper.exact (g.K.Keeper.contents c.args.self.now.keeper)
+    leaves_failed c.args.rules.now c.args.store.now (g.K.Keeper.contents c.args.self.now.keeper)
     (g.K.Keeper.contents c.solve_level.new.self.keeper) (g.K.Keeper.memories c.args.self.now.keeper) (g.K.Keeper.memories c.solve_level.new.self.keeper)
     c.args.self.now.work c.solve_level.new.self.work c.args.question.now c.solve_level.new.question c.args.trials.now c.requires
     c.in_ok-solve_level.field-0 c.in_ok-solve_level.ensures c.take_fault.new.self c.take_fault.ensures.lost c.take_fault.result c.take_fault.ensures.fault
@@ -38,14 +38,14 @@ returns-in_err-rise-in-None g c =
 
 pub fall-requires : goal.fall-requires
 fall-requires g c =
-    leaves_unseen c.args.rules.now c.args.store.now g.K.Keeper.exact (g.K.Keeper.contents c.args.self.now.keeper)
+    leaves_unseen c.args.rules.now c.args.store.now (g.K.Keeper.contents c.args.self.now.keeper)
     (g.K.Keeper.contents c.solve_level.new.self.keeper) (g.K.Keeper.memories c.args.self.now.keeper) (g.K.Keeper.memories c.solve_level.new.self.keeper)
     c.args.self.now.work c.solve_level.new.self.work c.args.question.now c.solve_level.new.question c.args.trials.now c.requires
     c.in_ok-solve_level.field-0 c.in_ok-solve_level.ensures c.take_fault.new.self c.take_fault.ensures.lost c.take_fault.result c.take_fault.ensures.fault
 
 pub returns-in-Some : goal.returns-in-Some
 returns-in-Some g c =
-    leaves_fallen c.args.rules.now c.args.store.now g.K.Keeper.exact (g.K.Keeper.contents c.args.self.now.keeper)
+    leaves_fallen c.args.rules.now c.args.store.now (g.K.Keeper.contents c.args.self.now.keeper)
     (g.K.Keeper.contents c.solve_level.new.self.keeper) (g.K.Keeper.memories c.args.self.now.keeper) (g.K.Keeper.memories c.solve_level.new.self.keeper)
     c.args.self.now.work c.solve_level.new.self.work c.args.question.now c.solve_level.new.question c.args.trials.now c.requires
     c.in_ok-solve_level.field-0 c.in_ok-solve_level.ensures c.take_fault.new.self c.take_fault.ensures.lost c.take_fault.result c.take_fault.ensures.fault

@@ -18,7 +18,7 @@ answer_at_once-requires-clause-held g c =
     let mid = g.K.Keeper.contents c.keep_again.new.self.keeper in
     let n = g.K.Keeper.memories c.keep_again.new.self.keeper in
     let k = c.keep_again.ensures.kept in
-    let up = grown_settled rules s c.requires.idle g.K.Keeper.exact q before mid n k.count c.keep_again.new.self.work c.requires.held
+    let up = grown_settled rules s c.requires.idle q before mid n k.count c.keep_again.new.self.work c.requires.held
     c.args.self.now.few (g.K.Keeper.kept_last c.args.self.now.keeper) k.settled k.counts k.stay k.alike in
     let is = held_after up in record { known = is.known; justified = is.justified }
 
@@ -31,7 +31,7 @@ returns-then-not-worth-clause-gains g c =
     let mid = g.K.Keeper.contents c.keep_again.new.self.keeper in
     let n = g.K.Keeper.memories c.keep_again.new.self.keeper in
     let k = c.keep_again.ensures.kept in
-    let up = grown_settled rules s c.requires.idle g.K.Keeper.exact q before mid n k.count c.keep_again.new.self.work c.requires.held
+    let up = grown_settled rules s c.requires.idle q before mid n k.count c.keep_again.new.self.work c.requires.held
     c.args.self.now.few (g.K.Keeper.kept_last c.args.self.now.keeper) k.settled k.counts k.stay k.alike in
     up.gains
 
@@ -44,7 +44,7 @@ returns-then-not-worth-clause-traces g c =
     let mid = g.K.Keeper.contents c.keep_again.new.self.keeper in
     let n = g.K.Keeper.memories c.keep_again.new.self.keeper in
     let k = c.keep_again.ensures.kept in
-    let up = grown_settled rules s c.requires.idle g.K.Keeper.exact q before mid n k.count c.keep_again.new.self.work c.requires.held
+    let up = grown_settled rules s c.requires.idle q before mid n k.count c.keep_again.new.self.work c.requires.held
     c.args.self.now.few (g.K.Keeper.kept_last c.args.self.now.keeper) k.settled k.counts k.stay k.alike in
     up.traces
 
@@ -57,9 +57,9 @@ returns-in_err-told-clause-gains g c =
     let mid = g.K.Keeper.contents c.keep_again.new.self.keeper in
     let n = g.K.Keeper.memories c.keep_again.new.self.keeper in
     let k = c.keep_again.ensures.kept in
-    let up = grown_settled rules s c.requires.idle g.K.Keeper.exact q before mid n k.count c.keep_again.new.self.work c.requires.held
+    let up = grown_settled rules s c.requires.idle q before mid n k.count c.keep_again.new.self.work c.requires.held
     c.args.self.now.few (g.K.Keeper.kept_last c.args.self.now.keeper) k.settled k.counts k.stay k.alike in
-    gains_then rules s g.K.Keeper.exact q before.entries mid (g.K.Keeper.contents c.answer_at_once.new.self.keeper) [] [] [] c.args.self.now.work
+    gains_then rules s q before.entries mid (g.K.Keeper.contents c.answer_at_once.new.self.keeper) [] [] [] c.args.self.now.work
     c.keep_again.new.self.work c.answer_at_once.new.self.work up.gains c.answer_at_once.ensures.gains
 
 pub returns-in_err-told-clause-traces : goal.returns-in_err-told-clause-traces
@@ -71,7 +71,7 @@ returns-in_err-told-clause-traces g c =
     let mid = g.K.Keeper.contents c.keep_again.new.self.keeper in
     let n = g.K.Keeper.memories c.keep_again.new.self.keeper in
     let k = c.keep_again.ensures.kept in
-    let up = grown_settled rules s c.requires.idle g.K.Keeper.exact q before mid n k.count c.keep_again.new.self.work c.requires.held
+    let up = grown_settled rules s c.requires.idle q before mid n k.count c.keep_again.new.self.work c.requires.held
     c.args.self.now.few (g.K.Keeper.kept_last c.args.self.now.keeper) k.settled k.counts k.stay k.alike in
     traced_then rules s q before.memories n (g.K.Keeper.memories c.answer_at_once.new.self.keeper) up.traces c.answer_at_once.ensures.traces
 
@@ -84,9 +84,9 @@ returns-clause-gains g c =
     let mid = g.K.Keeper.contents c.keep_again.new.self.keeper in
     let n = g.K.Keeper.memories c.keep_again.new.self.keeper in
     let k = c.keep_again.ensures.kept in
-    let up = grown_settled rules s c.requires.idle g.K.Keeper.exact q before mid n k.count c.keep_again.new.self.work c.requires.held
+    let up = grown_settled rules s c.requires.idle q before mid n k.count c.keep_again.new.self.work c.requires.held
     c.args.self.now.few (g.K.Keeper.kept_last c.args.self.now.keeper) k.settled k.counts k.stay k.alike in
-    gains_then rules s g.K.Keeper.exact q before.entries mid (g.K.Keeper.contents c.answer_at_once.new.self.keeper) [] [] [] c.args.self.now.work
+    gains_then rules s q before.entries mid (g.K.Keeper.contents c.answer_at_once.new.self.keeper) [] [] [] c.args.self.now.work
     c.keep_again.new.self.work c.answer_at_once.new.self.work up.gains c.answer_at_once.ensures.gains
 
 pub returns-clause-traces : goal.returns-clause-traces
@@ -98,7 +98,7 @@ returns-clause-traces g c =
     let mid = g.K.Keeper.contents c.keep_again.new.self.keeper in
     let n = g.K.Keeper.memories c.keep_again.new.self.keeper in
     let k = c.keep_again.ensures.kept in
-    let up = grown_settled rules s c.requires.idle g.K.Keeper.exact q before mid n k.count c.keep_again.new.self.work c.requires.held
+    let up = grown_settled rules s c.requires.idle q before mid n k.count c.keep_again.new.self.work c.requires.held
     c.args.self.now.few (g.K.Keeper.kept_last c.args.self.now.keeper) k.settled k.counts k.stay k.alike in
     traced_then rules s q before.memories n (g.K.Keeper.memories c.answer_at_once.new.self.keeper) up.traces c.answer_at_once.ensures.traces
 
@@ -111,7 +111,7 @@ returns-then-not-worth-clause-led g c =
     let mid = g.K.Keeper.contents c.keep_again.new.self.keeper in
     let n = g.K.Keeper.memories c.keep_again.new.self.keeper in
     let k = c.keep_again.ensures.kept in
-    let up = grown_settled rules s c.requires.idle g.K.Keeper.exact q before mid n k.count c.keep_again.new.self.work c.requires.held
+    let up = grown_settled rules s c.requires.idle q before mid n k.count c.keep_again.new.self.work c.requires.held
     c.args.self.now.few (g.K.Keeper.kept_last c.args.self.now.keeper) k.settled k.counts k.stay k.alike in
     up.demanded
 
@@ -124,7 +124,7 @@ returns-in_err-told-clause-led g c =
     let mid = g.K.Keeper.contents c.keep_again.new.self.keeper in
     let n = g.K.Keeper.memories c.keep_again.new.self.keeper in
     let k = c.keep_again.ensures.kept in
-    let up = grown_settled rules s c.requires.idle g.K.Keeper.exact q before mid n k.count c.keep_again.new.self.work c.requires.held
+    let up = grown_settled rules s c.requires.idle q before mid n k.count c.keep_again.new.self.work c.requires.held
     c.args.self.now.few (g.K.Keeper.kept_last c.args.self.now.keeper) k.settled k.counts k.stay k.alike in
     demanded_then (contents s) (meaning rules) q (kept_values before.entries) (kept_values mid)
     (kept_values (g.K.Keeper.contents c.answer_at_once.new.self.keeper)) up.demanded c.answer_at_once.ensures.led
@@ -138,7 +138,7 @@ returns-clause-led g c =
     let mid = g.K.Keeper.contents c.keep_again.new.self.keeper in
     let n = g.K.Keeper.memories c.keep_again.new.self.keeper in
     let k = c.keep_again.ensures.kept in
-    let up = grown_settled rules s c.requires.idle g.K.Keeper.exact q before mid n k.count c.keep_again.new.self.work c.requires.held
+    let up = grown_settled rules s c.requires.idle q before mid n k.count c.keep_again.new.self.work c.requires.held
     c.args.self.now.few (g.K.Keeper.kept_last c.args.self.now.keeper) k.settled k.counts k.stay k.alike in
     demanded_then (contents s) (meaning rules) q (kept_values before.entries) (kept_values mid)
     (kept_values (g.K.Keeper.contents c.answer_at_once.new.self.keeper)) up.demanded c.answer_at_once.ensures.led

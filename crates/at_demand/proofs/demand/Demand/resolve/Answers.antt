@@ -10,7 +10,7 @@ returns-then-is_whole g c =
     let q = c.args.question.now in
     let i = c.args.inst.now in
     let m = c.args.self.now in
-    marked_resolved c.args.rules.now c.args.store.now g.K.Keeper.exact (g.K.Keeper.contents m.keeper) (g.K.Keeper.memories m.keeper) m.work q c.requires m.few i
+    marked_resolved c.args.rules.now c.args.store.now (g.K.Keeper.contents m.keeper) (g.K.Keeper.memories m.keeper) m.work q c.requires m.few i
     (is_marked (lookup (same_instance i) q.ended.entries) c.in-Some.is_whole c.in-Some.ensures c.if-is_whole.true) c.spoilt_by.result c.spoilt_by.ensures
 
 pub resolve_ended-requires-clause-ended : goal.resolve_ended-requires-clause-ended
@@ -25,7 +25,7 @@ returns-then-is_tried g c =
     let q = c.args.question.now in
     let i = c.args.inst.now in
     let m = c.args.self.now in
-    nothing_resolved c.args.rules.now c.args.store.now g.K.Keeper.exact (g.K.Keeper.contents m.keeper) (g.K.Keeper.memories m.keeper) m.work q
+    nothing_resolved c.args.rules.now c.args.store.now (g.K.Keeper.contents m.keeper) (g.K.Keeper.memories m.keeper) m.work q
     c.requires m.few i (Ok resolved.Back) (inl (among_on i (keys_of q.waiting.entries ++ q.inst ∷ []) c.is_tried.result c.is_tried.ensures c.if-is_tried.true), refl) tt
 
 pub returns-in_default : goal.returns-in_default
@@ -33,7 +33,7 @@ returns-in_default g c =
     let q = c.args.question.now in
     let i = c.args.inst.now in
     let m = c.args.self.now in
-    nothing_resolved c.args.rules.now c.args.store.now g.K.Keeper.exact (g.K.Keeper.contents m.keeper) (g.K.Keeper.memories m.keeper) m.work q
+    nothing_resolved c.args.rules.now c.args.store.now (g.K.Keeper.contents m.keeper) (g.K.Keeper.memories m.keeper) m.work q
     c.requires m.few i (Ok resolved.Open) (
       among_off i (keys_of q.waiting.entries ++ q.inst ∷ []) c.is_tried.result c.is_tried.ensures c.if-is_tried.false,
       unrecorded (lookup (same_instance i) q.ended.entries) c.in_default.ensures,

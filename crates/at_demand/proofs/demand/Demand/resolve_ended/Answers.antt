@@ -35,7 +35,7 @@ returns-in_err-solve_and_mark g c =
     let former = g.K.Keeper.memories m.keeper in
     let latter = g.K.Keeper.memories n.keeper in
     let failed = c.from_residual-in_err-solve_and_mark in
-    failed_resolved rules s before old set i c.requires.can closure g.K.Keeper.exact after former latter m.work n.work new c.requires.ended c.solve_and_mark.result
+    failed_resolved rules s before old set i c.requires.can closure after former latter m.work n.work new c.requires.ended c.solve_and_mark.result
     c.solve_and_mark.ensures failed.result _ ((err_from_is_err_and failed.result failed.ensures.1).1)
 
 pub returns-then-is_known : goal.returns-then-is_known
@@ -53,7 +53,7 @@ returns-then-is_known g c =
     let after = g.K.Keeper.contents n.keeper in
     let former = g.K.Keeper.memories m.keeper in
     let latter = g.K.Keeper.memories n.keeper in
-    solved_resolved rules s before old set i c.requires.can closure g.K.Keeper.exact after former latter m.work n.work new c.requires.ended c.in_ok-solve_and_mark.field-0
+    solved_resolved rules s before old set i c.requires.can closure after former latter m.work n.work new c.requires.ended c.in_ok-solve_and_mark.field-0
     c.in_ok-solve_and_mark.ensures (Ok resolved.Known) (sym c.is_known.ensures ∙ c.if-is_known.true)
 
 pub returns : goal.returns
@@ -71,7 +71,7 @@ returns g c =
     let after = g.K.Keeper.contents n.keeper in
     let former = g.K.Keeper.memories m.keeper in
     let latter = g.K.Keeper.memories n.keeper in
-    spoilt_then rules s before old set i c.requires.can closure g.K.Keeper.exact after former latter m.work n.work new c.requires.ended c.in_ok-solve_and_mark.field-0
+    spoilt_then rules s before old set i c.requires.can closure after former latter m.work n.work new c.requires.ended c.in_ok-solve_and_mark.field-0
     c.in_ok-solve_and_mark.ensures (none_entered (known_to after new i) c.is_known.result c.is_known.ensures c.if-is_known.false) c.spoilt_by.result
     c.spoilt_by.ensures
 
@@ -79,13 +79,13 @@ pub returns-in_err-seen : goal.returns-in_err-seen
 returns-in_err-seen g c =
     let m = c.args.self.now in
     let is = (err_from_is_err_and c.from_residual.result c.from_residual.ensures.1).1 in
-    nothing_resolved c.args.rules.now c.args.store.now g.K.Keeper.exact (g.K.Keeper.contents m.keeper) (g.K.Keeper.memories m.keeper) m.work
+    nothing_resolved c.args.rules.now c.args.store.now (g.K.Keeper.contents m.keeper) (g.K.Keeper.memories m.keeper) m.work
     c.args.question.now c.requires.can m.few c.args.inst.now c.from_residual.result (rw is tt) (rw is tt)
 
 pub returns-in_default : goal.returns-in_default
 returns-in_default g c =
     let m = c.args.self.now in
     let out = rw c.in_default.is at c.in_ok-seen.ensures.none in
-    nothing_resolved c.args.rules.now c.args.store.now g.K.Keeper.exact (g.K.Keeper.contents m.keeper) (g.K.Keeper.memories m.keeper) m.work
+    nothing_resolved c.args.rules.now c.args.store.now (g.K.Keeper.contents m.keeper) (g.K.Keeper.memories m.keeper) m.work
     c.args.question.now c.requires.can m.few c.args.inst.now (Ok resolved.Back)
     (inr (c.requires.ended, c.requires.unmarked, out), refl) tt

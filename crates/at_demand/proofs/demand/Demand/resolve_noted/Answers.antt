@@ -13,7 +13,7 @@ pub returns-in_err-before-clause-resolved : goal.returns-in_err-before-clause-re
 returns-in_err-before-clause-resolved g c =
     let m = c.args.self.now in
     let is = (err_from_is_err_and c.from_residual.result c.from_residual.ensures.1).1 in
-    nothing_resolved c.args.rules.now c.args.store.now g.K.Keeper.exact (g.K.Keeper.contents m.keeper)
+    nothing_resolved c.args.rules.now c.args.store.now (g.K.Keeper.contents m.keeper)
     (g.K.Keeper.memories m.keeper) m.work
     c.args.question.now c.requires.can m.few c.args.inst.now _ (rw is tt) (rw is tt)
 
@@ -23,7 +23,7 @@ returns-in-Some-clause-resolved g c =
     let told : WasTold c.args.question.now c.args.trials.now c.args.inst.now c.in-Some.fault =
     subst (λ (o : Option Fault). IfSome o (WasTold c.args.question.now c.args.trials.now c.args.inst.now))
     c.in-Some.is c.in_ok-before.ensures in
-    nothing_resolved c.args.rules.now c.args.store.now g.K.Keeper.exact (g.K.Keeper.contents m.keeper)
+    nothing_resolved c.args.rules.now c.args.store.now (g.K.Keeper.contents m.keeper)
     (g.K.Keeper.memories m.keeper) m.work
     c.args.question.now c.requires.can m.few c.args.inst.now (Ok (resolved.Spoilt c.in-Some.fault)) (
       noted_holds c.args.rules.now (contents c.args.store.now) c.args.trials.now.noted.entries c.args.inst.now
@@ -34,7 +34,7 @@ returns-in-Some-clause-resolved g c =
 
 pub returns-clause-noted : goal.returns-clause-noted
 returns-clause-noted g c =
-    noted_after c.args.rules.now c.args.store.now g.K.Keeper.exact _ _ _ _ _ _ c.args.question.now
+    noted_after c.args.rules.now c.args.store.now _ _ _ _ _ _ c.args.question.now
     c.resolve-told.new.question c.args.inst.now
     c.resolve-told.result c.resolve-told.ensures c.args.trials.now c.note_told.new.trials c.requires.noted
     c.note_told.ensures

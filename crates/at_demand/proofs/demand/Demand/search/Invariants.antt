@@ -3,7 +3,7 @@ use Rattle.at_demand.proofs.of_searches.SearchedTo.{HasComeOn}
 use Rattle.at_demand.proofs.demand.Demand.search.Given as goal
 
 abbrev pub invariant-loop-searched : goal.invariant-loop-searched
-invariant-loop-searched g l = HasComeOn l.rules l.store g.K.Keeper.exact (g.K.Keeper.contents l.initial.self.keeper) (g.K.Keeper.contents l.self.keeper)
+invariant-loop-searched g l = HasComeOn l.rules l.store (g.K.Keeper.contents l.initial.self.keeper) (g.K.Keeper.contents l.self.keeper)
     (g.K.Keeper.memories l.initial.self.keeper) (g.K.Keeper.memories l.self.keeper) l.initial.self.work l.self.work l.initial.question l.question
 
 abbrev pub decreases-loop-searched : goal.decreases-loop-searched

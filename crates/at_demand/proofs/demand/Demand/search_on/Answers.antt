@@ -7,7 +7,7 @@ pub returns-in_default : goal.returns-in_default
 returns-in_default g c =
     let m = c.args.self.now in
     over_at_end c.args.rules.now c.args.store.now (g.K.Keeper.contents m.keeper) c.args.question.now c.next.new.self c.in_default.ensures.same
-    g.K.Keeper.exact (g.K.Keeper.memories m.keeper) m.work m.few c.requires c.in_default.ensures.none
+    (g.K.Keeper.memories m.keeper) m.work m.few c.requires c.in_default.ensures.none
 
 pub look_at-requires : goal.look_at-requires
 look_at-requires g c =
@@ -23,7 +23,7 @@ returns-in_err-look_at g c =
     let n = c.look_at.new.self in
     let mid = c.next.new.self in
     let i = c.in-Some.inst in
-    look_failed c.args.rules.now c.args.store.now g.K.Keeper.exact (g.K.Keeper.contents m.keeper) (g.K.Keeper.contents n.keeper)
+    look_failed c.args.rules.now c.args.store.now (g.K.Keeper.contents m.keeper) (g.K.Keeper.contents n.keeper)
     (g.K.Keeper.memories m.keeper) (g.K.Keeper.memories n.keeper) m.work n.work old mid c.look_at.new.question i c.in-Some.ensures.some c.requires c.look_at.result c.look_at.ensures c.from_residual.result _ ((err_from_is_err_and c.from_residual.result c.from_residual.ensures.1).1)
 
 pub returns-in-Passed : goal.returns-in-Passed
@@ -33,7 +33,7 @@ returns-in-Passed g c =
     let n = c.look_at.new.self in
     let mid = c.next.new.self in
     let i = c.in-Some.inst in
-    is_passed_on c.args.rules.now c.args.store.now g.K.Keeper.exact (g.K.Keeper.contents m.keeper) (g.K.Keeper.contents n.keeper)
+    is_passed_on c.args.rules.now c.args.store.now (g.K.Keeper.contents m.keeper) (g.K.Keeper.contents n.keeper)
     (g.K.Keeper.memories m.keeper) (g.K.Keeper.memories n.keeper) m.work n.work old mid c.look_at.new.question i c.in-Some.ensures.some c.requires c.in_ok-look_at.field-0 c.in_ok-look_at.ensures c.in-Passed.is
 
 pub returns-in-Back : goal.returns-in-Back
@@ -43,7 +43,7 @@ returns-in-Back g c =
     let n = c.look_at.new.self in
     let mid = c.next.new.self in
     let i = c.in-Some.inst in
-    is_back_on c.args.rules.now c.args.store.now g.K.Keeper.exact (g.K.Keeper.contents m.keeper) (g.K.Keeper.contents n.keeper)
+    is_back_on c.args.rules.now c.args.store.now (g.K.Keeper.contents m.keeper) (g.K.Keeper.contents n.keeper)
     (g.K.Keeper.memories m.keeper) (g.K.Keeper.memories n.keeper) m.work n.work old mid c.look_at.new.question i c.in-Some.ensures.some c.requires c.in_ok-look_at.field-0 c.in_ok-look_at.ensures c.in-Back.is
 
 pub returns-in-Untried : goal.returns-in-Untried
@@ -53,7 +53,7 @@ returns-in-Untried g c =
     let n = c.look_at.new.self in
     let mid = c.next.new.self in
     let i = c.in-Some.inst in
-    is_untried_on c.args.rules.now c.args.store.now g.K.Keeper.exact (g.K.Keeper.contents m.keeper) (g.K.Keeper.contents n.keeper)
+    is_untried_on c.args.rules.now c.args.store.now (g.K.Keeper.contents m.keeper) (g.K.Keeper.contents n.keeper)
     (g.K.Keeper.memories m.keeper) (g.K.Keeper.memories n.keeper) m.work n.work old mid c.look_at.new.question i c.in-Some.ensures.some c.requires c.in_ok-look_at.field-0 c.in_ok-look_at.ensures c.in-Untried.is
 
 pub go_over-requires : goal.go_over-requires
@@ -63,7 +63,7 @@ go_over-requires g c =
     let n = c.look_at.new.self in
     let mid = c.next.new.self in
     let i = c.in-Some.inst in
-    is_unseen c.args.rules.now c.args.store.now g.K.Keeper.exact (g.K.Keeper.contents m.keeper) (g.K.Keeper.contents n.keeper)
+    is_unseen c.args.rules.now c.args.store.now (g.K.Keeper.contents m.keeper) (g.K.Keeper.contents n.keeper)
     (g.K.Keeper.memories m.keeper) (g.K.Keeper.memories n.keeper) m.work n.work old mid c.look_at.new.question i c.in-Some.ensures.some c.requires c.in_ok-look_at.field-0 c.in_ok-look_at.ensures c.in-Ended.is
 
 pub returns-in_err-go_over-in-Ended : goal.returns-in_err-go_over-in-Ended
@@ -73,7 +73,7 @@ returns-in_err-go_over-in-Ended g c =
     let n = c.look_at.new.self in
     let mid = c.next.new.self in
     let i = c.in-Some.inst in
-    is_failed_on c.args.rules.now c.args.store.now g.K.Keeper.exact (g.K.Keeper.contents m.keeper) (g.K.Keeper.contents n.keeper)
+    is_failed_on c.args.rules.now c.args.store.now (g.K.Keeper.contents m.keeper) (g.K.Keeper.contents n.keeper)
     (g.K.Keeper.memories m.keeper) (g.K.Keeper.memories n.keeper) m.work n.work old mid c.look_at.new.question i c.in-Some.ensures.some c.requires c.in_ok-look_at.field-0 c.in_ok-look_at.ensures c.go_over.new.self c.from_residual-in_err-go_over-in-Ended.result _
     ((err_from_is_err_and c.from_residual-in_err-go_over-in-Ended.result c.from_residual-in_err-go_over-in-Ended.ensures.1).1) c.go_over.ensures.rest
 
@@ -84,5 +84,5 @@ returns-in_ok-go_over-in-Ended g c =
     let n = c.look_at.new.self in
     let mid = c.next.new.self in
     let i = c.in-Some.inst in
-    is_over_on c.args.rules.now c.args.store.now g.K.Keeper.exact (g.K.Keeper.contents m.keeper) (g.K.Keeper.contents n.keeper)
+    is_over_on c.args.rules.now c.args.store.now (g.K.Keeper.contents m.keeper) (g.K.Keeper.contents n.keeper)
     (g.K.Keeper.memories m.keeper) (g.K.Keeper.memories n.keeper) m.work n.work old mid c.look_at.new.question i c.in-Some.ensures.some c.requires c.in_ok-look_at.field-0 c.in_ok-look_at.ensures c.in-Ended.is c.go_over.new.self c.in_ok-go_over-in-Ended.ensures.over

@@ -16,13 +16,16 @@ enter-requires g c = record {
 }
 
 pub returns-then-is_lazy : goal.returns-then-is_lazy
-returns-then-is_lazy g c = let old = g.K.Keeper.contents c.args.self.now.keeper in record { shares = shares_none c.args.rules.now g.K.Keeper.exact c.args.found.now.entries old old (λ i. refl); work = refl; traces = puts_same (g.K.Keeper.memories c.args.self.now.keeper) }
+returns-then-is_lazy g c = let old = g.K.Keeper.contents c.args.self.now.keeper in record { shares = shares_none c.args.rules.now c.args.found.now.entries old old (λ i. refl); work = refl; traces = puts_same (g.K.Keeper.memories c.args.self.now.keeper) }
 
 pub returns-then-stands : goal.returns-then-stands
-returns-then-stands g c = let old = g.K.Keeper.contents c.args.self.now.keeper in record { shares = shares_none c.args.rules.now g.K.Keeper.exact c.args.found.now.entries old old (λ i. refl); work = refl; traces = puts_same (g.K.Keeper.memories c.args.self.now.keeper) }
+returns-then-stands g c = let old = g.K.Keeper.contents c.args.self.now.keeper in record { shares = shares_none c.args.rules.now c.args.found.now.entries old old (λ i. refl); work = refl; traces = puts_same (g.K.Keeper.memories c.args.self.now.keeper) }
 
 pub returns-in_default : goal.returns-in_default
-returns-in_default g c = let old = g.K.Keeper.contents c.args.self.now.keeper in record { shares = shares_none c.args.rules.now g.K.Keeper.exact c.args.found.now.entries old old (λ i. refl); work = refl; traces = puts_same (g.K.Keeper.memories c.args.self.now.keeper) }
+returns-in_default g c = let old = g.K.Keeper.contents c.args.self.now.keeper in record { shares = shares_none c.args.rules.now c.args.found.now.entries old old (λ i. refl); work = refl; traces = puts_same (g.K.Keeper.memories c.args.self.now.keeper) }
+
+pub returns-in_err-enter : goal.returns-in_err-enter
+returns-in_err-enter g c = record { shares = c.enter.ensures.shares; work = c.enter.ensures.work; traces = c.enter.ensures.traces }
 
 pub returns : goal.returns
 returns g c = record { shares = c.enter.ensures.shares; work = c.enter.ensures.work; traces = c.enter.ensures.traces }

@@ -14,5 +14,5 @@ returns g c =
     let m = c.args.self.now in
     let n = c.solve_and_mark.new.self in
     level_solved c.args.rules.now c.args.store.now (g.K.Keeper.contents m.keeper) c.args.question.now seen.new.self (keys_of seen.result.entries)
-    seen.ensures.seen seen.ensures.lost c.requires g.K.Keeper.exact (g.K.Keeper.contents n.keeper) (g.K.Keeper.memories m.keeper)
+    seen.ensures.seen seen.ensures.lost c.requires (g.K.Keeper.contents n.keeper) (g.K.Keeper.memories m.keeper)
     (g.K.Keeper.memories n.keeper) m.work n.work c.solve_and_mark.new.question c.solve_and_mark.result c.solve_and_mark.ensures

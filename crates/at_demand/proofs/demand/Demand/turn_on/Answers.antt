@@ -15,9 +15,9 @@ returns-in_err-value g c =
     let entries = g.K.Keeper.contents c.args.self.now.keeper in
     let is = (err_from_is_err_and c.from_residual.result c.from_residual.ensures.1).1 in
     record {
-      turned = broken_on c.args.rules.now c.args.store.now g.K.Keeper.exact c.requires.turns.turns.answerable.basis entries entries
+      turned = broken_on c.args.rules.now c.args.store.now c.requires.turns.turns.answerable.basis entries entries
           c.args.self.now.work c.args.self.now.work c.args.question.now c.args.question.now c.args.trials.now _ _ is
-          (λ none. none) (gains_none c.args.rules.now c.args.store.now g.K.Keeper.exact entries c.args.self.now.work c.args.self.now.few
+          (λ none. none) (gains_none c.args.rules.now c.args.store.now entries c.args.self.now.work c.args.self.now.few
           c.args.question.now c.requires.turns.turns.answerable.right c.requires.turns.turns.answerable.plain);
       traces = puts_same (g.K.Keeper.memories c.args.self.now.keeper);
     }
@@ -41,7 +41,7 @@ returns-then-is_none g c =
     let a = c.requires.turns.turns in
     let kept = sym (ap (λ w. Some w) c.in_ok-value.ensures ∙ c.in-Some.ensures) in
     record {
-      turned = passed_over c.args.rules.now c.args.store.now g.K.Keeper.exact a.answerable.basis entries c.args.self.now.work
+      turned = passed_over c.args.rules.now c.args.store.now a.answerable.basis entries c.args.self.now.work
           c.args.self.now.few a.answerable.plain (record { right = a.answerable.right; whole = a.wholes }) c.args.question.now a.standing
           (none_is c.args.question.now.level c.is_none.result c.is_none.ensures c.if-is_none.true) c.in_ok-value.value
           kept c.pass_over.new.question
@@ -56,7 +56,7 @@ returns-in-Some g c =
     let kept = sym (ap (λ w. Some w) c.in_ok-value.ensures ∙ c.in-Some.ensures) in
     let e = c.go_along.ensures in
     record {
-      turned = goes_past c.args.rules.now c.args.store.now g.K.Keeper.exact before (g.K.Keeper.contents c.go_along.new.self.keeper)
+      turned = goes_past c.args.rules.now c.args.store.now before (g.K.Keeper.contents c.go_along.new.self.keeper)
           (g.K.Keeper.memories c.args.self.now.keeper) (g.K.Keeper.memories c.go_along.new.self.keeper) c.args.self.now.work
           c.go_along.new.self.work c.args.question.now c.go_along.new.question a.answerable a.standing _ kept
           (not_none_level c.args.question.now.level c.is_none.result c.is_none.ensures c.if-is_none.false) c.go_along.new.trials

@@ -15,7 +15,7 @@ use Rattle.at_demand.proofs.demand.Demand.turns.Goals as goal
 
 pub loop-given-init : goal.loop-given-init
 loop-given-init g c = record {
-  so = given_none c.args.rules.now c.args.store.now g.K.Keeper.exact (g.K.Keeper.memories c.args.self.now.keeper) c.requires.can.answerable.basis (g.K.Keeper.contents c.args.self.now.keeper)
+  so = given_none c.args.rules.now c.args.store.now (g.K.Keeper.memories c.args.self.now.keeper) c.requires.can.answerable.basis (g.K.Keeper.contents c.args.self.now.keeper)
       c.args.self.now.work c.args.question.now c.args.self.now.few
       (record { right = c.requires.can.answerable.right; whole = c.requires.can.wholes }) c.requires.can.answerable.plain c.requires.can.standing;
   fit = none_fit c.args.rules.now c.args.store.now (g.K.Keeper.contents c.args.self.now.keeper) c.args.question.now c.new-trials.result
@@ -24,24 +24,24 @@ loop-given-init g c = record {
       c.new-trials.ensures.noted);
   within = omega arith;
   traces = stay_same (g.K.Keeper.memories c.args.self.now.keeper);
-  went = λ exact. begun;
+  went = begun;
 }
 
 pub loop-given-preserved : goal.loop-given-preserved
 loop-given-preserved g c =
-    let so = given_asked c.args.rules.now c.args.store.now g.K.Keeper.exact (g.K.Keeper.memories c.args.self.now.keeper)
+    let so = given_asked c.args.rules.now c.args.store.now (g.K.Keeper.memories c.args.self.now.keeper)
     c.requires.can.answerable.basis (g.K.Keeper.contents c.args.self.now.keeper) c.args.self.now.work c.args.question.now
     (g.K.Keeper.contents c.loop-given.self.keeper) c.loop-given.self.work c.loop-given.given c.loop-given.question c.loop-given.invariant.so
     (g.K.Keeper.memories c.loop-given.self.keeper) (g.K.Keeper.memories c.keep_again_in_turns.new.self.keeper)
     (g.K.Keeper.contents c.keep_again_in_turns.new.self.keeper) c.keep_again_in_turns.new.self.work c.loop-given.self.few c.loop-given.invariant.traces
     c.requires.justified (g.K.Keeper.kept_last c.loop-given.self.keeper) c.keeps_in_turns-again.result c.keeps_in_turns-again.ensures
     (λ off. let (entries, memories, work) = c.keep_again_in_turns.ensures.stays off in (entries, work)) c.keep_again_in_turns.ensures.kept in
-    let e = subst (λ (o : Option AnswerCode). HasTurnedWith {E = AllocError} c.args.rules.now c.args.store.now g.K.Keeper.exact
+    let e = subst (λ (o : Option AnswerCode). HasTurnedWith {E = AllocError} c.args.rules.now c.args.store.now
     (g.K.Keeper.contents c.keep_again_in_turns.new.self.keeper) (g.K.Keeper.contents c.turn_with.new.self.keeper) c.keep_again_in_turns.new.self.work
     c.turn_with.new.self.work c.loop-given.question c.turn_with.new.question c.turn_with.new.trials (Ok o)) c.in_default.is
     c.in_ok-told.ensures.turned in
     record {
-      so = given_more c.args.rules.now c.args.store.now g.K.Keeper.exact (g.K.Keeper.memories c.args.self.now.keeper) c.requires.can.answerable.basis
+      so = given_more c.args.rules.now c.args.store.now (g.K.Keeper.memories c.args.self.now.keeper) c.requires.can.answerable.basis
           (g.K.Keeper.contents c.args.self.now.keeper) c.args.self.now.work c.args.question.now (g.K.Keeper.contents c.keep_again_in_turns.new.self.keeper)
           c.keep_again_in_turns.new.self.work c.loop-given.given c.loop-given.question so
           (g.K.Keeper.contents c.turn_with.new.self.keeper) c.turn_with.new.self.work c.turn_with.new.question c.turn_with.new.trials e;
@@ -52,16 +52,16 @@ loop-given-preserved g c =
           (stay_then (g.K.Keeper.memories c.loop-given.self.keeper) (g.K.Keeper.memories c.keep_again_in_turns.new.self.keeper)
           (g.K.Keeper.memories c.turn_with.new.self.keeper) c.keep_again_in_turns.ensures.kept.stay
           (puts_stay (g.K.Keeper.memories c.keep_again_in_turns.new.self.keeper) (g.K.Keeper.memories c.turn_with.new.self.keeper) c.turn_with.ensures.traces));
-      went = λ exact. went_on g.K.Keeper.exact (g.K.Keeper.contents c.keep_again_in_turns.new.self.keeper) (g.K.Keeper.contents c.turn_with.new.self.keeper)
+      went = went_on (g.K.Keeper.contents c.keep_again_in_turns.new.self.keeper) (g.K.Keeper.contents c.turn_with.new.self.keeper)
           (g.K.Keeper.memories c.args.self.now.keeper) (g.K.Keeper.memories c.loop-given.self.keeper)
           (g.K.Keeper.memories c.keep_again_in_turns.new.self.keeper) (g.K.Keeper.memories c.turn_with.new.self.keeper) c.args.self.now.made
-          c.loop-given.self.made c.keep_again_in_turns.new.self.made c.turn_with.new.self.made (c.loop-given.invariant.went exact)
-          c.keep_again_in_turns.ensures.made c.keep_again_in_turns.ensures.kept.alike c.turn_with.ensures.traces c.turn_with.ensures.counts exact;
+          c.loop-given.self.made c.keep_again_in_turns.new.self.made c.turn_with.new.self.made c.loop-given.invariant.went
+          c.keep_again_in_turns.ensures.made c.keep_again_in_turns.ensures.kept.alike c.turn_with.ensures.traces c.turn_with.ensures.counts;
     }
 
 pub returns-in_err-told : goal.returns-in_err-told
 returns-in_err-told g c =
-    let so = given_asked c.args.rules.now c.args.store.now g.K.Keeper.exact (g.K.Keeper.memories c.args.self.now.keeper)
+    let so = given_asked c.args.rules.now c.args.store.now (g.K.Keeper.memories c.args.self.now.keeper)
     c.requires.can.answerable.basis (g.K.Keeper.contents c.args.self.now.keeper) c.args.self.now.work c.args.question.now
     (g.K.Keeper.contents c.loop-given.self.keeper) c.loop-given.self.work c.loop-given.given c.loop-given.question c.loop-given.invariant.so
     (g.K.Keeper.memories c.loop-given.self.keeper) (g.K.Keeper.memories c.keep_again_in_turns.new.self.keeper)
@@ -70,7 +70,7 @@ returns-in_err-told g c =
     (λ off. let (entries, memories, work) = c.keep_again_in_turns.ensures.stays off in (entries, work)) c.keep_again_in_turns.ensures.kept in
     let is = (err_from_is_err_and c.from_residual.result c.from_residual.ensures.1).1 in
     record {
-      turned = given_broken c.args.rules.now c.args.store.now g.K.Keeper.exact (g.K.Keeper.memories c.args.self.now.keeper) c.requires.can.answerable.basis
+      turned = given_broken c.args.rules.now c.args.store.now (g.K.Keeper.memories c.args.self.now.keeper) c.requires.can.answerable.basis
           (g.K.Keeper.contents c.args.self.now.keeper) c.args.self.now.work c.args.question.now (g.K.Keeper.contents c.keep_again_in_turns.new.self.keeper)
           c.keep_again_in_turns.new.self.work c.loop-given.given c.loop-given.question so
           (g.K.Keeper.contents c.turn_with.new.self.keeper) c.turn_with.new.self.work c.turn_with.new.question c.turn_with.new.trials
@@ -81,28 +81,28 @@ returns-in_err-told g c =
           (stay_then (g.K.Keeper.memories c.loop-given.self.keeper) (g.K.Keeper.memories c.keep_again_in_turns.new.self.keeper)
           (g.K.Keeper.memories c.turn_with.new.self.keeper) c.keep_again_in_turns.ensures.kept.stay
           (puts_stay (g.K.Keeper.memories c.keep_again_in_turns.new.self.keeper) (g.K.Keeper.memories c.turn_with.new.self.keeper) c.turn_with.ensures.traces));
-      went = λ exact. went_on g.K.Keeper.exact (g.K.Keeper.contents c.keep_again_in_turns.new.self.keeper) (g.K.Keeper.contents c.turn_with.new.self.keeper)
+      went = went_on (g.K.Keeper.contents c.keep_again_in_turns.new.self.keeper) (g.K.Keeper.contents c.turn_with.new.self.keeper)
           (g.K.Keeper.memories c.args.self.now.keeper) (g.K.Keeper.memories c.loop-given.self.keeper)
           (g.K.Keeper.memories c.keep_again_in_turns.new.self.keeper) (g.K.Keeper.memories c.turn_with.new.self.keeper) c.args.self.now.made
-          c.loop-given.self.made c.keep_again_in_turns.new.self.made c.turn_with.new.self.made (c.loop-given.invariant.went exact)
-          c.keep_again_in_turns.ensures.made c.keep_again_in_turns.ensures.kept.alike c.turn_with.ensures.traces c.turn_with.ensures.counts exact;
+          c.loop-given.self.made c.keep_again_in_turns.new.self.made c.turn_with.new.self.made c.loop-given.invariant.went
+          c.keep_again_in_turns.ensures.made c.keep_again_in_turns.ensures.kept.alike c.turn_with.ensures.traces c.turn_with.ensures.counts;
     }
 
 pub returns-in-Some : goal.returns-in-Some
 returns-in-Some g c =
-    let so = given_asked c.args.rules.now c.args.store.now g.K.Keeper.exact (g.K.Keeper.memories c.args.self.now.keeper)
+    let so = given_asked c.args.rules.now c.args.store.now (g.K.Keeper.memories c.args.self.now.keeper)
     c.requires.can.answerable.basis (g.K.Keeper.contents c.args.self.now.keeper) c.args.self.now.work c.args.question.now
     (g.K.Keeper.contents c.loop-given.self.keeper) c.loop-given.self.work c.loop-given.given c.loop-given.question c.loop-given.invariant.so
     (g.K.Keeper.memories c.loop-given.self.keeper) (g.K.Keeper.memories c.keep_again_in_turns.new.self.keeper)
     (g.K.Keeper.contents c.keep_again_in_turns.new.self.keeper) c.keep_again_in_turns.new.self.work c.loop-given.self.few c.loop-given.invariant.traces
     c.requires.justified (g.K.Keeper.kept_last c.loop-given.self.keeper) c.keeps_in_turns-again.result c.keeps_in_turns-again.ensures
     (λ off. let (entries, memories, work) = c.keep_again_in_turns.ensures.stays off in (entries, work)) c.keep_again_in_turns.ensures.kept in
-    let e = subst (λ (o : Option AnswerCode). HasTurnedWith {E = AllocError} c.args.rules.now c.args.store.now g.K.Keeper.exact
+    let e = subst (λ (o : Option AnswerCode). HasTurnedWith {E = AllocError} c.args.rules.now c.args.store.now
     (g.K.Keeper.contents c.keep_again_in_turns.new.self.keeper) (g.K.Keeper.contents c.turn_with.new.self.keeper) c.keep_again_in_turns.new.self.work
     c.turn_with.new.self.work c.loop-given.question c.turn_with.new.question c.turn_with.new.trials (Ok o)) c.in-Some.is
     c.in_ok-told.ensures.turned in
     record {
-      turned = given_answered c.args.rules.now c.args.store.now g.K.Keeper.exact (g.K.Keeper.memories c.args.self.now.keeper) c.requires.can.answerable.basis
+      turned = given_answered c.args.rules.now c.args.store.now (g.K.Keeper.memories c.args.self.now.keeper) c.requires.can.answerable.basis
           (g.K.Keeper.contents c.args.self.now.keeper) c.args.self.now.work c.args.question.now (g.K.Keeper.contents c.keep_again_in_turns.new.self.keeper)
           c.keep_again_in_turns.new.self.work c.loop-given.given c.loop-given.question so
           (g.K.Keeper.contents c.turn_with.new.self.keeper) c.turn_with.new.self.work c.turn_with.new.question c.turn_with.new.trials
@@ -112,16 +112,16 @@ returns-in-Some g c =
           (stay_then (g.K.Keeper.memories c.loop-given.self.keeper) (g.K.Keeper.memories c.keep_again_in_turns.new.self.keeper)
           (g.K.Keeper.memories c.turn_with.new.self.keeper) c.keep_again_in_turns.ensures.kept.stay
           (puts_stay (g.K.Keeper.memories c.keep_again_in_turns.new.self.keeper) (g.K.Keeper.memories c.turn_with.new.self.keeper) c.turn_with.ensures.traces));
-      went = λ exact. went_on g.K.Keeper.exact (g.K.Keeper.contents c.keep_again_in_turns.new.self.keeper) (g.K.Keeper.contents c.turn_with.new.self.keeper)
+      went = went_on (g.K.Keeper.contents c.keep_again_in_turns.new.self.keeper) (g.K.Keeper.contents c.turn_with.new.self.keeper)
           (g.K.Keeper.memories c.args.self.now.keeper) (g.K.Keeper.memories c.loop-given.self.keeper)
           (g.K.Keeper.memories c.keep_again_in_turns.new.self.keeper) (g.K.Keeper.memories c.turn_with.new.self.keeper) c.args.self.now.made
-          c.loop-given.self.made c.keep_again_in_turns.new.self.made c.turn_with.new.self.made (c.loop-given.invariant.went exact)
-          c.keep_again_in_turns.ensures.made c.keep_again_in_turns.ensures.kept.alike c.turn_with.ensures.traces c.turn_with.ensures.counts exact;
+          c.loop-given.self.made c.keep_again_in_turns.new.self.made c.turn_with.new.self.made c.loop-given.invariant.went
+          c.keep_again_in_turns.ensures.made c.keep_again_in_turns.ensures.kept.alike c.turn_with.ensures.traces c.turn_with.ensures.counts;
     }
 
 pub returns : goal.returns
 returns g c = record {
-  turned = given_all c.args.rules.now c.args.store.now g.K.Keeper.exact (g.K.Keeper.memories c.args.self.now.keeper) c.requires.can.answerable.basis (g.K.Keeper.contents c.args.self.now.keeper)
+  turned = given_all c.args.rules.now c.args.store.now (g.K.Keeper.memories c.args.self.now.keeper) c.requires.can.answerable.basis (g.K.Keeper.contents c.args.self.now.keeper)
       c.args.self.now.work c.args.question.now (g.K.Keeper.contents c.loop-given.self.keeper) c.loop-given.self.work c.loop-given.given
       c.args.limit c.loop-given.question c.loop-given.invariant.so (omega (arith, c.loop-given-test.false, c.loop-given.invariant.within));
   traces = c.loop-given.invariant.traces;
@@ -130,7 +130,7 @@ returns g c = record {
 
 pub turn_with-requires : goal.turn_with-requires
 turn_with-requires g c =
-    let so = given_asked c.args.rules.now c.args.store.now g.K.Keeper.exact (g.K.Keeper.memories c.args.self.now.keeper)
+    let so = given_asked c.args.rules.now c.args.store.now (g.K.Keeper.memories c.args.self.now.keeper)
     c.requires.can.answerable.basis (g.K.Keeper.contents c.args.self.now.keeper) c.args.self.now.work c.args.question.now
     (g.K.Keeper.contents c.loop-given.self.keeper) c.loop-given.self.work c.loop-given.given c.loop-given.question c.loop-given.invariant.so
     (g.K.Keeper.memories c.loop-given.self.keeper) (g.K.Keeper.memories c.keep_again_in_turns.new.self.keeper)
@@ -149,7 +149,7 @@ turn_with-requires g c =
       };
       fit = record {
         chain = fit_grown c.args.rules.now c.args.store.now old mid
-            (again_stays l old mid (settled_again g.K.Keeper.exact l q.inst c.keep_again_in_turns.ensures.kept.count old mid
+            (again_stays l old mid (settled_again l q.inst c.keep_again_in_turns.ensures.kept.count old mid
             c.keep_again_in_turns.ensures.kept.settled))
             q c.loop-given.trials.frames.items c.loop-given.trials.awaited c.loop-given.invariant.fit.chain;
         noted = c.loop-given.invariant.fit.noted;

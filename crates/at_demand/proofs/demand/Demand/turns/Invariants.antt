@@ -1,5 +1,4 @@
 use Rattle.std.proofs.Common.{◌≤◌, ◌-◌}
-use Rattle.std.specs.Prelude.{IsTrue}
 use Rattle.at_cache.specs.Traced.{StayTraced}
 use Rattle.at_demand.specs.KeptTrials.{Fit}
 use Rattle.at_demand.specs.Went.{Went}
@@ -8,12 +7,12 @@ use Rattle.at_demand.proofs.demand.Demand.turns.Given as goal
 
 abbrev pub invariant-loop-given : goal.invariant-loop-given
 invariant-loop-given g l = record {
-  so : HasGivenSo l.rules l.store g.K.Keeper.exact (g.K.Keeper.memories l.initial.self.keeper) (g.K.Keeper.contents l.initial.self.keeper) (g.K.Keeper.contents l.self.keeper)
+  so : HasGivenSo l.rules l.store (g.K.Keeper.memories l.initial.self.keeper) (g.K.Keeper.contents l.initial.self.keeper) (g.K.Keeper.contents l.self.keeper)
       l.initial.self.work l.self.work l.given l.initial.question l.question;
   fit : Fit l.rules l.store (g.K.Keeper.contents l.self.keeper) l.question l.trials;
   within : l.given ≤ l.limit;
   traces : StayTraced (g.K.Keeper.memories l.initial.self.keeper) (g.K.Keeper.memories l.self.keeper);
-  went : IsTrue g.K.Keeper.exact → Went (g.K.Keeper.memories l.initial.self.keeper) l.initial.self.made (g.K.Keeper.memories l.self.keeper) l.self.made;
+  went : Went (g.K.Keeper.memories l.initial.self.keeper) l.initial.self.made (g.K.Keeper.memories l.self.keeper) l.self.made;
 }
 
 abbrev pub decreases-loop-given : goal.decreases-loop-given

@@ -59,7 +59,7 @@ afresh-keep-requires g n c =
         held = held_after c.keep_again.ensures.grown;
         come = evaluated_more c.keep_again.ensures.grown (held_after c.evaluate.ensures.grown) i
             (value_view c.in_ok-value.value) c.evaluate.new.level.reads c.evaluate.new.level.uses.items
-            (evaluated_in rules s g.K.Keeper.exact first c.level-below.result c.evaluate.new.level i
+            (evaluated_in rules s first c.level-below.result c.evaluate.new.level i
             (value_view c.in_ok-value.value) c.in_ok-value.ensures.come c.level-below.ensures.reads
             c.level-below.ensures.uses);
       };
@@ -78,7 +78,7 @@ inner-remember-requires g n c = record {
       let d = c.evaluate.new.self in
       let known = known_by (g.K.Keeper.contents c.evaluate.new.keeper) d.found.entries in
       let h = held_by g.K.Keeper.contents g.K.Keeper.memories c.evaluate.new.keeper c.evaluate.new.self in
-      let rest = evaluated_behind rules s g.K.Keeper.exact h c.args.level.now c.evaluate.new.level i v
+      let rest = evaluated_behind rules s h c.args.level.now c.evaluate.new.level i v
       c.in_ok-value.ensures.come in
       let below = c.in_ok-below.below in
       let long : List (Location ℕ) = c.evaluate.new.level.reads in
@@ -102,7 +102,7 @@ verify-in_the_way-requires g n c = held_after c.keep_again.ensures.grown
 
 pub verify-loop-init : goal.verify-loop-init
 verify-loop-init g n c = record {
-  grown = grown_none _ _ _ c.args.needed.now _ c.args.self.now.few c.requires.held;
+  grown = grown_none _ _ c.args.needed.now _ c.args.self.now.few c.requires.held;
   level = refl;
   unkept = c.requires.unkept;
 }
@@ -260,7 +260,7 @@ pub inner-returns-then-is_small : goal.inner-returns-then-is_small
 inner-returns-then-is_small g n c = record {
   told =
       let h = held_by g.K.Keeper.contents g.K.Keeper.memories c.evaluate.new.keeper c.evaluate.new.self in
-      inner_told c.args.basis.now.rules.now c.args.basis.now.store.now g.K.Keeper.exact h c.args.level.now
+      inner_told c.args.basis.now.rules.now c.args.basis.now.store.now h c.args.level.now
       c.evaluate.new.level c.args.needed (value_view c.in_ok-value.value) c.in_ok-value.ensures.come c.requires.lazy;
   grown = search rules;
 }
@@ -268,14 +268,14 @@ inner-returns-then-is_small g n c = record {
 pub inner-split_off-requires-clause-reads : goal.inner-split_off-requires-clause-reads
 inner-split_off-requires-clause-reads g n c =
     let h = held_by g.K.Keeper.contents g.K.Keeper.memories c.evaluate.new.keeper c.evaluate.new.self in
-    let longer = reads_longer c.args.basis.now.rules.now c.args.basis.now.store.now g.K.Keeper.exact h c.args.level.now
+    let longer = reads_longer c.args.basis.now.rules.now c.args.basis.now.store.now h c.args.level.now
     c.evaluate.new.level c.args.needed (value_view c.in_ok-value.value) c.in_ok-value.ensures.come in
     omega (arith, c.len-reads.ensures, longer)
 
 pub inner-split_off-requires-clause-uses : goal.inner-split_off-requires-clause-uses
 inner-split_off-requires-clause-uses g n c =
     let h = held_by g.K.Keeper.contents g.K.Keeper.memories c.evaluate.new.keeper c.evaluate.new.self in
-    let longer = uses_longer c.args.basis.now.rules.now c.args.basis.now.store.now g.K.Keeper.exact h c.args.level.now
+    let longer = uses_longer c.args.basis.now.rules.now c.args.basis.now.store.now h c.args.level.now
     c.evaluate.new.level c.args.needed (value_view c.in_ok-value.value) c.in_ok-value.ensures.come in
     omega (arith, c.len-uses.ensures, longer)
 
@@ -298,10 +298,10 @@ inner-returns g n c =
     let long : List (Location ℕ) = c.evaluate.new.level.reads in
     let many : List (Instance ℕ) = c.evaluate.new.level.uses.items in
     let reads : c.split_off.new.self.reads ≡ old.reads = c.in_ok-below.ensures.front.0 ∙ ap (λ k. take k long)
-    c.len-reads.ensures ∙ reads_before rules s g.K.Keeper.exact first old c.evaluate.new.level i v come in
+    c.len-reads.ensures ∙ reads_before rules s first old c.evaluate.new.level i v come in
     let count : c.len-uses.result ≡ length old.uses.items = omega (arith, c.len-uses.ensures, old.uses.ok.0) in
     let uses : c.split_off.new.self.uses.items ≡ old.uses.items = c.in_ok-below.ensures.front.1 ∙ ap (λ k. take k many)
-    count ∙ uses_before rules s g.K.Keeper.exact first old c.evaluate.new.level i v come in
+    count ∙ uses_before rules s first old c.evaluate.new.level i v come in
     record {
       told = told_alike rules s last old c.split_off.new.self c.remember.new.level i v reads uses
           c.in_ok-remember.ensures.told;
@@ -312,8 +312,8 @@ pub evaluate-returns-in_err-begun : goal.evaluate-returns-in_err-begun
 evaluate-returns-in_err-begun g n c = record {
   come = search rules;
   unkept = search rules;
-  grown = grown_evaluated _ _ _ c.args.basis.now.idle c.args.inst.now _ _ c.requires.own
-      (nothing_gained _ _ _ _ _ c.args.self.now.few c.requires.held);
+  grown = grown_evaluated _ _ c.args.basis.now.idle c.args.inst.now _ _ c.requires.own
+      (nothing_gained _ _ _ _ c.args.self.now.few c.requires.held);
 }
 
 pub evaluate-returns : goal.evaluate-returns
@@ -324,8 +324,8 @@ evaluate-returns g n c =
     let old = held_by g.K.Keeper.contents g.K.Keeper.memories c.args.keeper.now c.args.self.now in
     let new = held_by g.K.Keeper.contents g.K.Keeper.memories c.operand.new.keeper c.operand.new.self in
     let run = ev rules.classes (body_view c.in_ok-begun.begun.1.now) (place_at c.in_ok-begun.begun.0) in
-    let gained : HasGained rules s g.K.Keeper.exact (equations rules i) old new =
-    gains_begun rules s g.K.Keeper.exact old new c.args.level.now.reads c.begin.new.reads (equations rules i) run
+    let gained : HasGained rules s (equations rules i) old new =
+    gains_begun rules s old new c.args.level.now.reads c.begin.new.reads (equations rules i) run
     c.in_ok-begun.ensures c.operand.ensures.gains in
     let come : IfOk c.operand.result (λ v. HasCome rules (contents s) new c.args.level.now c.operand.new.level
     (equations rules i) (value_view v)) =
@@ -334,79 +334,79 @@ evaluate-returns g n c =
     (value_view v) refl c.in_ok-begun.ensures h) c.operand.ensures.come in
     record {
       come = come;
-      unkept = unkept_result rules s g.K.Keeper.exact c.operand.result i old new c.args.level.now c.operand.new.level
+      unkept = unkept_result rules s c.operand.result i old new c.args.level.now c.operand.new.level
           c.requires.own gained come;
-      grown = grown_evaluated rules s g.K.Keeper.exact c.args.basis.now.idle i old new c.requires.own gained;
+      grown = grown_evaluated rules s c.args.basis.now.idle i old new c.requires.own gained;
     }
 
 pub operand-returns-in_err-at_once : goal.operand-returns-in_err-at_once
 operand-returns-in_err-at_once g n c = record {
   come = search rules;
-  gains = nothing_gained _ _ _ _ _ c.args.self.now.few c.requires;
+  gains = nothing_gained _ _ _ _ c.args.self.now.few c.requires;
 }
 
 pub operand-returns-in-Some : goal.operand-returns-in-Some
-operand-returns-in-Some g n c = at_once_some _ _ _ _ _ _ c.value_at_once.new.reads _ c.in-Some.value
+operand-returns-in-Some g n c = at_once_some _ _ _ _ _ c.value_at_once.new.reads _ c.in-Some.value
     c.args.self.now.few c.requires c.in_ok-at_once.ensures c.in-Some.is
 
 pub operand-returns-in-None : goal.operand-returns-in-None
-operand-returns-in-None g n c = at_once_none _ _ _ _ _ _ _ c.value_at_once.new.reads _ c.in_ok-at_once.ensures
+operand-returns-in-None g n c = at_once_none _ _ _ _ _ _ c.value_at_once.new.reads _ c.in_ok-at_once.ensures
     c.in-None.is c.value.new.level c.value.result c.value.ensures
 
 pub one-returns-in_err-value : goal.one-returns-in_err-value
 one-returns-in_err-value g n c = record {
   come = search rules;
-  gains = one_gains _ _ _ (place_at c.args.here.now) c.args.unary c.args.operand.now _ _ c.operand.ensures.gains;
+  gains = one_gains _ _ (place_at c.args.here.now) c.args.unary c.args.operand.now _ _ c.operand.ensures.gains;
 }
 
 pub one-returns : goal.one-returns
 one-returns g n c = record {
-  come = one_come _ _ _ (place_at c.args.here.now) c.args.unary c.args.operand.now c.in_ok-value.value c.with_one.result
+  come = one_come _ _ (place_at c.args.here.now) c.args.unary c.args.operand.now c.in_ok-value.value c.with_one.result
       _ _ _ _ _ refl c.operand.ensures.gains c.in_ok-value.ensures.come c.with_one.ensures;
-  gains = one_gains _ _ _ (place_at c.args.here.now) c.args.unary c.args.operand.now _ _ c.operand.ensures.gains;
+  gains = one_gains _ _ (place_at c.args.here.now) c.args.unary c.args.operand.now _ _ c.operand.ensures.gains;
 }
 
 pub two-returns-in_err-first : goal.two-returns-in_err-first
 two-returns-in_err-first g n c = record {
   come = search rules;
-  gains = two_gains_first _ _ _ (place_at c.args.here.now) c.args.binary c.args.left.now c.args.right.now _ _
+  gains = two_gains_first _ _ (place_at c.args.here.now) c.args.binary c.args.left.now c.args.right.now _ _
       c.operand.ensures.gains;
 }
 
 pub two-returns-in_err-second : goal.two-returns-in_err-second
 two-returns-in_err-second g n c = record {
   come = search rules;
-  gains = two_gains _ _ _ (place_at c.args.here.now) c.args.binary c.args.left.now c.args.right.now c.in_ok-first.first
+  gains = two_gains _ _ (place_at c.args.here.now) c.args.binary c.args.left.now c.args.right.now c.in_ok-first.first
       _ _ _ _ _ c.operand.ensures.gains c.in_ok-first.ensures.come c.operand-2.ensures.gains;
 }
 
 pub two-returns : goal.two-returns
 two-returns g n c = record {
-  come = two_come _ _ _ (place_at c.args.here.now) c.args.binary c.args.left.now c.args.right.now c.in_ok-first.first
+  come = two_come _ _ (place_at c.args.here.now) c.args.binary c.args.left.now c.args.right.now c.in_ok-first.first
       c.in_ok-second.second c.with_two.result _ _ _ _ _ _ _ refl c.operand.ensures.gains c.in_ok-first.ensures.come
       c.operand-2.ensures.gains c.in_ok-second.ensures.come c.with_two.ensures;
-  gains = two_gains _ _ _ (place_at c.args.here.now) c.args.binary c.args.left.now c.args.right.now c.in_ok-first.first
+  gains = two_gains _ _ (place_at c.args.here.now) c.args.binary c.args.left.now c.args.right.now c.in_ok-first.first
       _ _ _ _ _ c.operand.ensures.gains c.in_ok-first.ensures.come c.operand-2.ensures.gains;
 }
 
 pub compared-returns-in_err-at_once : goal.compared-returns-in_err-at_once
 compared-returns-in_err-at_once g n c = record {
   come = search rules;
-  gains = nothing_gained _ _ _ _ _ c.args.self.now.few c.requires.held;
+  gains = nothing_gained _ _ _ _ c.args.self.now.few c.requires.held;
 }
 
 pub compared-returns-in-Some : goal.compared-returns-in-Some
-compared-returns-in-Some g n c = at_once_some _ _ _ _ _ _ c.compare.new.reads _ c.in-Some.value
+compared-returns-in-Some g n c = at_once_some _ _ _ _ _ c.compare.new.reads _ c.in-Some.value
     c.args.self.now.few c.requires.held (c.in_ok-at_once.ensures c.args.basis.now.rules.now.classes) c.in-Some.is
 
 pub compared-returns-in-None : goal.compared-returns-in-None
-compared-returns-in-None g n c = at_once_none _ _ _ _ _ _ _ c.compare.new.reads _
+compared-returns-in-None g n c = at_once_none _ _ _ _ _ _ c.compare.new.reads _
     (c.in_ok-at_once.ensures c.args.basis.now.rules.now.classes) c.in-None.is c.in_turn.new.level c.in_turn.result
     c.in_turn.ensures
 
 pub in_turn-returns-in-Some : goal.in_turn-returns-in-Some
 in_turn-returns-in-Some g n c =
-    subst (λ (r : Run ℕ (Value ℕ)). EvaluatesTo c.args.basis.now.rules.now c.args.basis.now.store.now g.K.Keeper.exact (ev
+    subst (λ (r : Run ℕ (Value ℕ)). EvaluatesTo c.args.basis.now.rules.now c.args.basis.now.store.now (ev
     c.args.basis.now.rules.now.classes (body_view c.args.left.now) (place_at c.args.here.now) >>= λ v. r >>= with_two
     c.args.comparison v) value_view (held_by g.K.Keeper.contents g.K.Keeper.memories c.args.keeper.now c.args.self.now)
     (held_by g.K.Keeper.contents g.K.Keeper.memories c.beside.new.keeper c.beside.new.self) c.args.level.now
@@ -415,35 +415,35 @@ in_turn-returns-in-Some g n c =
 pub beside-returns-in_err-value : goal.beside-returns-in_err-value
 beside-returns-in_err-value g n c = record {
   come = search rules;
-  gains = beside_gains _ _ _ (place_at c.args.here.now) c.args.comparison c.args.text.now c.args.left.now _ _
+  gains = beside_gains _ _ (place_at c.args.here.now) c.args.comparison c.args.text.now c.args.left.now _ _
       c.operand.ensures.gains;
 }
 
 pub beside-returns : goal.beside-returns
 beside-returns g n c = record {
-  come = beside_come _ _ _ (place_at c.args.here.now) c.args.comparison c.args.text.now c.args.left.now
+  come = beside_come _ _ (place_at c.args.here.now) c.args.comparison c.args.text.now c.args.left.now
       c.in_ok-value.value c.compare_with.result _ _ _ _ c.operand.ensures.gains c.in_ok-value.ensures.come
       c.compare_with.ensures;
-  gains = beside_gains _ _ _ (place_at c.args.here.now) c.args.comparison c.args.text.now c.args.left.now _ _
+  gains = beside_gains _ _ (place_at c.args.here.now) c.args.comparison c.args.text.now c.args.left.now _ _
       c.operand.ensures.gains;
 }
 
 pub either-returns-in_err-value : goal.either-returns-in_err-value
 either-returns-in_err-value g n c = record {
   come = search rules;
-  gains = either_gains_test _ _ _ (place_at c.args.here.now) c.args.test.now c.args.yes c.args.no _ _
+  gains = either_gains_test _ _ (place_at c.args.here.now) c.args.test.now c.args.yes c.args.no _ _
       c.value.ensures.gains;
 }
 
 pub either-returns-in_err-holds : goal.either-returns-in_err-holds
 either-returns-in_err-holds g n c = record {
   come = search rules;
-  gains = either_gains_test _ _ _ (place_at c.args.here.now) c.args.test.now c.args.yes c.args.no _ _
+  gains = either_gains_test _ _ (place_at c.args.here.now) c.args.test.now c.args.yes c.args.no _ _
       c.value.ensures.gains;
 }
 
 pub either-returns-in-Some : goal.either-returns-in-Some
-either-returns-in-Some g n c = either_ends _ _ _ (place_at c.args.here.now) c.args.test.now c.args.yes c.args.no
+either-returns-in-Some g n c = either_ends _ _ (place_at c.args.here.now) c.args.test.now c.args.yes c.args.no
     c.in_ok-value.value c.in_ok-holds.holds (ev c.args.basis.now.rules.now.classes (body_view c.in-Some.body.now)
     (place_at c.args.here.now)) _ _ _ _ _ c.in_ok-holds.ensures (ap (λ o. or_truth c.args.basis.now.rules.now.classes
     (place_at c.args.here.now) o c.in_ok-holds.holds) (sym c.in-Some.is) ∙ c.chosen.ensures
@@ -451,12 +451,12 @@ either-returns-in-Some g n c = either_ends _ _ _ (place_at c.args.here.now) c.ar
     c.operand.ensures.gains c.operand.result c.operand.new.level c.operand.ensures.come
 
 pub either-returns : goal.either-returns
-either-returns g n c = either_ends _ _ _ (place_at c.args.here.now) c.args.test.now c.args.yes c.args.no
+either-returns g n c = either_ends _ _ (place_at c.args.here.now) c.args.test.now c.args.yes c.args.no
     c.in_ok-value.value c.in_ok-holds.holds (Gives (Truth c.in_ok-holds.holds)) _ _ _ _ _ c.in_ok-holds.ensures
     (ap (λ o. or_truth c.args.basis.now.rules.now.classes (place_at c.args.here.now) o c.in_ok-holds.holds)
     (sym c.in-None.is) ∙ c.chosen.ensures c.args.basis.now.rules.now.classes (place_at c.args.here.now))
     c.value.ensures.gains c.in_ok-value.ensures.come (nothing_gained c.args.basis.now.rules.now
-    c.args.basis.now.store.now g.K.Keeper.exact (Gives (Truth c.in_ok-holds.holds)) _ c.value.new.self.few
+    c.args.basis.now.store.now (Gives (Truth c.in_ok-holds.holds)) _ c.value.new.self.few
     c.value.ensures.gains.right) (Ok (value.Bool c.in_ok-holds.holds)) c.value.new.level (come_gives
     c.args.basis.now.rules.now c.args.basis.now.store.now _ c.value.new.level (Gives (Truth c.in_ok-holds.holds))
     (Truth c.in_ok-holds.holds) refl)
@@ -464,14 +464,14 @@ either-returns g n c = either_ends _ _ _ (place_at c.args.here.now) c.args.test.
 pub call-returns-in_err-value : goal.call-returns-in_err-value
 call-returns-in_err-value g n c = record {
   come = search rules;
-  gains = call_gains_first _ _ _ (place_at c.args.here.now) c.args.receiver.now c.args.attribute c.args.passed.now _ _
+  gains = call_gains_first _ _ (place_at c.args.here.now) c.args.receiver.now c.args.attribute c.args.passed.now _ _
       c.operand.ensures.gains;
 }
 
 pub call-returns-in_err-arguments : goal.call-returns-in_err-arguments
 call-returns-in_err-arguments g n c = record {
   come = search rules;
-  gains = call_gains_second _ _ _ (place_at c.args.here.now) c.args.receiver.now c.args.attribute c.args.passed.now
+  gains = call_gains_second _ _ (place_at c.args.here.now) c.args.receiver.now c.args.attribute c.args.passed.now
       c.in_ok-value.value _ _ (held_by g.K.Keeper.contents g.K.Keeper.memories c.passed.new.keeper c.passed.new.self) _
       _ c.operand.ensures.gains c.in_ok-value.ensures.come c.passed.ensures.gains;
 }
@@ -479,13 +479,13 @@ call-returns-in_err-arguments g n c = record {
 pub call-returns-in_err-node : goal.call-returns-in_err-node
 call-returns-in_err-node g n c = record {
   come = search rules;
-  gains = call_gains_second _ _ _ (place_at c.args.here.now) c.args.receiver.now c.args.attribute c.args.passed.now
+  gains = call_gains_second _ _ (place_at c.args.here.now) c.args.receiver.now c.args.attribute c.args.passed.now
       c.in_ok-value.value _ _ (held_by g.K.Keeper.contents g.K.Keeper.memories c.passed.new.keeper c.passed.new.self) _
       _ c.operand.ensures.gains c.in_ok-value.ensures.come c.passed.ensures.gains;
 }
 
 pub call-returns : goal.call-returns
-call-returns g n c = call_ends _ _ _ (place_at c.args.here.now) c.args.receiver.now c.args.attribute c.args.passed.now
+call-returns g n c = call_ends _ _ (place_at c.args.here.now) c.args.receiver.now c.args.attribute c.args.passed.now
     c.in_ok-value.value _ _ (held_by g.K.Keeper.contents g.K.Keeper.memories c.passed.new.keeper c.passed.new.self) _ _
     c.operand.ensures.gains c.in_ok-value.ensures.come c.passed.ensures.gains c.in_ok-node.node
     c.in_ok-arguments.arguments (held_by g.K.Keeper.contents g.K.Keeper.memories c.told.new.keeper c.told.new.self)
@@ -495,26 +495,26 @@ call-returns g n c = call_ends _ _ _ (place_at c.args.here.now) c.args.receiver.
 pub over-returns-in_err-value : goal.over-returns-in_err-value
 over-returns-in_err-value g n c = record {
   come = search rules;
-  gains = fold_gains_first _ _ _ (place_at c.args.here.now) c.args.fold c.args.of.now c.args.part c.args.body.now _ _
+  gains = fold_gains_first _ _ (place_at c.args.here.now) c.args.fold c.args.of.now c.args.part c.args.body.now _ _
       c.operand.ensures.gains;
 }
 
 pub over-returns-in_err-node : goal.over-returns-in_err-node
 over-returns-in_err-node g n c = record {
   come = search rules;
-  gains = fold_gains_first _ _ _ (place_at c.args.here.now) c.args.fold c.args.of.now c.args.part c.args.body.now _ _
+  gains = fold_gains_first _ _ (place_at c.args.here.now) c.args.fold c.args.of.now c.args.part c.args.body.now _ _
       c.operand.ensures.gains;
 }
 
 pub over-returns-in_err-push : goal.over-returns-in_err-push
 over-returns-in_err-push g n c = record {
   come = search rules;
-  gains = fold_gains_first _ _ _ (place_at c.args.here.now) c.args.fold c.args.of.now c.args.part c.args.body.now _ _
+  gains = fold_gains_first _ _ (place_at c.args.here.now) c.args.fold c.args.of.now c.args.part c.args.body.now _ _
       c.operand.ensures.gains;
 }
 
 pub over-returns : goal.over-returns
-over-returns g n c = fold_ends _ _ _ (place_at c.args.here.now) c.args.fold c.args.of.now c.args.part c.args.body.now
+over-returns g n c = fold_ends _ _ (place_at c.args.here.now) c.args.fold c.args.of.now c.args.part c.args.body.now
     c.in_ok-value.value c.in_ok-node.node c.children.result.now _ _ _ _ _
     (record { reads = c.push.new.self; uses = c.operand.new.level.uses }) c.in_ok-node.ensures c.children.ensures.shown
     c.in_ok-push.ensures.gained c.operand.ensures.gains c.in_ok-value.ensures.come c.each.ensures.gains c.each.result
@@ -527,18 +527,18 @@ passed-returns-then-hands_on g n c = record {
       c.args.basis.now.rules.now.classes (bodies_view c.args.passed.now) (place_at c.args.here.now)) (map value_view a)
       (c.hands_on.ensures c.if-hands_on.true c.args.basis.now.rules.now.classes ∙ ap (λ (vs : List ValueCode). Gives
       (map value_view vs)) (sym h))) c.handed_on.ensures;
-  gains = nothing_gained _ _ _ _ _ c.args.self.now.few c.requires;
+  gains = nothing_gained _ _ _ _ c.args.self.now.few c.requires;
 }
 
 pub passed-loop-argument-init : goal.passed-loop-argument-init
 passed-loop-argument-init g n c =
-    starts _ _ _ _ c.args.level.now _ (λ vs. map value_view c.new-values.result.items ++ vs)
+    starts _ _ _ c.args.level.now _ (λ vs. map value_view c.new-values.result.items ++ vs)
     (λ vs. ap (λ (us : List ValueCode). map value_view us ++ vs) c.new-values.ensures.items) c.requires
 
 pub passed-returns-in_err-value : goal.passed-returns-in_err-value
 passed-returns-in_err-value g n c = record {
   come = no_ok c.from_residual.result _ _ c.from_residual.ensures.1;
-  gains = passed_gains _ _ _ (place_at c.args.here.now) _ _ _ _ _ _ c.value.new.level c.in-Some.argument.now
+  gains = passed_gains _ _ (place_at c.args.here.now) _ _ _ _ _ _ c.value.new.level c.in-Some.argument.now
       c.in-Some.others.now c.loop-argument.rest.now c.in-Some.ensures.cases.0 c.loop-argument.values.items
       c.loop-argument.invariant c.value.ensures.gains;
 }
@@ -546,21 +546,21 @@ passed-returns-in_err-value g n c = record {
 pub passed-returns-in_err-push : goal.passed-returns-in_err-push
 passed-returns-in_err-push g n c = record {
   come = search rules;
-  gains = passed_gains _ _ _ (place_at c.args.here.now) _ _ _ _ _ _ c.value.new.level c.in-Some.argument.now
+  gains = passed_gains _ _ (place_at c.args.here.now) _ _ _ _ _ _ c.value.new.level c.in-Some.argument.now
       c.in-Some.others.now c.loop-argument.rest.now c.in-Some.ensures.cases.0 c.loop-argument.values.items
       c.loop-argument.invariant c.value.ensures.gains;
 }
 
 pub passed-loop-argument-preserved : goal.passed-loop-argument-preserved
 passed-loop-argument-preserved g n c =
-    passed_on _ _ _ (place_at c.args.here.now) _ _ _ _ _ _ c.value.new.level c.in-Some.argument.now _ _
+    passed_on _ _ (place_at c.args.here.now) _ _ _ _ _ _ c.value.new.level c.in-Some.argument.now _ _
     c.in-Some.ensures.cases.0 c.loop-argument.values.items c.loop-argument.invariant c.value.ensures.gains
     c.in_ok-value.value c.push.new.self.items c.in_ok-push.ensures.items c.in_ok-value.ensures.come
 
 pub passed-returns-in_err-arguments : goal.passed-returns-in_err-arguments
 passed-returns-in_err-arguments g n c = record {
   come = search rules;
-  gains = gains_so_far _ _ _ _ _ _ _ _ _ _ c.loop-argument.self.few c.loop-argument.invariant;
+  gains = gains_so_far _ _ _ _ _ _ _ _ _ c.loop-argument.self.few c.loop-argument.invariant;
 }
 
 pub passed-returns : goal.passed-returns
@@ -568,10 +568,10 @@ passed-returns g n c = record {
   come = subst (λ (vs : List ValueCode). HasCome c.args.basis.now.rules.now (contents c.args.basis.now.store.now)
       (held_by g.K.Keeper.contents g.K.Keeper.memories c.loop-argument.keeper c.loop-argument.self) c.args.level.now
       c.loop-argument.level (ev_all c.args.basis.now.rules.now.classes (bodies_view c.args.passed.now) (place_at
-      c.args.here.now)) (map value_view vs)) (sym c.in_ok-arguments.ensures) (passed_all _ _ _ (place_at
+      c.args.here.now)) (map value_view vs)) (sym c.in_ok-arguments.ensures) (passed_all _ _ (place_at
       c.args.here.now) _ _ _ c.args.level.now c.loop-argument.level c.loop-argument.rest.now (nil_from_length _
       c.in_default.ensures.cases) c.loop-argument.values.items c.loop-argument.invariant);
-  gains = gains_so_far _ _ _ _ _ _ _ _ _ _ c.loop-argument.self.few c.loop-argument.invariant;
+  gains = gains_so_far _ _ _ _ _ _ _ _ _ c.loop-argument.self.few c.loop-argument.invariant;
 }
 
 pub each-asked_inside-asked_here-requires : goal.each-asked_inside-asked_here-requires
@@ -590,13 +590,13 @@ each-behind-requires-in-Some g n c = c.inner_of_each-asked.ensures
 pub each-returns-in_err-rest : goal.each-returns-in_err-rest
 each-returns-in_err-rest g n c = record {
   come = search rules;
-  gains = nothing_gained _ _ _ _ _ c.args.self.now.few c.requires;
+  gains = nothing_gained _ _ _ _ c.args.self.now.few c.requires;
 }
 
 pub each-returns-in_err-inside : goal.each-returns-in_err-inside
 each-returns-in_err-inside g n c = record {
   come = search rules;
-  gains = nothing_gained _ _ _ _ _ c.args.self.now.few c.requires;
+  gains = nothing_gained _ _ _ _ c.args.self.now.few c.requires;
 }
 
 pub each-loop-node-init : goal.each-loop-node-init
@@ -607,21 +607,21 @@ each-loop-node-init g n c =
     let whole = over rules.classes c.args.fold (body_view c.args.body.now) p c.args.nodes.now in
     record {
       place = c.in_ok-inside.ensures;
-      goes = goes_past rules s g.K.Keeper.exact p c.args.fold c.args.body.now whole _ _ c.args.level.now c.args.level.now c.behind.new.level
+      goes = goes_past rules s p c.args.fold c.args.body.now whole _ _ c.args.level.now c.args.level.now c.behind.new.level
           c.args.nodes.now c.in_ok-rest.rest.now c.args.self.now.few c.in_ok-rest.ensures
-          (starts rules s g.K.Keeper.exact _ c.args.level.now whole (λ v. v) (λ v. refl) c.requires);
+          (starts rules s _ c.args.level.now whole (λ v. v) (λ v. refl) c.requires);
     }
 
 pub each-returns-in_err-push : goal.each-returns-in_err-push
 each-returns-in_err-push g n c = record {
   come = search rules;
-  gains = gains_so_far _ _ _ _ _ _ _ _ _ _ c.loop-node.self.few c.loop-node.invariant.goes;
+  gains = gains_so_far _ _ _ _ _ _ _ _ _ c.loop-node.self.few c.loop-node.invariant.goes;
 }
 
 pub each-returns-in_err-value : goal.each-returns-in_err-value
 each-returns-in_err-value g n c = record {
   come = search rules;
-  gains = each_gains _ _ _ (place_at c.args.here.now) _ _ _ _ _ _ c.element.new.level c.loop-node.going c.args.body.now
+  gains = each_gains _ _ (place_at c.args.here.now) _ _ _ _ _ _ c.element.new.level c.loop-node.going c.args.body.now
       _ _ _ c.in-Some.ensures.cases.0 _ (bound_at _ _ _ _ c.loop-node.invariant.place c.in_ok-push.ensures)
       c.loop-node.invariant.goes c.element.ensures.gains;
 }
@@ -629,7 +629,7 @@ each-returns-in_err-value g n c = record {
 pub each-returns-in_err-next : goal.each-returns-in_err-next
 each-returns-in_err-next g n c = record {
   come = search rules;
-  gains = each_gains _ _ _ (place_at c.args.here.now) _ _ _ _ _ _ c.element.new.level c.loop-node.going c.args.body.now
+  gains = each_gains _ _ (place_at c.args.here.now) _ _ _ _ _ _ c.element.new.level c.loop-node.going c.args.body.now
       _ _ _ c.in-Some.ensures.cases.0 _ (bound_at _ _ _ _ c.loop-node.invariant.place c.in_ok-push.ensures)
       c.loop-node.invariant.goes c.element.ensures.gains;
 }
@@ -637,20 +637,20 @@ each-returns-in_err-next g n c = record {
 pub each-returns-in_err-rest-2 : goal.each-returns-in_err-rest-2
 each-returns-in_err-rest-2 g n c = record {
   come = search rules;
-  gains = each_gains _ _ _ (place_at c.args.here.now) _ _ _ _ _ _ c.element.new.level c.loop-node.going c.args.body.now
+  gains = each_gains _ _ (place_at c.args.here.now) _ _ _ _ _ _ c.element.new.level c.loop-node.going c.args.body.now
       _ _ _ c.in-Some.ensures.cases.0 _ (bound_at _ _ _ _ c.loop-node.invariant.place c.in_ok-push.ensures)
       c.loop-node.invariant.goes c.element.ensures.gains;
 }
 
 pub each-returns-in-End : goal.each-returns-in-End
 each-returns-in-End g n c = record {
-  come = each_ends _ _ _ (place_at c.args.here.now) _ _ _ _ _ _ c.element.new.level c.loop-node.going c.args.body.now _
+  come = each_ends _ _ (place_at c.args.here.now) _ _ _ _ _ _ c.element.new.level c.loop-node.going c.args.body.now _
       _ _ c.in-Some.ensures.cases.0 _ (bound_at _ _ _ _ c.loop-node.invariant.place c.in_ok-push.ensures)
       c.loop-node.invariant.goes c.element.ensures.gains (value_view c.in_ok-value.value) c.in_ok-value.ensures.come
       (value_view c.in-End.value) (c.in_ok-next.ensures c.args.basis.now.rules.now.classes (body_view c.args.body.now)
       (place_at c.args.here.now) c.in-Some.others.now ∙ ap (next_of c.args.basis.now.rules.now.classes (body_view
       c.args.body.now) (place_at c.args.here.now) c.in-Some.others.now) c.in-End.is);
-  gains = each_gains _ _ _ (place_at c.args.here.now) _ _ _ _ _ _ c.element.new.level c.loop-node.going c.args.body.now
+  gains = each_gains _ _ (place_at c.args.here.now) _ _ _ _ _ _ c.element.new.level c.loop-node.going c.args.body.now
       _ _ _ c.in-Some.ensures.cases.0 _ (bound_at _ _ _ _ c.loop-node.invariant.place c.in_ok-push.ensures)
       c.loop-node.invariant.goes c.element.ensures.gains;
 }
@@ -660,9 +660,9 @@ each-loop-node-preserved g n c =
     let p = place_at c.args.here.now in
     record {
       place = unbound_at _ p _ _ _ c.loop-node.invariant.place c.in_ok-push.ensures c.pop.ensures.left;
-      goes = goes_past _ _ _ p c.in-On.further c.args.body.now _ _ _ _ c.element.new.level
+      goes = goes_past _ _ p c.in-On.further c.args.body.now _ _ _ _ c.element.new.level
           c.behind-in-Some.new.level c.in-Some.others.now c.in_ok-rest-2.rest.now c.element.new.self.few
-          c.in_ok-rest-2.ensures (each_on c.args.basis.now.rules.now c.args.basis.now.store.now g.K.Keeper.exact p _ _ _
+          c.in_ok-rest-2.ensures (each_on c.args.basis.now.rules.now c.args.basis.now.store.now p _ _ _
           _ _ _ c.element.new.level c.loop-node.going c.args.body.now _ _ _ c.in-Some.ensures.cases.0 _
           (bound_at _ _ _ _ c.loop-node.invariant.place c.in_ok-push.ensures) c.loop-node.invariant.goes
           c.element.ensures.gains (value_view c.in_ok-value.value) c.in_ok-value.ensures.come c.in-On.further
@@ -676,9 +676,9 @@ each-loop-node-preserved-in_ok-rest-2 g n c =
     let p = place_at c.args.here.now in
     record {
       place = unbound_at _ p _ _ _ c.loop-node.invariant.place c.in_ok-push.ensures c.pop.ensures.left;
-      goes = goes_past _ _ _ p c.in-On.further c.args.body.now _ _ _ _ c.element.new.level
+      goes = goes_past _ _ p c.in-On.further c.args.body.now _ _ _ _ c.element.new.level
           c.behind-in-Some.new.level c.in-Some.others.now c.in_ok-rest-2.rest.now c.element.new.self.few
-          c.in_ok-rest-2.ensures (each_on c.args.basis.now.rules.now c.args.basis.now.store.now g.K.Keeper.exact p _ _ _
+          c.in_ok-rest-2.ensures (each_on c.args.basis.now.rules.now c.args.basis.now.store.now p _ _ _
           _ _ _ c.element.new.level c.loop-node.going c.args.body.now _ _ _ c.in-Some.ensures.cases.0 _
           (bound_at _ _ _ _ c.loop-node.invariant.place c.in_ok-push.ensures) c.loop-node.invariant.goes
           c.element.ensures.gains (value_view c.in_ok-value.value) c.in_ok-value.ensures.come c.in-On.further
@@ -701,11 +701,11 @@ each-loop-node-smaller-in_ok-rest-2 g n c =
 
 pub each-returns : goal.each-returns
 each-returns g n c = record {
-  come = each_all _ _ _ (place_at c.args.here.now) _ _ _ c.args.level.now c.loop-node.level c.loop-node.going
+  come = each_all _ _ (place_at c.args.here.now) _ _ _ c.args.level.now c.loop-node.level c.loop-node.going
       c.args.body.now c.loop-node.rest.now (nil_from_length _ c.in_default.ensures.cases) (value_view c.come_to.result)
       (c.come_to.ensures c.args.basis.now.rules.now.classes (body_view c.args.body.now) (place_at c.args.here.now))
       c.loop-node.invariant.goes;
-  gains = gains_so_far _ _ _ _ _ _ _ _ _ _ c.loop-node.self.few c.loop-node.invariant.goes;
+  gains = gains_so_far _ _ _ _ _ _ _ _ _ c.loop-node.self.few c.loop-node.invariant.goes;
 }
 
 -- element
@@ -715,7 +715,7 @@ element-plain_element-requires g n c = c.requires.0
 pub element-returns-in_err-at_once : goal.element-returns-in_err-at_once
 element-returns-in_err-at_once g n c = record {
   come = search rules;
-  gains = nothing_gained _ _ _ _ _ c.args.self.now.few c.requires.1;
+  gains = nothing_gained _ _ _ _ c.args.self.now.few c.requires.1;
 }
 
 pub element-returns-in-Some : goal.element-returns-in-Some
@@ -724,7 +724,7 @@ element-returns-in-Some g n c = record {
       c.plain_element.new.level (ev c.args.basis.now.rules.now.classes (body_view c.args.body.now) (place_at
       c.args.inside.now)) o) c.in-Some.is c.in_ok-at_once.ensures (held_by g.K.Keeper.contents g.K.Keeper.memories
       c.args.keeper.now c.args.self.now);
-  gains = nothing_gained _ _ _ _ _ c.args.self.now.few c.requires.1;
+  gains = nothing_gained _ _ _ _ c.args.self.now.few c.requires.1;
 }
 
 pub element-returns-in-None : goal.element-returns-in-None
@@ -736,13 +736,13 @@ element-returns-in-None g n c =
     let new = held_by g.K.Keeper.contents g.K.Keeper.memories c.value.new.keeper c.value.new.self in
     let same : c.plain_element.new.level ≡ c.args.level.now = subst (λ o. MayHaveCome rules (contents s) c.args.level.now
     c.plain_element.new.level run o) c.in-None.is c.in_ok-at_once.ensures in
-    subst (λ (l : Level). EvaluatesTo rules s g.K.Keeper.exact run value_view old new l c.value.new.level c.value.result)
+    subst (λ (l : Level). EvaluatesTo rules s run value_view old new l c.value.new.level c.value.result)
     same c.value.ensures
 
 pub value-returns-then-above-eq0 : goal.value-returns-then-above-eq0
 value-returns-then-above-eq0 g n c = record {
   come = search rules;
-  gains = nothing_gained _ _ _ _ _ c.args.self.now.few c.requires;
+  gains = nothing_gained _ _ _ _ c.args.self.now.few c.requires;
 }
 
 pub value-returns-in-One : goal.value-returns-in-One
@@ -782,17 +782,17 @@ value-returns-in-Plain g n c = record {
       (record { reads = c.value.new.reads; uses = c.args.level.now.uses }) (ev c.args.basis.now.rules.now.classes
       (body_view c.args.body.now) (place_at c.args.here.now)) (value_view v) refl h) (c.value.ensures
       c.args.basis.now.rules.now.classes);
-  gains = nothing_gained _ _ _ _ _ c.args.self.now.few c.requires;
+  gains = nothing_gained _ _ _ _ c.args.self.now.few c.requires;
 }
 
 pub told-returns-in_err-recalled : goal.told-returns-in_err-recalled
 told-returns-in_err-recalled g n c = record {
   told = search rules;
-  grown = grown_none _ _ _ c.args.needed _ c.args.self.now.few c.requires;
+  grown = grown_none _ _ c.args.needed _ c.args.self.now.few c.requires;
 }
 
 pub told-returns-in-Some : goal.told-returns-in-Some
 told-returns-in-Some g n c = record {
   told = search rules;
-  grown = grown_none _ _ _ c.args.needed _ c.args.self.now.few c.requires;
+  grown = grown_none _ _ c.args.needed _ c.args.self.now.few c.requires;
 }

@@ -64,7 +64,7 @@ decreases-call g l = 16 * l.above + 9
 
 abbrev pub invariant-verify-loop : goal.invariant-verify-loop
 invariant-verify-loop g l = record {
-  grown : HasGrown l.basis.rules.now l.basis.store.now g.K.Keeper.exact l.needed
+  grown : HasGrown l.basis.rules.now l.basis.store.now l.needed
       (held (g.K.Keeper.contents l.initial.keeper) (g.K.Keeper.memories l.initial.keeper) l.initial.self.found.entries l.initial.self.work l.initial.self.made)
       (held (g.K.Keeper.contents l.keeper) (g.K.Keeper.memories l.keeper) l.self.found.entries l.self.work l.self.made);
   level : l.level ≡ l.initial.level;
@@ -72,7 +72,7 @@ invariant-verify-loop g l = record {
 }
 
 abbrev pub invariant-passed-loop-argument : goal.invariant-passed-loop-argument
-invariant-passed-loop-argument g l = GoesOn l.basis.rules.now l.basis.store.now g.K.Keeper.exact
+invariant-passed-loop-argument g l = GoesOn l.basis.rules.now l.basis.store.now
     (held (g.K.Keeper.contents l.initial.keeper) (g.K.Keeper.memories l.initial.keeper) l.initial.self.found.entries
     l.initial.self.work l.initial.self.made)
     (held (g.K.Keeper.contents l.keeper) (g.K.Keeper.memories l.keeper) l.self.found.entries l.self.work l.self.made)
@@ -85,7 +85,7 @@ decreases-passed-loop-argument g l = length l.rest
 abbrev pub invariant-each-loop-node : goal.invariant-each-loop-node
 invariant-each-loop-node g l = record {
   place : place_at l.inside ≡ place_at l.here;
-  goes : GoesOn l.basis.rules.now l.basis.store.now g.K.Keeper.exact
+  goes : GoesOn l.basis.rules.now l.basis.store.now
       (held (g.K.Keeper.contents l.initial.keeper) (g.K.Keeper.memories l.initial.keeper) l.initial.self.found.entries
       l.initial.self.work l.initial.self.made)
       (held (g.K.Keeper.contents l.keeper) (g.K.Keeper.memories l.keeper) l.self.found.entries l.self.work l.self.made)

@@ -30,18 +30,18 @@ returns-clause-value g c =
     let new = g.K.Keeper.contents c.told.new.keeper in
     IfOk-weaker c.told.result _ _ (λ v h. subst (λ (i : Instance ℕ). HasValue (contents s) (meaning rules) i
     (value_view v)) c.in_ok-needed.ensures
-    (told_holds rules s g.K.Keeper.exact new c.told.new.self.found.entries c.in_ok-needed.needed (value_view v) h.looks
+    (told_holds rules s new c.told.new.self.found.entries c.in_ok-needed.needed (value_view v) h.looks
     h.takes c.told.ensures.grown.gains.known h.given)) c.told.ensures.told
 
 pub returns-clause-all : goal.returns-clause-all
-returns-clause-all g c = λ k spare.
+returns-clause-all g c = λ spare.
     let rules = c.args.basis.now.rules.now in
     let s = c.args.basis.now.store.now in
     let new = g.K.Keeper.contents c.told.new.keeper in
     IfOk-weaker c.told.result _ _ (λ v h. subst (λ (i : Instance ℕ). HasWorthy rules (contents s) i new)
     c.in_ok-needed.ensures
-    (told_whole rules s g.K.Keeper.exact new c.told.new.self.found.entries c.in_ok-needed.needed (value_view v) h.looks
-    h.takes (c.told.ensures.grown.gains.spare k spare) c.told.ensures.grown.gains.known h.given)) c.told.ensures.told
+    (told_whole rules s new c.told.new.self.found.entries c.in_ok-needed.needed (value_view v) h.looks
+    h.takes (c.told.ensures.grown.gains.spare spare) c.told.ensures.grown.gains.known h.given)) c.told.ensures.told
 
 pub returns-clause-grown : goal.returns-clause-grown
 returns-clause-grown g c = record {
@@ -51,7 +51,7 @@ returns-clause-grown g c = record {
       let self = c.args.self.now in
       let asks = c.level-asks.new.self in
       let later = c.told.new.self in
-      gains_from c.args.basis.now.rules.now c.args.basis.now.store.now g.K.Keeper.exact c.args.inst.now c.in_ok-needed.needed old new
+      gains_from c.args.basis.now.rules.now c.args.basis.now.store.now c.args.inst.now c.in_ok-needed.needed old new
       self.found.entries asks.found.entries later.found.entries self.work asks.work later.work
       c.in_ok-needed.ensures c.level-asks.ensures.found c.level-asks.ensures.work c.told.ensures.grown.gains;
   demanded = subst (λ (i : Instance ℕ). AreLed c.args.basis.now.rules.now c.args.basis.now.store.now i
@@ -68,10 +68,10 @@ returns-in_err-needed-clause-grown g c = record {
       let entries = g.K.Keeper.contents c.args.keeper.now in
       let self = c.args.self.now in
       let asks = c.level-asks.new.self in
-      gains_as c.args.basis.now.rules.now c.args.basis.now.store.now g.K.Keeper.exact c.args.inst.now entries entries self.found.entries
+      gains_as c.args.basis.now.rules.now c.args.basis.now.store.now c.args.inst.now entries entries self.found.entries
       self.found.entries asks.found.entries self.work self.work asks.work c.level-asks.ensures.found
       c.level-asks.ensures.work
-      (gains_none c.args.basis.now.rules.now c.args.basis.now.store.now g.K.Keeper.exact c.args.inst.now entries self.found.entries
+      (gains_none c.args.basis.now.rules.now c.args.basis.now.store.now c.args.inst.now entries self.found.entries
       self.work self.few c.requires.known);
   demanded = demanded_none (contents c.args.basis.now.store.now) (meaning c.args.basis.now.rules.now) c.args.inst.now
       (kept_values (g.K.Keeper.contents c.args.keeper.now));

@@ -25,7 +25,7 @@ pub returns-clause-led : goal.returns-clause-led
 returns-clause-led g c =
     subst (λ (x : Instance ℕ). DemandsOn (contents c.args.basis.now.store.now) (meaning c.args.basis.now.rules.now) c.args.needed.now x)
     (sym c.in_ok-copy.ensures)
-    (next_demanded c.args.basis.now.rules.now c.args.basis.now.store.now c.args.basis.now.idle g.K.Keeper.exact (g.K.Keeper.memories
+    (next_demanded c.args.basis.now.rules.now c.args.basis.now.store.now c.args.basis.now.idle (g.K.Keeper.memories
     c.args.keeper.now) c.requires.justified (g.K.Keeper.contents c.args.keeper.now)
     (g.K.Keeper.kept_last c.args.keeper.now) c.requires.known.circular c.requires.known.right c.args.needed.now c.in-Some.other.now
     c.in-Some.ensures)

@@ -12,7 +12,7 @@ use Rattle.at_demand.proofs.direct.Direct.keep_again.Goals as goal
 pub recall-requires : goal.recall-requires
 recall-requires g c =
     let (n, steps, counted) = c.settle-count.ensures.settled in
-    let grown = grown_settled c.args.basis.now.rules.now c.args.basis.now.store.now c.args.basis.now.idle g.K.Keeper.exact
+    let grown = grown_settled c.args.basis.now.rules.now c.args.basis.now.store.now c.args.basis.now.idle
     c.args.needed.now (held_by g.K.Keeper.contents g.K.Keeper.memories c.args.keeper.now c.args.self.now)
     (g.K.Keeper.contents c.settle-count.new.self) (g.K.Keeper.memories c.settle-count.new.self) n
     c.saturating_add-self.result c.requires.held c.args.self.now.few (g.K.Keeper.kept_last c.args.keeper.now) steps
@@ -26,11 +26,11 @@ returns-then-count-eq0 g c =
     let none = counted_none n c.settle-count.result counted c.if-count-eq0.true in
     record {
       recalled = refl;
-      unkept = ap (λ (e : Entries). kept_values e c.args.needed.now) (settled_none g.K.Keeper.exact
+      unkept = ap (λ (e : Entries). kept_values e c.args.needed.now) (settled_none
           (g.K.Keeper.memories c.args.keeper.now) c.args.needed.now n (g.K.Keeper.contents c.args.keeper.now)
           (g.K.Keeper.contents c.settle-count.new.self) steps none) ∙ c.requires.unkept;
       grown =
-          grown_settled c.args.basis.now.rules.now c.args.basis.now.store.now c.args.basis.now.idle g.K.Keeper.exact
+          grown_settled c.args.basis.now.rules.now c.args.basis.now.store.now c.args.basis.now.idle
           c.args.needed.now (held_by g.K.Keeper.contents g.K.Keeper.memories c.args.keeper.now c.args.self.now)
           (g.K.Keeper.contents c.settle-count.new.self) (g.K.Keeper.memories c.settle-count.new.self) n
           c.args.self.now.work c.requires.held c.args.self.now.few (g.K.Keeper.kept_last c.args.keeper.now) steps
@@ -45,7 +45,7 @@ returns g c = record {
       c.recall.ensures.unkept;
   grown =
       let (n, steps, counted) = c.settle-count.ensures.settled in
-      grown_settled c.args.basis.now.rules.now c.args.basis.now.store.now c.args.basis.now.idle g.K.Keeper.exact
+      grown_settled c.args.basis.now.rules.now c.args.basis.now.store.now c.args.basis.now.idle
       c.args.needed.now (held_by g.K.Keeper.contents g.K.Keeper.memories c.args.keeper.now c.args.self.now)
       (g.K.Keeper.contents c.settle-count.new.self) (g.K.Keeper.memories c.settle-count.new.self) n
       c.saturating_add-self.result c.requires.held c.args.self.now.few (g.K.Keeper.kept_last c.args.keeper.now) steps

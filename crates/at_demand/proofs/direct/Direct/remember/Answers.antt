@@ -44,7 +44,7 @@ returns-in_err-push g c = record {
       c.see.new.self.found.entries x c.in_ok-copy-2.field-0) c.in_ok-copy.ensures)
       (subst (λ (v : Value ℕ). HasValue (contents c.args.basis.now.store.now) (meaning c.args.basis.now.rules.now)
       c.args.needed v) (sym c.in_ok-copy-2.ensures) (evaluated_has c.args.basis.now.rules.now
-      c.args.basis.now.store.now g.K.Keeper.exact c.requires))
+      c.args.basis.now.store.now c.requires))
       c.in_ok-stand.ensures.stands c.requires.lazy;
 }
 
@@ -56,7 +56,7 @@ returns g c =
     let has = subst (λ (v : Value ℕ). HasValue (contents c.args.basis.now.store.now)
     (meaning c.args.basis.now.rules.now) c.args.needed v) (sym c.in_ok-copy-2.ensures)
     (evaluated_has c.args.basis.now.rules.now
-    c.args.basis.now.store.now g.K.Keeper.exact c.requires) in
+    c.args.basis.now.store.now c.requires) in
     let level = c.args.level.now in
     let is = grown_known (grown_as c.see.ensures.found c.see.ensures.work c.see.ensures.made c.stand.ensures.grown) copied put has
     c.in_ok-stand.ensures.stands c.requires.lazy in

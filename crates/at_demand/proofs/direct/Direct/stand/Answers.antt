@@ -3,8 +3,6 @@ use Rattle.std.specs.Prelude.{Contains}
 use Rattle.at_model.specs.Run.{Instance}
 use Rattle.at_store.specs.Shown.{contents}
 use Rattle.at_body.specs.Values.{value_view}
-use Rattle.at_cache.specs.Kept.{HasPut}
-use Rattle.at_cache.specs.declared.keeper.Put.{Put}
 use Rattle.at_demand.specs.Known.{meaning}
 use Rattle.at_demand.proofs.Counting.{counts_same}
 use Rattle.at_demand.proofs.Entered.{none_entered}
@@ -20,7 +18,7 @@ pub put-requires-clause-present : goal.put-requires-clause-present
 put-requires-clause-present g c = λ u h.
     let entries = g.K.Keeper.contents c.args.keeper.now in
     let below = c.args.below.now in
-    taken c.args.basis.now.rules.now c.args.basis.now.store.now g.K.Keeper.exact c.args.needed.now entries entries
+    taken c.args.basis.now.rules.now c.args.basis.now.store.now c.args.needed.now entries entries
     c.args.self.now.found.entries (value_view c.args.value.now) below.reads below.uses.items c.requires.held.known
     c.requires.own c.requires.come u
     (subst (λ (xs : List (Instance ℕ)). Contains xs u) c.as_slice-uses.ensures.value h)
@@ -29,7 +27,7 @@ pub returns-then-stands : goal.returns-then-stands
 returns-then-stands g c = record {
   stands = search rules;
   found = refl;
-  grown = grown_none c.args.basis.now.rules.now c.args.basis.now.store.now g.K.Keeper.exact c.args.needed.now _
+  grown = grown_none c.args.basis.now.rules.now c.args.basis.now.store.now c.args.needed.now _
       c.args.self.now.few c.requires.held;
 }
 
@@ -37,7 +35,7 @@ pub returns-in_err-copy : goal.returns-in_err-copy
 returns-in_err-copy g c = record {
   stands = search rules;
   found = refl;
-  grown = grown_none c.args.basis.now.rules.now c.args.basis.now.store.now g.K.Keeper.exact c.args.needed.now _
+  grown = grown_none c.args.basis.now.rules.now c.args.basis.now.store.now c.args.needed.now _
       c.args.self.now.few c.requires.held;
 }
 
@@ -49,10 +47,10 @@ returns-in_err-put g c = record {
     gains =
         let old = g.K.Keeper.contents c.args.keeper.now in
         let new = g.K.Keeper.contents c.put.new.self in
-        gains_same c.args.basis.now.rules.now c.args.basis.now.store.now g.K.Keeper.exact c.args.needed.now old new
+        gains_same c.args.basis.now.rules.now c.args.basis.now.store.now c.args.needed.now old new
         c.args.self.now.found.entries c.args.self.now.work c.args.self.now.work c.in_err-put.ensures.err
         c.requires.held.known
-        (λ k. counts_same old new c.args.self.now.work c.args.self.now.few c.in_err-put.ensures.err);
+        (counts_same old new c.args.self.now.work c.args.self.now.few c.in_err-put.ensures.err);
     demanded = demanded_same (contents c.args.basis.now.store.now) (meaning c.args.basis.now.rules.now) c.args.needed.now
         (g.K.Keeper.contents c.args.keeper.now) (g.K.Keeper.contents c.put.new.self) c.in_err-put.ensures.err;
     traces =
@@ -67,17 +65,16 @@ returns-in_err-put g c = record {
   };
 }
 
-pub returns-in-Kept : goal.returns-in-Kept
-returns-in-Kept g c =
+pub returns : goal.returns
+returns g c =
     let old = g.K.Keeper.contents c.args.keeper.now in
     let new = g.K.Keeper.contents c.put.new.self in
     let i = c.args.needed.now in
     let below = c.args.below.now in
-    let puts = put_alike g.K.Keeper.exact old new None c.in_ok-put.put c.in_ok-copy.ensures c.as_slice-reads.ensures
+    let puts = put_alike old new None c.in_ok-copy.ensures c.as_slice-reads.ensures
     c.as_slice-uses.ensures.value c.in_ok-put.ensures.puts in
     record {
-      stands = put_there g.K.Keeper.exact old new i None below.reads below.uses.items
-          (subst (λ (p : Put). HasPut g.K.Keeper.exact old i None below.reads below.uses.items new p) c.in-Kept.is puts);
+      stands = put_there old new i None below.reads below.uses.items puts;
       found = refl;
       grown = grown_entered c.args.basis.now.rules.now c.args.basis.now.store.now c.args.self.now.few c.requires
           (none_entered (old i) c.stands.result c.stands.ensures c.if-stands.false)
@@ -85,23 +82,5 @@ returns-in-Kept g c =
           c.put.ensures.traces) (unmade (g.K.Keeper.contents c.args.keeper.now) (g.K.Keeper.contents c.put.new.self)
           (g.K.Keeper.memories c.args.keeper.now) (g.K.Keeper.memories c.put.new.self) i _ c.in_ok-copy.ensures (none_entered (old i) c.stands.result c.stands.ensures
           c.if-stands.false) c.put.ensures.spares (untraced_inner _ _ _ c.requires.held.justified c.args.needed.now c.requires.lazy)
-          c.args.self.now.made) c.in_ok-put.put puts;
+          c.args.self.now.made) puts;
     }
-
-pub returns-in-Left : goal.returns-in-Left
-returns-in-Left g c = record {
-  stands = search rules;
-  found = refl;
-  grown = grown_entered c.args.basis.now.rules.now c.args.basis.now.store.now c.args.self.now.few c.requires
-      (none_entered (g.K.Keeper.contents c.args.keeper.now c.args.needed.now) c.stands.result c.stands.ensures
-      c.if-stands.false)
-      (stay_any _ _ _ _ (g.K.Keeper.memories c.args.keeper.now) (g.K.Keeper.memories c.put.new.self)
-      c.put.ensures.traces) (unmade (g.K.Keeper.contents c.args.keeper.now) (g.K.Keeper.contents c.put.new.self)
-      (g.K.Keeper.memories c.args.keeper.now) (g.K.Keeper.memories c.put.new.self) c.args.needed.now _ c.in_ok-copy.ensures (none_entered
-      (g.K.Keeper.contents c.args.keeper.now c.args.needed.now) c.stands.result c.stands.ensures c.if-stands.false)
-      c.put.ensures.spares (untraced_inner _ _ _ c.requires.held.justified c.args.needed.now c.requires.lazy) c.args.self.now.made)
-      c.in_ok-put.put
-      (put_alike g.K.Keeper.exact (g.K.Keeper.contents c.args.keeper.now) (g.K.Keeper.contents c.put.new.self) None
-      c.in_ok-put.put c.in_ok-copy.ensures c.as_slice-reads.ensures c.as_slice-uses.ensures.value
-      c.in_ok-put.ensures.puts);
-}

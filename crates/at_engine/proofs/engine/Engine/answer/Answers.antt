@@ -29,15 +29,17 @@ returns g c q like =
     record {
       obeys = IfOk-weaker c.told.result _ _ (λ f told. asks (rules_of e) (state_of e) (Asks q) q b f refl answers told) (c.told.ensures b alike);
       err = on_err c.told.result _ refl;
-      spares = λ exact spare.
+      spares = λ it.
           asked_spares k e new q c.told.result
-          (λ whole. spare_grown (rules_of e) e.store before after told.worthy.stays (marks_of e) e.posts held
-          (told.spare tt exact spare.kept) spare)
+          (λ whole. record {
+            unbounded = it.unbounded;
+            spare = spare_grown (rules_of e) e.store before after told.worthy.stays (marks_of e) e.posts held (told.spare tt it.spare.kept) it.spare;
+          })
           (keeps_asked (rules_of e) e.store held.idle c.args.inst.now q like before after e.demand.work new.demand.work told.worthy
-          (told.met exact spare.kept) view told.answers (told.all exact spare.kept) (told.counts exact) (state_of e) refl);
+          (told.met it.spare.kept) view told.answers (told.all it.spare.kept) told.counts (state_of e) refl);
       stays = record {
         rules = refl;
-        slice = refl;
+        settings = refl;
         known = λ k. k;
         sound = sound_grown (rules_of e) e.store before after told.worthy.stays (marks_of e) e.posts held (told.right c.requires.there held.right)
             (typed_more (rules_of e) e.store basis c.args.inst.now c.requires.well_typed before after told.worthy held.typed)
@@ -60,15 +62,18 @@ returns-in_err-answer g c q like =
     record {
       obeys = rw p.1 tt;
       err = on_err c.from_residual.result _ refl;
-      spares = λ exact spare. err_spares k e new (Asks q) c.from_residual.result p.0 p.1 (
-        λ none. spare_grown (rules_of e) e.store before after a.worthy.stays (marks_of e) e.posts held
-            (a.spare (keeps_groups (rules_of e) c.answer.result none) exact spare.kept) spare,
+      spares = λ it. err_spares k e new (Asks q) c.from_residual.result p.0 p.1 (
+        λ none. record {
+          unbounded = it.unbounded;
+          spare = spare_grown (rules_of e) e.store before after a.worthy.stays (marks_of e) e.posts held
+              (a.spare (keeps_groups (rules_of e) c.answer.result none) it.spare.kept) it.spare;
+        },
         grows_asked (rules_of e) e.store held.idle c.args.inst.now q like before after e.demand.work new.demand.work a.worthy
-            (a.met exact spare.kept) (a.counts exact),
+            (a.met it.spare.kept) a.counts,
       );
       stays = record {
         rules = refl;
-        slice = refl;
+        settings = refl;
         known = λ k. k;
         sound = sound_grown (rules_of e) e.store before after a.worthy.stays (marks_of e) e.posts held (a.right c.requires.there held.right)
             (typed_more (rules_of e) e.store basis c.args.inst.now c.requires.well_typed before after a.worthy held.typed)

@@ -21,7 +21,7 @@ use Rattle.at_engine.proofs.engine.Engine.ask_of.Goals as goal
 pub returns-in_err-inst : goal.returns-in_err-inst
 returns-in_err-inst g c place number =
     let p = err_from_is_err_and c.from_residual.result c.from_residual.ensures.1 in
-    failed_so g.K.Keeper.exact g.K.Keeper.contents g.K.Keeper.memories c.args.self.now c.requires.asks.sound.held _ c.from_residual.result p.0 p.1
+    failed_so g.K.Keeper.contents g.K.Keeper.memories c.args.self.now c.requires.asks.sound.held _ c.from_residual.result p.0 p.1
 
 pub returns-in-Refused : goal.returns-in-Refused
 returns-in-Refused g c place number =
@@ -34,7 +34,7 @@ returns-in-Refused g c place number =
     let asked = along Seen view.rules view.store (ap (λ (m : Marks). listed m.items.entries) view.marks) (c.in_ok-inst.ensures place) number c.requires.asks.named in
     let v = obeyed (rules_of e) (state_of e) c.args.session (Ask place name arguments) in
     let is = subst (λ (x : Asked). IsAskedBy (rules_of e) e.store v x) c.in-Refused.is asked in
-    refused_so g.K.Keeper.exact g.K.Keeper.contents g.K.Keeper.memories e c.requires.asks.sound.held v c.in-Refused.refusal (refuses (rules_of e) (state_of e) v c.in-Refused.refusal is)
+    refused_so g.K.Keeper.contents g.K.Keeper.memories e c.requires.asks.sound.held v c.in-Refused.refusal (refuses (rules_of e) (state_of e) v c.in-Refused.refusal is)
 
 pub answer-requires : goal.answer-requires
 answer-requires g c =
@@ -60,4 +60,4 @@ returns-in-Instance g c place number =
     let asked = along Seen view.rules view.store (ap (λ (m : Marks). listed m.items.entries) view.marks) (c.in_ok-inst.ensures place) number c.requires.asks.named in
     let v = obeyed (rules_of e) (state_of e) c.args.session (Ask place name arguments) in
     let is = subst (λ (x : Asked). IsAskedBy (rules_of e) e.store v x) c.in-Instance.is asked in
-    turned_so g.K.Keeper.exact g.K.Keeper.contents g.K.Keeper.memories e c.answer.new.self v (Asks is.named) c.answer.result is.asks (c.answer.ensures is.named is.like)
+    turned_so g.K.Keeper.contents g.K.Keeper.memories e c.answer.new.self v (Asks is.named) c.answer.result is.asks (c.answer.ensures is.named is.like)

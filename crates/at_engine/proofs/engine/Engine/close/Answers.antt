@@ -13,9 +13,12 @@ returns g c = record {
       ap (λ (q : Posted). told_of q e.version c.args.form) (same_there e.posts.items.items c.args.position c.remove-posted.result p c.remove-posted.ensures.posted there);
   items = c.remove-posted.ensures.items;
   rest = λ i. record c.args.self.now { posts = record c.remove-posted.new.self { count = c.remove-posted.ensures.count i } };
-  spare = λ exact spare.
-      let e = c.args.self.now in
-      spare_gone e.rules e.store (marks_of e) e.posts c.remove-posted.new.self _ c.args.position c.requires.within c.remove-posted.ensures.items spare;
+  spare = λ it.
+      let e = c.args.self.now in record {
+        unbounded = it.unbounded;
+        spare = spare_gone e.rules e.store (marks_of e) e.posts c.remove-posted.new.self _ c.args.position c.requires.within
+            c.remove-posted.ensures.items it.spare;
+      };
   sound =
       let e = c.args.self.now in
       sound_gone e.rules e.store (marks_of e) e.posts c.remove-posted.new.self _ c.args.position c.requires.within c.remove-posted.ensures.items c.remove-posted.ensures.count c.requires.sound;

@@ -16,7 +16,7 @@ begin-requires g c =
     let t = c.take-begun.new.self in
     let o = c.take-begun.result in
     let it = taken k m e c.requires.ready.sound c.args.position c.requires.ready.within o t c.take-begun.ensures in
-    ready_taken g.K.Keeper.exact k m e c.args.position c.args.limit o t it c.requires.ready.typed
+    ready_taken k m e c.args.position c.args.limit o t it c.requires.ready.typed
 
 pub returns-in_err-question-clause-attends : goal.returns-in_err-question-clause-attends
 returns-in_err-question-clause-attends g c =
@@ -27,7 +27,7 @@ returns-in_err-question-clause-attends g c =
     let o = c.take-begun.result in
     let it = taken k m e c.requires.ready.sound c.args.position c.requires.ready.within o t c.take-begun.ensures in
     let r = err_from_is_err_and c.from_residual.result c.from_residual.ensures.1 in
-    not_read g.K.Keeper.exact k m e c.args.position c.args.limit o t it c.from_residual.result r.0 r.1
+    not_read k m e c.args.position c.args.limit o t it c.from_residual.result r.0 r.1
 
 pub returns-in-Refused-clause-attends : goal.returns-in-Refused-clause-attends
 returns-in-Refused-clause-attends g c =
@@ -37,7 +37,7 @@ returns-in-Refused-clause-attends g c =
     let t = c.take-begun.new.self in
     let o = c.take-begun.result in
     let it = taken k m e c.requires.ready.sound c.args.position c.requires.ready.within o t c.take-begun.ensures in
-    was_refused g.K.Keeper.exact k m e c.args.position c.args.limit o t it c.in_ok-question.ensures.begins c.in-Refused.refusal
+    was_refused k m e c.args.position c.args.limit o t it c.in_ok-question.ensures.begins c.in-Refused.refusal
     c.in-Refused.is c.requires.some
 
 pub turns_up_to-requires-clause-can : goal.turns_up_to-requires-clause-can
@@ -48,8 +48,8 @@ turns_up_to-requires-clause-can g c =
     let t = c.take-begun.new.self in
     let o = c.take-begun.result in
     let it = taken k m e c.requires.ready.sound c.args.position c.requires.ready.within o t c.take-begun.ensures in
-    let b = begun_for g.K.Keeper.exact k m e c.args.position c.args.limit o t it c.in_ok-question.ensures.begins c.in-Question.question c.in-Question.is in
-    can_answer g.K.Keeper.exact k m e c.args.position c.args.limit o t it c.requires.ready.typed c.in-Question.question b
+    let b = begun_for k m e c.args.position c.args.limit o t it c.in_ok-question.ensures.begins c.in-Question.question c.in-Question.is in
+    can_answer k m e c.args.position c.args.limit o t it c.requires.ready.typed c.in-Question.question b
 
 pub turns_up_to-requires-clause-justified : goal.turns_up_to-requires-clause-justified
 turns_up_to-requires-clause-justified g c =
@@ -66,76 +66,72 @@ told-requires g c =
     let e = c.args.self.now in
     let k = g.K.Keeper.contents in
     let m = g.K.Keeper.memories in
-    let x = g.K.Keeper.exact in
     let i = c.args.position in
     let t = c.take-begun.new.self in
     let o = c.take-begun.result in
     let q = c.in-Question.question in
     let it = taken k m e c.requires.ready.sound i c.requires.ready.within o t c.take-begun.ensures in
-    let b = begun_for x k m e i c.args.limit o t it c.in_ok-question.ensures.begins q c.in-Question.is in
-    let s = sparing_for x k m e i c.args.limit o t it c.in_ok-question.ensures.sparing q c.in-Question.is in
+    let b = begun_for k m e i c.args.limit o t it c.in_ok-question.ensures.begins q c.in-Question.is in
+    let s = sparing_for k m e i c.args.limit o t it c.in_ok-question.ensures.sparing q c.in-Question.is in
     let d = c.turns_up_to.new.demand in
     let p = c.turns_up_to.new.question in
-    record { sound = sound_more x k m e i c.args.limit o t it c.requires.ready.typed q b s d p c.turns_up_to.result c.turns_up_to.ensures.turned }
+    record { sound = sound_more k m e i c.args.limit o t it c.requires.ready.typed q b s d p c.turns_up_to.result c.turns_up_to.ensures.turned }
 
 pub returns-in_err-turns-clause-attends : goal.returns-in_err-turns-clause-attends
 returns-in_err-turns-clause-attends g c =
     let e = c.args.self.now in
     let k = g.K.Keeper.contents in
     let m = g.K.Keeper.memories in
-    let x = g.K.Keeper.exact in
     let i = c.args.position in
     let t = c.take-begun.new.self in
     let o = c.take-begun.result in
     let q = c.in-Question.question in
     let it = taken k m e c.requires.ready.sound i c.requires.ready.within o t c.take-begun.ensures in
-    let b = begun_for x k m e i c.args.limit o t it c.in_ok-question.ensures.begins q c.in-Question.is in
-    let s = sparing_for x k m e i c.args.limit o t it c.in_ok-question.ensures.sparing q c.in-Question.is in
+    let b = begun_for k m e i c.args.limit o t it c.in_ok-question.ensures.begins q c.in-Question.is in
+    let s = sparing_for k m e i c.args.limit o t it c.in_ok-question.ensures.sparing q c.in-Question.is in
     let d = c.turns_up_to.new.demand in
     let p = c.turns_up_to.new.question in
     let r = err_from_is_err_and c.from_residual-in_err-turns.result c.from_residual-in_err-turns.ensures.1 in
-    broke_off x k m e i c.args.limit o t it c.requires.ready.typed q b s d p _ c.in_err-turns.ensures.turned c.from_residual-in_err-turns.result r.0 _ r.1 refl
+    broke_off k m e i c.args.limit o t it c.requires.ready.typed q b s d p _ c.in_err-turns.ensures.turned c.from_residual-in_err-turns.result r.0 _ r.1 refl
 
 pub returns-in_err-told-in-Some-clause-attends : goal.returns-in_err-told-in-Some-clause-attends
 returns-in_err-told-in-Some-clause-attends g c =
     let e = c.args.self.now in
     let k = g.K.Keeper.contents in
     let m = g.K.Keeper.memories in
-    let x = g.K.Keeper.exact in
     let i = c.args.position in
     let t = c.take-begun.new.self in
     let o = c.take-begun.result in
     let q = c.in-Question.question in
     let it = taken k m e c.requires.ready.sound i c.requires.ready.within o t c.take-begun.ensures in
-    let b = begun_for x k m e i c.args.limit o t it c.in_ok-question.ensures.begins q c.in-Question.is in
-    let s = sparing_for x k m e i c.args.limit o t it c.in_ok-question.ensures.sparing q c.in-Question.is in
+    let b = begun_for k m e i c.args.limit o t it c.in_ok-question.ensures.begins q c.in-Question.is in
+    let s = sparing_for k m e i c.args.limit o t it c.in_ok-question.ensures.sparing q c.in-Question.is in
     let d = c.turns_up_to.new.demand in
     let p = c.turns_up_to.new.question in
     let r = err_from_is_err_and c.from_residual-in_err-told-in-Some.result c.from_residual-in_err-told-in-Some.ensures.1 in
-    let h = subst (λ (a : Option AnswerCode). HasTurnedUpTo {E = AllocError} x (rules_of e) e.store c.args.limit
+    let h = subst (λ (a : Option AnswerCode). HasTurnedUpTo {E = AllocError} (rules_of e) e.store c.args.limit
     (k e.demand.keeper) (k d.keeper)
     (m e.demand.keeper) (m d.keeper) q p (Ok (c.in_ok-turns.turns, a))) c.in-Some.is c.in_ok-turns.ensures.turned in
-    untold x k m e i c.args.limit o t it c.requires.ready.typed q b s d p c.in_ok-turns.turns c.in-Some.answer h c.from_residual-in_err-told-in-Some.result r.0 r.1
+    untold k m e i c.args.limit o t it c.requires.ready.typed q b s d p c.in_ok-turns.turns c.in-Some.answer h c.from_residual-in_err-told-in-Some.result r.0 r.1
 
 pub returns-in_ok-told-in-Some-clause-attends : goal.returns-in_ok-told-in-Some-clause-attends
 returns-in_ok-told-in-Some-clause-attends g c =
     let e = c.args.self.now in
     let k = g.K.Keeper.contents in
     let m = g.K.Keeper.memories in
-    let x = g.K.Keeper.exact in
     let i = c.args.position in
     let t = c.take-begun.new.self in
     let o = c.take-begun.result in
     let q = c.in-Question.question in
     let it = taken k m e c.requires.ready.sound i c.requires.ready.within o t c.take-begun.ensures in
-    let b = begun_for x k m e i c.args.limit o t it c.in_ok-question.ensures.begins q c.in-Question.is in
-    let s = sparing_for x k m e i c.args.limit o t it c.in_ok-question.ensures.sparing q c.in-Question.is in
+    let b = begun_for k m e i c.args.limit o t it c.in_ok-question.ensures.begins q c.in-Question.is in
+    let s = sparing_for k m e i c.args.limit o t it c.in_ok-question.ensures.sparing q c.in-Question.is in
     let d = c.turns_up_to.new.demand in
     let p = c.turns_up_to.new.question in
-    let h = subst (λ (a : Option AnswerCode). HasTurnedUpTo {E = AllocError} x (rules_of e) e.store c.args.limit
+    let h = subst (λ (a : Option AnswerCode). HasTurnedUpTo {E = AllocError} (rules_of e) e.store c.args.limit
     (k e.demand.keeper) (k d.keeper)
     (m e.demand.keeper) (m d.keeper) q p (Ok (c.in_ok-turns.turns, a))) c.in-Some.is c.in_ok-turns.ensures.turned in
-    told x k m e i c.args.limit o t it c.requires.ready.typed q b s d p c.in_ok-turns.turns c.in-Some.answer h c.in_ok-told-in-Some.field-0
+    told k m e i c.args.limit o t it c.requires.ready.typed q b s d p c.in_ok-turns.turns c.in-Some.answer h c.in_ok-told-in-Some.field-0
     (λ a like. c.in_ok-told-in-Some.ensures a like)
 
 pub returns-in-None-clause-attends : goal.returns-in-None-clause-attends
@@ -143,27 +139,26 @@ returns-in-None-clause-attends g c =
     let e = c.args.self.now in
     let k = g.K.Keeper.contents in
     let m = g.K.Keeper.memories in
-    let x = g.K.Keeper.exact in
     let i = c.args.position in
     let t = c.take-begun.new.self in
     let o = c.take-begun.result in
     let q = c.in-Question.question in
     let it = taken k m e c.requires.ready.sound i c.requires.ready.within o t c.take-begun.ensures in
-    let b = begun_for x k m e i c.args.limit o t it c.in_ok-question.ensures.begins q c.in-Question.is in
-    let s = sparing_for x k m e i c.args.limit o t it c.in_ok-question.ensures.sparing q c.in-Question.is in
+    let b = begun_for k m e i c.args.limit o t it c.in_ok-question.ensures.begins q c.in-Question.is in
+    let s = sparing_for k m e i c.args.limit o t it c.in_ok-question.ensures.sparing q c.in-Question.is in
     let d = c.turns_up_to.new.demand in
     let p = c.turns_up_to.new.question in
-    let h = subst (λ (a : Option AnswerCode). HasTurnedUpTo {E = AllocError} x (rules_of e) e.store c.args.limit
+    let h = subst (λ (a : Option AnswerCode). HasTurnedUpTo {E = AllocError} (rules_of e) e.store c.args.limit
     (k e.demand.keeper) (k d.keeper)
     (m e.demand.keeper) (m d.keeper) q p (Ok (c.in_ok-turns.turns, a))) c.in-None.is c.in_ok-turns.ensures.turned in
-    not_yet x k m e i c.args.limit o t it c.requires.ready.typed q b s d p c.in_ok-turns.turns h
+    not_yet k m e i c.args.limit o t it c.requires.ready.typed q b s d p c.in_ok-turns.turns h
     c.keep.new.self c.keep.ensures.there
 
 pub returns-in_err-question-clause-went : goal.returns-in_err-question-clause-went
-returns-in_err-question-clause-went g c = λ exact. begun
+returns-in_err-question-clause-went g c = begun
 
 pub returns-in-Refused-clause-went : goal.returns-in-Refused-clause-went
-returns-in-Refused-clause-went g c = λ exact. begun
+returns-in-Refused-clause-went g c = begun
 
 pub returns-in_err-turns-clause-went : goal.returns-in_err-turns-clause-went
 returns-in_err-turns-clause-went g c = c.turns_up_to.ensures.went

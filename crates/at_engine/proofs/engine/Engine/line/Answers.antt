@@ -12,15 +12,15 @@ returns-then-is_empty g c =
     let later = c.reserve.new.self.items in
     let none : length line ≡ 0 = grind (arith, nat_tests) in
     record {
-      done = taken_nowhere g.K.Keeper.exact g.K.Keeper.contents g.K.Keeper.memories e before later line none c.reserve.ensures.items;
+      done = taken_nowhere g.K.Keeper.contents g.K.Keeper.memories e before later line none c.reserve.ensures.items;
       same = tt;
       full = tt;
       err = tt;
       room = c.reserve.ensures.capacity;
       rules = refl;
-      slice = refl;
+      settings = refl;
       sound = c.requires.sound;
-      went = went_same g.K.Keeper.exact g.K.Keeper.memories e e refl;
+      went = went_same g.K.Keeper.memories e e refl;
     }
 
 pub returns : goal.returns
@@ -33,13 +33,13 @@ returns g c =
     let some : 0 < length line = grind (arith, nat_tests) in
     let s = c.in_ok-serve.ensures in
     record {
-      done = taken g.K.Keeper.exact g.K.Keeper.contents g.K.Keeper.memories e before later new c.in_ok-serve.field-0 line some s.done;
+      done = taken g.K.Keeper.contents g.K.Keeper.memories e before later new c.in_ok-serve.field-0 line some s.done;
       same = tt;
       full = tt;
       err = tt;
       room = s.room;
       rules = s.rules;
-      slice = s.slice;
+      settings = s.settings;
       sound = s.sound;
       went = s.went;
     }

@@ -1,4 +1,4 @@
-use Rattle.std.proofs.Common.{◌≡◌, ◌∙◌, true, List, map, ap, arith, sym, subst}
+use Rattle.std.proofs.Common.{◌≡◌, ◌∙◌, true, List, map, ap, arith, refl, sym, subst}
 use Rattle.std.specs.List.{AllByRecursion}
 use Rattle.at_model.specs.Classes.{Classes, AreSound}
 use Rattle.at_model.specs.Enduring.{AreNumbered, AreTokens}
@@ -43,6 +43,11 @@ returns-clause-sound g c formed circular tokens nothing = record {
 
 pub returns-clause-spare : goal.returns-clause-spare
 returns-clause-spare g c nothing = record {
-  kept = spare_of_nothing c.args.rules (contents c.in_ok-store.store) _ (λ i. ap (λ k. g.K.Keeper.contents k i) c.new-2.ensures.keeper ∙ nothing.0 i);
-  posted' = subst (AllByRecursion (λ (p : Posted). IsSparingOn c.args.rules (contents c.in_ok-store.store) _ p.question)) (sym c.new-4.ensures.items) tt;
+  unbounded = refl;
+  spare = record {
+    kept = spare_of_nothing c.args.rules (contents c.in_ok-store.store) _
+        (λ i. ap (λ k. g.K.Keeper.contents k i) c.new-2.ensures.keeper ∙ nothing.0 i);
+    posted' = subst (AllByRecursion (λ (p : Posted). IsSparingOn c.args.rules (contents c.in_ok-store.store) _ p.question))
+        (sym c.new-4.ensures.items) tt;
+  };
 }

@@ -23,12 +23,12 @@ returns-in-Some-clause-hears g c =
     let is = c.at_once.ensures.form in
     let l = line_with c.args.session c.args.expected (command_view c.args.command.now) in
     let meets = c.in-Some.ensures l refl (sym c.has_used-is_marked.ensures) in
-    heard_at_once g.K.Keeper.exact g.K.Keeper.contents g.K.Keeper.memories e e l c.at_once.result (Ok (form.Refused c.in-Some.refusal))
+    heard_at_once g.K.Keeper.contents g.K.Keeper.memories e e l c.at_once.result (Ok (form.Refused c.in-Some.refusal))
     c.at_once.ensures.session c.at_once.ensures.done is meets tt
     (told_at_once (rules_of e) (state_of e) (verdict (rules_of e) (state_of e) l) (form.Refused c.in-Some.refusal) (state_of e) meets)
 
 pub returns-in-Some-clause-spares : goal.returns-in-Some-clause-spares
-returns-in-Some-clause-spares g c exact spare =
+returns-in-Some-clause-spares g c spare =
     let e = c.args.self.now in
     let k = g.K.Keeper.contents in
     let v = verdict (rules_of e) (state_of e) (line_with c.args.session c.args.expected (command_view c.args.command.now)) in
@@ -52,11 +52,11 @@ returns-in-Some-awaited-clause-hears g c =
     (c.wait.ensures.attends.done q c.in-Some-awaited.ensures.there)
 
 pub returns-in-Some-awaited-clause-spares : goal.returns-in-Some-awaited-clause-spares
-returns-in-Some-awaited-clause-spares g c exact spare =
+returns-in-Some-awaited-clause-spares g c spare =
     let e = c.args.self.now in
     let v = verdict (rules_of e) (state_of e) (line_with c.args.session c.args.expected (command_view c.args.command.now)) in
     waited_spares g.K.Keeper.contents e c.wait.new.self v c.wait.result.form c.in-Some-awaited.ensures.question.number ((c.in_default.ensures (line_with c.args.session c.args.expected (command_view c.args.command.now)) refl (sym c.has_used-is_marked.ensures)) ∙ c.in-Some-awaited.ensures.waits)
-    (λ whole. c.wait.ensures.attends.spare whole exact spare)
+    (λ whole. c.wait.ensures.attends.spare whole spare)
 
 pub returns-in-None-clause-hears : goal.returns-in-None-clause-hears
 returns-in-None-clause-hears g c =
@@ -65,21 +65,21 @@ returns-in-None-clause-hears g c =
     let v = verdict (rules_of e) (state_of e) l in
     let o = obeyed (rules_of e) (state_of e) l.session l.command in
     let same = c.in_default.ensures l refl (sym c.has_used-is_marked.ensures) in
-    heard_at_once g.K.Keeper.exact g.K.Keeper.contents g.K.Keeper.memories e c.command.new.self l c.at_once-in-None.result c.command.result c.at_once-in-None.ensures.session c.at_once-in-None.ensures.done c.at_once-in-None.ensures.form
+    heard_at_once g.K.Keeper.contents g.K.Keeper.memories e c.command.new.self l c.at_once-in-None.result c.command.result c.at_once-in-None.ensures.session c.at_once-in-None.ensures.done c.at_once-in-None.ensures.form
     (IfOk-weaker c.command.result _ _ (λ f told. as_verdict (rules_of e) (state_of e) v o f (state_of c.command.new.self) same told) c.command.ensures.obeys) c.command.ensures.err
     (subst IsAtOnce (sym same) c.in-None.ensures)
 
 pub returns-in-None-clause-spares : goal.returns-in-None-clause-spares
-returns-in-None-clause-spares g c exact spare =
+returns-in-None-clause-spares g c spare =
     let e = c.args.self.now in
     let k = g.K.Keeper.contents in
     let l = line_with c.args.session c.args.expected (command_view c.args.command.now) in
     let v = verdict (rules_of e) (state_of e) l in
-    let all = at_once_spares k e c.command.new.self v c.command.result (turned_spares k e c.command.new.self v (obeyed (rules_of e) (state_of e) l.session l.command) c.command.result (c.in_default.ensures (line_with c.args.session c.args.expected (command_view c.args.command.now)) refl (sym c.has_used-is_marked.ensures)) (c.command.ensures.spares exact spare)) in
+    let all = at_once_spares k e c.command.new.self v c.command.result (turned_spares k e c.command.new.self v (obeyed (rules_of e) (state_of e) l.session l.command) c.command.result (c.in_default.ensures (line_with c.args.session c.args.expected (command_view c.args.command.now)) refl (sym c.has_used-is_marked.ensures)) (c.command.ensures.spares spare)) in
     subst (λ (x : Result Form AllocError). SparesVerdict k v x e c.command.new.self) (sym c.at_once-in-None.ensures.form) all
 
 pub returns-in-Some-clause-went : goal.returns-in-Some-clause-went
-returns-in-Some-clause-went g c = λ exact. begun
+returns-in-Some-clause-went g c = begun
 
 pub returns-in-Some-awaited-clause-went : goal.returns-in-Some-awaited-clause-went
 returns-in-Some-awaited-clause-went g c = c.wait.ensures.went
@@ -92,7 +92,7 @@ returns-in-Some-awaited-clause-stays g c =
     let rest = c.wait.ensures.attends.rest in
     record {
       rules = ap (λ (x : Engine g.row.K.Denot). x.rules) rest;
-      slice = ap (λ (x : Engine g.row.K.Denot). x.slice) rest;
+      settings = ap (λ (x : Engine g.row.K.Denot). x.settings) rest;
       sound = c.wait.ensures.attends.sound;
       known = λ k. subst (Knows {K = g.row.K.Denot}) (sym rest) k;
     }

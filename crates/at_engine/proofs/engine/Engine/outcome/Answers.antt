@@ -46,12 +46,12 @@ returns-in-Some-clause-gets g c =
     let done = c.ask_of-form.ensures (From_root steps) number in
     let told = c.at_once.result in
     let soon = asked_at_once (rules_of e) (state_of e) e.last.session None (From_root steps) c.in-Some.attribute.now [] in
-    let hears = heard_at_once g.K.Keeper.exact k g.K.Keeper.memories e new l told c.ask_of-form.result
+    let hears = heard_at_once k g.K.Keeper.memories e new l told c.ask_of-form.result
     c.at_once.ensures.session c.at_once.ensures.done c.at_once.ensures.form done.obeys done.err soon in
-    got g.K.Keeper.exact k g.K.Keeper.memories e new c.args.line.now l spelled told hears
+    got k g.K.Keeper.memories e new c.args.line.now l spelled told hears
 
 pub returns-in-Some-clause-spares : goal.returns-in-Some-clause-spares
-returns-in-Some-clause-spares g c exact spare =
+returns-in-Some-clause-spares g c spare =
     let e = c.args.self.now in
     let k = g.K.Keeper.contents in
     let (steps, spelled, number) = c.in-Some.ensures c.requires.sound.known in
@@ -60,11 +60,11 @@ returns-in-Some-clause-spares g c exact spare =
     let done = c.ask_of-form.ensures (From_root steps) number in
     let told = c.at_once.result in
     let soon = asked_at_once (rules_of e) (state_of e) e.last.session None (From_root steps) c.in-Some.attribute.now [] in
-    let hears = heard_at_once g.K.Keeper.exact k g.K.Keeper.memories e new l told c.ask_of-form.result
+    let hears = heard_at_once k g.K.Keeper.memories e new l told c.ask_of-form.result
     c.at_once.ensures.session c.at_once.ensures.done c.at_once.ensures.form done.obeys done.err soon in
     let v = verdict (rules_of e) (state_of e) l in
-    let all = at_once_spares k e new v c.ask_of-form.result (done.spares exact spare) in
-    line_spares k g.K.Keeper.memories e new c.args.line.now g.K.Keeper.exact l told spelled hears (subst (λ (x : Result Form AllocError). SparesVerdict k v x e new) (sym c.at_once.ensures.form) all)
+    let all = at_once_spares k e new v c.ask_of-form.result (done.spares spare) in
+    line_spares k g.K.Keeper.memories e new c.args.line.now l told spelled hears (subst (λ (x : Result Form AllocError). SparesVerdict k v x e new) (sym c.at_once.ensures.form) all)
 
 pub returns-in-Some-clause-stays : goal.returns-in-Some-clause-stays
 returns-in-Some-clause-stays g c =
@@ -88,14 +88,14 @@ returns-in-Ok-Command-clause-gets g c =
     let q = c.in-Ok-Command in
     let is : q.field-0.request ≡ request.Command q.command = cc in
     let spelled = subst (Spells c.args.line.now) (is_told q.field-0 q.command is) q.ensures.found in
-    got g.K.Keeper.exact g.K.Keeper.contents g.K.Keeper.memories e c.obey.new.self c.args.line.now _ spelled c.obey.result c.obey.ensures.hears
+    got g.K.Keeper.contents g.K.Keeper.memories e c.obey.new.self c.args.line.now _ spelled c.obey.result c.obey.ensures.hears
 
 pub returns-in-Ok-Command-clause-spares : goal.returns-in-Ok-Command-clause-spares
-returns-in-Ok-Command-clause-spares g c exact spare =
+returns-in-Ok-Command-clause-spares g c spare =
     let q = c.in-Ok-Command in
     let is : q.field-0.request ≡ request.Command q.command = cc in
     let spelled = subst (Spells c.args.line.now) (is_told q.field-0 q.command is) q.ensures.found in
-    line_spares g.K.Keeper.contents g.K.Keeper.memories c.args.self.now c.obey.new.self c.args.line.now g.K.Keeper.exact _ c.obey.result spelled c.obey.ensures.hears (c.obey.ensures.spares exact spare)
+    line_spares g.K.Keeper.contents g.K.Keeper.memories c.args.self.now c.obey.new.self c.args.line.now _ c.obey.result spelled c.obey.ensures.hears (c.obey.ensures.spares spare)
 
 pub returns-in-Ok-Ask-clause-gets : goal.returns-in-Ok-Ask-clause-gets
 returns-in-Ok-Ask-clause-gets g c =
@@ -104,45 +104,45 @@ returns-in-Ok-Ask-clause-gets g c =
     let q = c.in-Ok-Ask in
     let new = c.question.new.self in
     let is : q.field-0.request ≡ request.Ask q.place q.attribute q.arguments = cc in
-    let Listed : List Argument → Type 0 = λ arguments. Fulfils g.K.Keeper.exact k g.K.Keeper.memories e (verdict (rules_of e) (state_of e) (line_of q.field-0 (Ask (place_view q.place) q.attribute.now (arguments_view arguments)))) c.question.result new in
-    let Done : Request → Type 0 = λ words. Fulfils g.K.Keeper.exact k g.K.Keeper.memories e (verdict (rules_of e) (state_of e) (line_of q.field-0 (request_view words))) c.question.result new in
+    let Listed : List Argument → Type 0 = λ arguments. Fulfils k g.K.Keeper.memories e (verdict (rules_of e) (state_of e) (line_of q.field-0 (Ask (place_view q.place) q.attribute.now (arguments_view arguments)))) c.question.result new in
+    let Done : Request → Type 0 = λ words. Fulfils k g.K.Keeper.memories e (verdict (rules_of e) (state_of e) (line_of q.field-0 (request_view words))) c.question.result new in
     let done = subst Done (sym is) (subst Listed c.deref.ensures.value c.question.ensures) in
     let told = c.at_once-in-Ok-Ask.result in
     let soon = subst (λ (words : Request). IsAtOnce (verdict (rules_of e) (state_of e) (line_of q.field-0 (request_view words)))) (sym is)
     (asked_at_once (rules_of e) (state_of e) q.field-0.session q.field-0.expected (place_view q.place) q.attribute.now (arguments_view q.arguments.items)) in
-    let hears = heard_at_once g.K.Keeper.exact k g.K.Keeper.memories e new (line_view q.field-0) told c.question.result
+    let hears = heard_at_once k g.K.Keeper.memories e new (line_view q.field-0) told c.question.result
     c.at_once-in-Ok-Ask.ensures.session c.at_once-in-Ok-Ask.ensures.done c.at_once-in-Ok-Ask.ensures.form done.obeys done.err soon in
-    got g.K.Keeper.exact k g.K.Keeper.memories e new c.args.line.now (line_view q.field-0) q.ensures.found told hears
+    got k g.K.Keeper.memories e new c.args.line.now (line_view q.field-0) q.ensures.found told hears
 
 pub returns-in-Ok-Ask-clause-spares : goal.returns-in-Ok-Ask-clause-spares
-returns-in-Ok-Ask-clause-spares g c exact spare =
+returns-in-Ok-Ask-clause-spares g c spare =
     let e = c.args.self.now in
     let k = g.K.Keeper.contents in
     let q = c.in-Ok-Ask in
     let new = c.question.new.self in
     let is : q.field-0.request ≡ request.Ask q.place q.attribute q.arguments = cc in
-    let Listed : List Argument → Type 0 = λ arguments. Fulfils g.K.Keeper.exact k g.K.Keeper.memories e (verdict (rules_of e) (state_of e) (line_of q.field-0 (Ask (place_view q.place) q.attribute.now (arguments_view arguments)))) c.question.result new in
-    let Done : Request → Type 0 = λ words. Fulfils g.K.Keeper.exact k g.K.Keeper.memories e (verdict (rules_of e) (state_of e) (line_of q.field-0 (request_view words))) c.question.result new in
+    let Listed : List Argument → Type 0 = λ arguments. Fulfils k g.K.Keeper.memories e (verdict (rules_of e) (state_of e) (line_of q.field-0 (Ask (place_view q.place) q.attribute.now (arguments_view arguments)))) c.question.result new in
+    let Done : Request → Type 0 = λ words. Fulfils k g.K.Keeper.memories e (verdict (rules_of e) (state_of e) (line_of q.field-0 (request_view words))) c.question.result new in
     let done = subst Done (sym is) (subst Listed c.deref.ensures.value c.question.ensures) in
     let told = c.at_once-in-Ok-Ask.result in
     let soon = subst (λ (words : Request). IsAtOnce (verdict (rules_of e) (state_of e) (line_of q.field-0 (request_view words)))) (sym is)
     (asked_at_once (rules_of e) (state_of e) q.field-0.session q.field-0.expected (place_view q.place) q.attribute.now (arguments_view q.arguments.items)) in
-    let hears = heard_at_once g.K.Keeper.exact k g.K.Keeper.memories e new (line_view q.field-0) told c.question.result
+    let hears = heard_at_once k g.K.Keeper.memories e new (line_view q.field-0) told c.question.result
     c.at_once-in-Ok-Ask.ensures.session c.at_once-in-Ok-Ask.ensures.done c.at_once-in-Ok-Ask.ensures.form done.obeys done.err soon in
     let v = verdict (rules_of e) (state_of e) (line_view q.field-0) in
-    let all = at_once_spares k e new v c.question.result (done.spares exact spare) in
-    line_spares k g.K.Keeper.memories e new c.args.line.now g.K.Keeper.exact (line_view q.field-0) told q.ensures.found hears (subst (λ (x : Result Form AllocError). SparesVerdict k v x e new) (sym c.at_once-in-Ok-Ask.ensures.form) all)
+    let all = at_once_spares k e new v c.question.result (done.spares spare) in
+    line_spares k g.K.Keeper.memories e new c.args.line.now (line_view q.field-0) told q.ensures.found hears (subst (λ (x : Result Form AllocError). SparesVerdict k v x e new) (sym c.at_once-in-Ok-Ask.ensures.form) all)
 
 pub returns-in-Err-Syntax-clause-gets : goal.returns-in-Err-Syntax-clause-gets
 returns-in-Err-Syntax-clause-gets g c =
     let e = c.args.self.now in
     let is : c.in-Err-Syntax.field-0 ≡ Syntax c.in-Err-Syntax.session = cc in
     let refused = subst (Refuses c.args.line.now) is c.in-Err-Syntax.ensures.refused in
-    gets_at_once (IsStep g.K.Keeper.exact g.K.Keeper.contents g.K.Keeper.memories c.args.line.now e e) c.at_once-in-Err-Syntax.result c.in-Err-Syntax.session (Ok (form.Refused refusal.Syntax)) c.at_once-in-Err-Syntax.ensures.session c.at_once-in-Err-Syntax.ensures.done c.at_once-in-Err-Syntax.ensures.form
-    (told_unread g.K.Keeper.exact g.K.Keeper.contents g.K.Keeper.memories e c.args.line.now c.in-Err-Syntax.session refused.1 refused.0)
+    gets_at_once (IsStep g.K.Keeper.contents g.K.Keeper.memories c.args.line.now e e) c.at_once-in-Err-Syntax.result c.in-Err-Syntax.session (Ok (form.Refused refusal.Syntax)) c.at_once-in-Err-Syntax.ensures.session c.at_once-in-Err-Syntax.ensures.done c.at_once-in-Err-Syntax.ensures.form
+    (told_unread g.K.Keeper.contents g.K.Keeper.memories e c.args.line.now c.in-Err-Syntax.session refused.1 refused.0)
 
 pub returns-in-Err-Syntax-clause-spares : goal.returns-in-Err-Syntax-clause-spares
-returns-in-Err-Syntax-clause-spares g c exact spare =
+returns-in-Err-Syntax-clause-spares g c spare =
     let e = c.args.self.now in
     let is : c.in-Err-Syntax.field-0 ≡ Syntax c.in-Err-Syntax.session = cc in
     form_spares g.K.Keeper.contents e e c.args.line.now (Ok (form.Refused refusal.Syntax)) c.at_once-in-Err-Syntax.result.form c.at_once-in-Err-Syntax.ensures.form
@@ -153,11 +153,11 @@ returns-in-Err-Memory-clause-gets g c =
     let e = c.args.self.now in
     let is : c.in-Err-Memory.field-0 ≡ Memory c.in-Err-Memory.session = cc in
     let session = subst (Refuses c.args.line.now) is c.in-Err-Memory.ensures.refused in
-    gets_at_once (IsStep g.K.Keeper.exact g.K.Keeper.contents g.K.Keeper.memories c.args.line.now e e) c.at_once-in-Err-Memory.result c.in-Err-Memory.session (Err alloc_error) c.at_once-in-Err-Memory.ensures.session c.at_once-in-Err-Memory.ensures.done c.at_once-in-Err-Memory.ensures.form
-    (step_unread g.K.Keeper.exact g.K.Keeper.contents g.K.Keeper.memories e c.args.line.now c.in-Err-Memory.session session)
+    gets_at_once (IsStep g.K.Keeper.contents g.K.Keeper.memories c.args.line.now e e) c.at_once-in-Err-Memory.result c.in-Err-Memory.session (Err alloc_error) c.at_once-in-Err-Memory.ensures.session c.at_once-in-Err-Memory.ensures.done c.at_once-in-Err-Memory.ensures.form
+    (step_unread g.K.Keeper.contents g.K.Keeper.memories e c.args.line.now c.in-Err-Memory.session session)
 
 pub returns-in-Err-Memory-clause-spares : goal.returns-in-Err-Memory-clause-spares
-returns-in-Err-Memory-clause-spares g c exact spare =
+returns-in-Err-Memory-clause-spares g c spare =
     let e = c.args.self.now in
     form_spares g.K.Keeper.contents e e c.args.line.now (Err alloc_error) c.at_once-in-Err-Memory.result.form c.at_once-in-Err-Memory.ensures.form (unknown_spares g.K.Keeper.contents e c.args.line.now spare)
 
@@ -174,7 +174,7 @@ pub returns-in-Ok-Ask-clause-went : goal.returns-in-Ok-Ask-clause-went
 returns-in-Ok-Ask-clause-went g c = c.question.ensures.went
 
 pub returns-in-Err-Syntax-clause-went : goal.returns-in-Err-Syntax-clause-went
-returns-in-Err-Syntax-clause-went g c = λ exact. begun
+returns-in-Err-Syntax-clause-went g c = begun
 
 pub returns-in-Err-Memory-clause-went : goal.returns-in-Err-Memory-clause-went
-returns-in-Err-Memory-clause-went g c = λ exact. begun
+returns-in-Err-Memory-clause-went g c = begun

@@ -27,21 +27,21 @@ use Rattle.at_engine.proofs.engine.Engine.post.Goals as goal
 pub returns-then-is_full : goal.returns-then-is_full
 returns-then-is_full g c =
     let e = c.args.self.now in
-    refused_so g.K.Keeper.exact g.K.Keeper.contents g.K.Keeper.memories e c.requires.sound _ refusal.Limit
+    refused_so g.K.Keeper.contents g.K.Keeper.memories e c.requires.sound _ refusal.Limit
     (post_full (rules_of e) (state_of e) c.args.session (place_view c.args.place.now) c.args.attribute.now (arguments_view c.args.arguments.now)
     (ap (nat_le 100) (as_many_posted (path e.store) c.args.session e.posts.items.items) ∙ sym c.if-is_full.ensures))
 
 pub returns-in_default : goal.returns-in_default
 returns-in_default g c =
     let e = c.args.self.now in
-    refused_so g.K.Keeper.exact g.K.Keeper.contents g.K.Keeper.memories e c.requires.sound _ refusal.Limit
+    refused_so g.K.Keeper.contents g.K.Keeper.memories e c.requires.sound _ refusal.Limit
     (post_last (rules_of e) (state_of e) c.args.session (place_view c.args.place.now) c.args.attribute.now (arguments_view c.args.arguments.now)
     (ap (nat_le 100) (as_many_posted (path e.store) c.args.session e.posts.items.items) ∙ sym c.if-is_full.ensures) (eq-eqb e.posts.count last_post c.in_default.ensures))
 
 pub returns-in_err-posted : goal.returns-in_err-posted
 returns-in_err-posted g c =
     let p = err_from_is_err_and c.from_residual.result c.from_residual.ensures.1 in
-    failed_so g.K.Keeper.exact g.K.Keeper.contents g.K.Keeper.memories c.args.self.now c.requires.sound _ c.from_residual.result p.0 p.1
+    failed_so g.K.Keeper.contents g.K.Keeper.memories c.args.self.now c.requires.sound _ c.from_residual.result p.0 p.1
 
 pub returns-in_err-push : goal.returns-in_err-push
 returns-in_err-push g c =
@@ -55,7 +55,7 @@ returns-in_err-push g c =
     let Numbered : List Posted → ℕ → Type 0 = λ l n. AreNumbered 0 (map (posted_view (path e.store)) l) n in
     let stays : Continues g.K.Keeper.contents g.K.Keeper.memories e new = record {
       rules = refl;
-      slice = refl;
+      settings = refl;
       known = λ k. k;
       sound = record {
         idle = s.idle;
@@ -70,9 +70,15 @@ returns-in_err-push g c =
       };
     } in
     let state = ap₂ (λ (l : List Posted) (n : ℕ). record (state_of e) { posts = n; posted = map (posted_view (path e.store)) l }) same.0 same.1 in
-    quiet_so g.K.Keeper.exact g.K.Keeper.contents g.K.Keeper.memories e new _ result refl refl refl stays
+    quiet_so g.K.Keeper.contents g.K.Keeper.memories e new _ result refl refl refl stays
     (if_any result _ (post_quiet (rules_of e) (state_of e) c.args.session (place_view c.args.place.now) c.args.attribute.now (arguments_view c.args.arguments.now))) (rw p.1 tt) (on_err result _ state)
-    (λ spare. record { kept = spare.kept; posted' = subst (AllByRecursion (λ (p : Posted). IsSparingOn (rules_of e) (contents e.store) k p.question)) (sym same.0) spare.posted' })
+    (λ it. record {
+      unbounded = it.unbounded;
+      spare = record {
+        kept = it.spare.kept;
+        posted' = subst (AllByRecursion (λ (p : Posted). IsSparingOn (rules_of e) (contents e.store) k p.question)) (sym same.0) it.spare.posted';
+      };
+    })
 
 pub returns : goal.returns
 returns g c =
@@ -90,15 +96,19 @@ returns g c =
     let on = posted_on (rules_of e) e.store k c.in-Some.number c.args.session place name arguments (marks_of e) c.in_ok-posted.posted h c.requires.named c.requires.sound.marked in
     let stays : Continues g.K.Keeper.contents g.K.Keeper.memories e new = record {
       rules = refl;
-      slice = refl;
+      settings = refl;
       known = λ k. k;
       sound = sound_push (rules_of e) e.store (marks_of e) e.posts new.posts c.in_ok-posted.posted k c.in_ok-push.ensures.items c.in_ok-push.ensures.count (h.is_number ∙ c.in-Some.ensures.0) on c.requires.sound;
     } in
     let Sparing : Posted → Type 0 = λ p. IsSparingOn (rules_of e) (contents e.store) k p.question in
     let begins = sparing_on (rules_of e) (contents e.store) k c.in_ok-posted.posted.question h.is_new in
-    quiet_so g.K.Keeper.exact g.K.Keeper.contents g.K.Keeper.memories e new _ (Ok (form.Open c.in-Some.number)) refl refl refl stays (post_quiet (rules_of e) (state_of e) c.args.session place name arguments)
+    quiet_so g.K.Keeper.contents g.K.Keeper.memories e new _ (Ok (form.Open c.in-Some.number)) refl refl refl stays (post_quiet (rules_of e) (state_of e) c.args.session place name arguments)
     (subst (λ (n : ℕ). Obeys (rules_of e) (state_of e) c.args.session (Post place name arguments) (form.Open n) (state_of new)) (sym c.in-Some.ensures.0) made) tt
-    (λ spare. record {
-      kept = spare.kept;
-      posted' = subst (AllByRecursion Sparing) (sym c.in_ok-push.ensures.items) (all_push Sparing e.posts.items.items c.in_ok-posted.posted begins spare.posted');
+    (λ it. record {
+      unbounded = it.unbounded;
+      spare = record {
+        kept = it.spare.kept;
+        posted' = subst (AllByRecursion Sparing) (sym c.in_ok-push.ensures.items)
+            (all_push Sparing e.posts.items.items c.in_ok-posted.posted begins it.spare.posted');
+      };
     })

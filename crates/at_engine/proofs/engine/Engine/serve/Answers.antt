@@ -13,7 +13,7 @@ say-requires g c =
     let t = c.outcome-told.result in
     record {
       room = c.in_ok-reserve.ensures.ok;
-      writable = writable_so (IsStep g.K.Keeper.exact g.K.Keeper.contents g.K.Keeper.memories c.args.line.now e c.outcome-told.new.self) t.session t.done t.form c.outcome-told.ensures.gets;
+      writable = writable_so (IsStep g.K.Keeper.contents g.K.Keeper.memories c.args.line.now e c.outcome-told.new.self) t.session t.done t.form c.outcome-told.ensures.gets;
     }
 
 pub returns : goal.returns
@@ -23,15 +23,15 @@ returns g c =
     let line = c.args.line.now in
     let t = c.outcome-told.result in
     let wants = c.say.result in
-    let a = answered (IsStep g.K.Keeper.exact g.K.Keeper.contents g.K.Keeper.memories line e new) c.reserve.new.self.items c.say.new.out.items t t.form refl wants c.outcome-told.ensures.gets c.say.ensures.said in
+    let a = answered (IsStep g.K.Keeper.contents g.K.Keeper.memories line e new) c.reserve.new.self.items c.say.new.out.items t t.form refl wants c.outcome-told.ensures.gets c.say.ensures.said in
     let stays = c.outcome-told.ensures.stays in
     record {
       done = record {
         served = (a.0, a.1, a.2 ∙ ap (λ xs. xs ++ reply_text a.0) c.reserve.ensures.items);
-        spare = λ whole exact spare. spare_line g.K.Keeper.contents e new line t.form wants
-            (said_form t wants c.reserve.new.self.items c.say.new.out.items c.say.ensures.said) (c.outcome-told.ensures.spares exact spare) whole;
-        keeps = λ exact spare.
-            kept_served g.K.Keeper.contents e new line t.form wants (c.outcome-told.ensures.spares exact spare) (said_form t wants c.reserve.new.self.items c.say.new.out.items c.say.ensures.said)
+        spare = λ whole spare. spare_line g.K.Keeper.contents e new line t.form wants
+            (said_form t wants c.reserve.new.self.items c.say.new.out.items c.say.ensures.said) (c.outcome-told.ensures.spares spare) whole;
+        keeps = λ spare.
+            kept_served g.K.Keeper.contents e new line t.form wants (c.outcome-told.ensures.spares spare) (said_form t wants c.reserve.new.self.items c.say.new.out.items c.say.ensures.said)
             (λ same none. stays_unless (rules_of e) (state_of e) (state_of new) line (wants, a.0) same a.1.serves none);
       };
       same = tt;
@@ -39,7 +39,7 @@ returns g c =
       err = tt;
       room = omega (arith, c.reserve.ensures.capacity, c.say.ensures.room);
       rules = stays.rules;
-      slice = stays.slice;
+      settings = stays.settings;
       sound = record { held = stays.sound; typed = typed_served (rules_of e) (rules_of new) (wants, a.0) (state_of e) (state_of new) line c.requires.sound.typed stays.rules a.1.serves; known = stays.known c.requires.sound.known };
       went = c.outcome-told.ensures.went;
     }

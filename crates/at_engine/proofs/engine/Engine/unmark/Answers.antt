@@ -20,9 +20,9 @@ returns g c =
     ∙ sym (filtered (path e.store) (λ (m : Marked). not (is_mark c.args.session c.args.name.now m)) (λ (m : Mark). not (is_named c.args.session c.args.name.now m)) (λ m n. refl) (marks_of e)) in
     let stays : Continues g.K.Keeper.contents g.K.Keeper.memories e new = record {
       rules = refl;
-      slice = refl;
+      settings = refl;
       known = λ k. k;
       sound = sound_marks (rules_of e) e.store (marks_of e) _ e.posts _ (subst (AreThere (path e.store)) (sym c.forget.ensures) (there_filtered (path e.store) (λ (m : Mark). not (is_named c.args.session c.args.name.now m)) (marks_of e) c.requires.sound.marked)) c.requires.sound;
     } in
-    rw c.done.ensures (quiet_so g.K.Keeper.exact g.K.Keeper.contents g.K.Keeper.memories e new _ (Ok (form.Ok e.version)) refl refl refl stays tt (unmarked (rules_of e) (state_of e) c.args.session c.args.name.now _ left) tt
-    (spare_stays g.K.Keeper.contents e new refl refl refl refl refl))
+    rw c.done.ensures (quiet_so g.K.Keeper.contents g.K.Keeper.memories e new _ (Ok (form.Ok e.version)) refl refl refl stays tt (unmarked (rules_of e) (state_of e) c.args.session c.args.name.now _ left) tt
+    (spare_stays g.K.Keeper.contents e new refl refl refl refl refl refl))

@@ -13,9 +13,9 @@ use Rattle.at_engine.proofs.engine.turning.all_turns.Goals as goal
 
 pub loop-turns-init : goal.loop-turns-init
 loop-turns-init g c = record {
-  so = so_none AllocError g.K.Keeper.exact c.args.rules.now c.args.store.now c.requires.can.turns.answerable.basis
+  so = so_none AllocError c.args.rules.now c.args.store.now c.requires.can.turns.answerable.basis
       (g.K.Keeper.contents c.args.demand.now.keeper) (g.K.Keeper.memories c.args.demand.now.keeper) c.args.question.now c.requires.can;
-  went = λ exact. begun;
+  went = begun;
 }
 
 pub loop-turns-preserved : goal.loop-turns-preserved
@@ -30,17 +30,17 @@ loop-turns-preserved g c =
     let p = c.turns.new.question in
     let so = c.loop-turns.invariant.so in
     let n = c.in_ok-turns.turns in
-    let h = as_one_record AllocError g.K.Keeper.exact rules s 18446744073709551615 (k old.keeper) (k new.keeper) old.work new.work
+    let h = as_one_record AllocError rules s 18446744073709551615 (k old.keeper) (k new.keeper) old.work new.work
     (m old.keeper) (m new.keeper) q p so.standing so.sound (Ok (with_answer n c.in_ok-turns.answer)) c.in_ok-turns.ensures.turned
     c.in_ok-turns.ensures.traces in
-    let none = subst (λ (o : Option AnswerCode). HasTurnedUpTo {E = AllocError} g.K.Keeper.exact rules s (Some 18446744073709551615)
+    let none = subst (λ (o : Option AnswerCode). HasTurnedUpTo {E = AllocError} rules s (Some 18446744073709551615)
     (k old.keeper) (k new.keeper) (m old.keeper) (m new.keeper) q p (Ok (with_answer n o))) c.in_default.is h in
     record {
-      so = so_more AllocError g.K.Keeper.exact rules s c.requires.can.turns.answerable.basis (k c.args.demand.now.keeper)
+      so = so_more AllocError rules s c.requires.can.turns.answerable.basis (k c.args.demand.now.keeper)
           (m c.args.demand.now.keeper) c.args.question.now (k old.keeper) (m old.keeper) q so 18446744073709551615 (k new.keeper)
           (m new.keeper) p n (g.K.Keeper.always_in_turns old.keeper new.keeper) none;
-      went = λ exact. went_then (m c.args.demand.now.keeper) (m old.keeper) (m new.keeper) c.args.demand.now.made old.made new.made
-          (c.loop-turns.invariant.went exact) (c.turns.ensures.went exact);
+      went = went_then (m c.args.demand.now.keeper) (m old.keeper) (m new.keeper) c.args.demand.now.made old.made new.made
+          (c.loop-turns.invariant.went) (c.turns.ensures.went);
     }
 
 pub loop-turns-smaller : goal.loop-turns-smaller
@@ -55,12 +55,12 @@ loop-turns-smaller g c =
     let p = c.turns.new.question in
     let so = c.loop-turns.invariant.so in
     let n = c.in_ok-turns.turns in
-    let h = as_one_record AllocError g.K.Keeper.exact rules s 18446744073709551615 (k old.keeper) (k new.keeper) old.work new.work
+    let h = as_one_record AllocError rules s 18446744073709551615 (k old.keeper) (k new.keeper) old.work new.work
     (m old.keeper) (m new.keeper) q p so.standing so.sound (Ok (with_answer n c.in_ok-turns.answer)) c.in_ok-turns.ensures.turned
     c.in_ok-turns.ensures.traces in
-    let none = subst (λ (o : Option AnswerCode). HasTurnedUpTo {E = AllocError} g.K.Keeper.exact rules s (Some 18446744073709551615)
+    let none = subst (λ (o : Option AnswerCode). HasTurnedUpTo {E = AllocError} rules s (Some 18446744073709551615)
     (k old.keeper) (k new.keeper) (m old.keeper) (m new.keeper) q p (Ok (with_answer n o))) c.in_default.is h in
-    so_fewer AllocError g.K.Keeper.exact rules s c.requires.can.turns.answerable.basis (k c.args.demand.now.keeper)
+    so_fewer AllocError rules s c.requires.can.turns.answerable.basis (k c.args.demand.now.keeper)
     (m c.args.demand.now.keeper) c.args.question.now (k old.keeper) (m old.keeper) q so 18446744073709551615 (k new.keeper)
     (m new.keeper) p n (omega arith) c.requires.can.named none
 
@@ -74,10 +74,10 @@ returns-in_err-turns-clause-turned g c =
     let old = c.loop-turns.demand in
     let new = c.turns.new.self in
     let so = c.loop-turns.invariant.so in
-    let h = as_one_record AllocError g.K.Keeper.exact rules s 18446744073709551615 (k old.keeper) (k new.keeper) old.work new.work
+    let h = as_one_record AllocError rules s 18446744073709551615 (k old.keeper) (k new.keeper) old.work new.work
     (m old.keeper) (m new.keeper) c.loop-turns.question c.turns.new.question so.standing so.sound _ c.in_err-turns.ensures.turned
     c.in_err-turns.ensures.traces in
-    rw is (so_broken AllocError g.K.Keeper.exact rules s c.requires.can.turns.answerable.basis (k c.args.demand.now.keeper)
+    rw is (so_broken AllocError rules s c.requires.can.turns.answerable.basis (k c.args.demand.now.keeper)
     (m c.args.demand.now.keeper) c.args.question.now (k old.keeper) (m old.keeper) c.loop-turns.question so 18446744073709551615
     (k new.keeper) (m new.keeper) c.turns.new.question _ _ refl h)
 
@@ -93,12 +93,12 @@ returns-in-Some-clause-turned g c =
     let p = c.turns.new.question in
     let so = c.loop-turns.invariant.so in
     let n = c.in_ok-turns.turns in
-    let h = as_one_record AllocError g.K.Keeper.exact rules s 18446744073709551615 (k old.keeper) (k new.keeper) old.work new.work
+    let h = as_one_record AllocError rules s 18446744073709551615 (k old.keeper) (k new.keeper) old.work new.work
     (m old.keeper) (m new.keeper) q p so.standing so.sound (Ok (with_answer n c.in_ok-turns.answer)) c.in_ok-turns.ensures.turned
     c.in_ok-turns.ensures.traces in
-    let some = subst (λ (o : Option AnswerCode). HasTurnedUpTo {E = AllocError} g.K.Keeper.exact rules s (Some 18446744073709551615)
+    let some = subst (λ (o : Option AnswerCode). HasTurnedUpTo {E = AllocError} rules s (Some 18446744073709551615)
     (k old.keeper) (k new.keeper) (m old.keeper) (m new.keeper) q p (Ok (with_answer n o))) c.in-Some.is h in
-    so_answered AllocError g.K.Keeper.exact rules s c.requires.can.turns.answerable.basis (k c.args.demand.now.keeper)
+    so_answered AllocError rules s c.requires.can.turns.answerable.basis (k c.args.demand.now.keeper)
     (m c.args.demand.now.keeper) c.args.question.now (k old.keeper) (m old.keeper) q so 18446744073709551615 (k new.keeper)
     (m new.keeper) p n c.in-Some.answer some
 
@@ -116,11 +116,11 @@ turns-requires-clause-justified g c = stay_justified c.args.rules.now (contents 
     (g.K.Keeper.memories c.loop-turns.demand.keeper) c.loop-turns.invariant.so.traces c.requires.justified
 
 pub returns-in_err-turns-clause-went : goal.returns-in_err-turns-clause-went
-returns-in_err-turns-clause-went g c = λ exact. went_then (g.K.Keeper.memories c.args.demand.now.keeper) (g.K.Keeper.memories c.loop-turns.demand.keeper)
+returns-in_err-turns-clause-went g c = went_then (g.K.Keeper.memories c.args.demand.now.keeper) (g.K.Keeper.memories c.loop-turns.demand.keeper)
     (g.K.Keeper.memories c.turns.new.self.keeper) c.args.demand.now.made c.loop-turns.demand.made c.turns.new.self.made
-    (c.loop-turns.invariant.went exact) (c.turns.ensures.went exact)
+    (c.loop-turns.invariant.went) (c.turns.ensures.went)
 
 pub returns-in-Some-clause-went : goal.returns-in-Some-clause-went
-returns-in-Some-clause-went g c = λ exact. went_then (g.K.Keeper.memories c.args.demand.now.keeper) (g.K.Keeper.memories c.loop-turns.demand.keeper)
+returns-in-Some-clause-went g c = went_then (g.K.Keeper.memories c.args.demand.now.keeper) (g.K.Keeper.memories c.loop-turns.demand.keeper)
     (g.K.Keeper.memories c.turns.new.self.keeper) c.args.demand.now.made c.loop-turns.demand.made c.turns.new.self.made
-    (c.loop-turns.invariant.went exact) (c.turns.ensures.went exact)
+    (c.loop-turns.invariant.went) (c.turns.ensures.went)

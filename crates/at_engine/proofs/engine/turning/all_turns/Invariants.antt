@@ -1,5 +1,4 @@
 use Rattle.std.proofs.Common.{◌-◌}
-use Rattle.std.specs.Prelude.{IsTrue}
 use Rattle.at_demand.specs.Levels.{asked_by}
 use Rattle.at_demand.specs.Went.{Went}
 use Rattle.at_engine.proofs.of_turns.Settling.{most_turns}
@@ -8,9 +7,9 @@ use Rattle.at_engine.proofs.engine.turning.all_turns.Given as goal
 
 abbrev pub invariant-loop-turns : goal.invariant-loop-turns
 invariant-loop-turns g l = record {
-  so : HasTurnedSo g.K.Keeper.exact l.rules l.store (g.K.Keeper.contents l.initial.demand.keeper) (g.K.Keeper.contents l.demand.keeper)
+  so : HasTurnedSo l.rules l.store (g.K.Keeper.contents l.initial.demand.keeper) (g.K.Keeper.contents l.demand.keeper)
       (g.K.Keeper.memories l.initial.demand.keeper) (g.K.Keeper.memories l.demand.keeper) l.initial.question l.question;
-  went : IsTrue g.K.Keeper.exact → Went (g.K.Keeper.memories l.initial.demand.keeper) l.initial.demand.made
+  went : Went (g.K.Keeper.memories l.initial.demand.keeper) l.initial.demand.made
       (g.K.Keeper.memories l.demand.keeper) l.demand.made;
 }
 

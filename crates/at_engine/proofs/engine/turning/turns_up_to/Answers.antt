@@ -11,9 +11,9 @@ returns-in-Some-clause-turned g c =
     let old = c.args.demand.now in
     let new = c.turns.new.self in
     let can = c.requires.can.turns in
-    subst (λ (limit : Option ℕ). HasTurnedUpTo {E = AllocError} g.K.Keeper.exact c.args.rules.now c.args.store.now limit
+    subst (λ (limit : Option ℕ). HasTurnedUpTo {E = AllocError} c.args.rules.now c.args.store.now limit
     (k old.keeper) (k new.keeper) (m old.keeper) (m new.keeper) c.args.question.now c.turns.new.question c.turns.result) (sym c.in-Some.is)
-    (as_one_record AllocError g.K.Keeper.exact c.args.rules.now c.args.store.now c.in-Some.limit (k old.keeper) (k new.keeper) old.work new.work
+    (as_one_record AllocError c.args.rules.now c.args.store.now c.in-Some.limit (k old.keeper) (k new.keeper) old.work new.work
     (m old.keeper) (m new.keeper) c.args.question.now c.turns.new.question can.standing
     (record { right = can.answerable.right; whole = can.wholes }) c.turns.result c.turns.ensures.turned c.turns.ensures.traces)
 
@@ -22,7 +22,7 @@ returns-in-None-clause-turned g c =
     let k = g.K.Keeper.contents in
     let old = c.args.demand.now in
     let new = c.all_turns.new.demand in
-    subst (λ (limit : Option ℕ). HasTurnedUpTo {E = AllocError} g.K.Keeper.exact c.args.rules.now c.args.store.now limit
+    subst (λ (limit : Option ℕ). HasTurnedUpTo {E = AllocError} c.args.rules.now c.args.store.now limit
     (k old.keeper) (k new.keeper)
     (g.K.Keeper.memories old.keeper) (g.K.Keeper.memories new.keeper) c.args.question.now c.all_turns.new.question c.all_turns.result) (sym c.in-None.is)
     c.all_turns.ensures.turned
