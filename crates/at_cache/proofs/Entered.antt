@@ -29,7 +29,7 @@ agree false true f g = g refl
 agree false false f g = refl
 
 -- edges of an entry that isn't there yet
-module _ {lists : Location ℕ → List Edge} {puts : ℕ} {m mid : Memory} {x : Edge} {reads : List (Location ℕ)} {uses : List ℕ} (later : Location ℕ → List Edge) (i : Index lists puts m) (stamp : x.stamp ≡ puts) (r : Reads m x reads lists later) (u : Uses x uses m mid) where
+module _ {lists : Location ℕ → List Edge} {puts : ℕ} {m mid : Memory} {x : Edge} {reads : List (Location ℕ)} {uses : List ℕ} (later : Location ℕ → List Edge) (i : Index lists puts m) (stamp : x.stamp ≡ puts) (r : Reads m x reads lists later) (u : Uses m x uses m mid) where
   back : (k : ℕ) (f : Info) → mid k ≡ Some f → (e : Info) × (m k ≡ Some e) × (f ≡ with_users f.users e)
   back k f found = by (m k) refl
     where

@@ -53,9 +53,14 @@ reused_from s us m mid is k e there = elim (cases_eq k s) [
   | inr differs ↦ (e, is k ∙ reused_there s us m k differs ∙ there, refl)
 ]
 
-pub lists_reused : {x : Edge} {old was new : List Edge} (s : ℕ) (us : List Edge) (m mid : Memory) → ((k : ℕ) → mid k ≡ reused s us m k) → was ≡ old → Lists mid x was new → Lists m x old new
-lists_reused {x} {old} {was} {new} s us m mid is same l = subst (λ es. Lists m x es new) same (record {
-  keeps = λ y c e there stamp. let (f, found, alike) = reused_from s us m mid is y.slot e there in l.keeps y c f found (alike ∙ stamp);
+-- of what is told of before there is one with the same number after
+abbrev pub IsToldOn : (told now : Memory) → Type 0
+IsToldOn told now = (k : ℕ) (e : Info) → told k ≡ Some e → (f : Info) × (now k ≡ Some f) × (f.stamp ≡ e.stamp)
+
+pub lists_moved : {told now : Memory} {x : Edge} {old was new : List Edge} → IsToldOn told now → was ≡ old → Lists now x was new
+    → Lists told x old new
+lists_moved {told} {now} {x} {old} {was} {new} on same l = subst (λ es. Lists told x es new) same (record {
+  keeps = λ y c e there stamp. let (f, found, alike) = on y.slot e there in l.keeps y c f found (alike ∙ stamp);
   only = l.only;
 })
 
@@ -146,10 +151,10 @@ listed_more {L} cases {x} {mid} {new} ls l a has others k c = elim (cases k l) [
 ]
 
 -- no slot yet
-pub uses_none : (x : Edge) (m : Memory) → Uses x [] m m
-uses_none x m = record { there = λ k e h. (e, h, refl); free = λ k h. h; users = reads_none m x (users_at m) }
+pub uses_none : (told : Memory) (x : Edge) (m : Memory) → Uses told x [] m m
+uses_none told x m = record { there = λ k e h. (e, h, refl); free = λ k h. h; users = reads_none told x (users_at m) }
 
-pub uses_all : {x : Edge} {old new : Memory} (n : ℕ) (ss : List ℕ) → Uses x (take n ss) old new → Uses x ss old new
+pub uses_all : {told : Memory} {x : Edge} {old new : Memory} (n : ℕ) (ss : List ℕ) → Uses told x (take n ss) old new → Uses told x ss old new
 uses_all n ss u = record { there = u.there; free = u.free; users = reads_all n ss u.users }
 
 pub users_of : (m : Memory) (k : ℕ) (e : Info) → m k ≡ Some e → users_at m k ≡ e.users
@@ -166,7 +171,8 @@ from_kept m k some = by (m k) some
     by (Some e) h = (e, refl)
 
 -- one slot more
-module _ {x : Edge} {old mid new : Memory} {ss : List ℕ} (s : ℕ) (u : Uses x ss old mid) (users : List Edge) (some : IsSome (mid s)) (written : (k : ℕ) → new k ≡ reused s users mid k) (lists : Lists mid x (users_at mid s) users) where
+module _ {told now : Memory} {x : Edge} {old mid new : Memory} {ss : List ℕ} (s : ℕ) (on : IsToldOn told now) (u : Uses told x ss old mid)
+    (users : List Edge) (some : IsSome (mid s)) (written : (k : ℕ) → new k ≡ reused s users mid k) (lists : Lists now x (users_at mid s) users) where
   other : (k : ℕ) → (k ≡ s → ⊥) → new k ≡ mid k
   other k differs = written k ∙ reused_there s users mid k differs
 
@@ -179,16 +185,14 @@ module _ {x : Edge} {old mid new : Memory} {ss : List ℕ} (s : ℕ) (u : Uses x
   pub users_other : (k : ℕ) → (k ≡ s → ⊥) → users_at new k ≡ users_at mid k
   users_other k differs = same_users mid new k (other k differs)
 
-  listed_from : (k : ℕ) → Lists old x (users_at mid k) (users_at new k)
+  listed_from : (k : ℕ) → Lists told x (users_at mid k) (users_at new k)
   listed_from k = elim (cases_eq k s) [
-    | inl at_s ↦ subst (λ n. Lists old x (users_at mid n) (users_at new n)) (sym at_s) (subst (Lists old x (users_at mid s)) (sym users_here) (record {
-      keeps = λ y c e there same. let (f, found, is) = u.there y.slot e there in lists.keeps y c f found (ap (λ (i : Info). i.stamp) is ∙ same);
-      only = lists.only;
-    }))
+    | inl at_s ↦ subst (λ n. Lists told x (users_at mid n) (users_at new n)) (sym at_s)
+        (subst (Lists told x (users_at mid s)) (sym users_here) (lists_moved on refl lists))
     | inr differs ↦ lists_same (users_other k differs)
   ]
 
-  pub uses_more : Uses x (ss ++ s ∷ []) old new
+  pub uses_more : Uses told x (ss ++ s ∷ []) old new
   uses_more = record {
     there = λ k e h. let (f, found, is) = u.there k e h in elim (cases_eq k s) [
       | inl at_s ↦ (with_users users f, ap new at_s ∙ here f (ap mid (sym at_s) ∙ found), ap (with_users users) is)
@@ -201,7 +205,7 @@ module _ {x : Edge} {old mid new : Memory} {ss : List ℕ} (s : ℕ) (u : Uses x
     users = reads_more cases_eq s u.users listed_from users_other;
   }
 
-pub still_kept : {x : Edge} {old new : Memory} {ss : List ℕ} → Uses x ss old new → (k : ℕ) → IsSome (old k) → IsSome (new k)
+pub still_kept : {told : Memory} {x : Edge} {old new : Memory} {ss : List ℕ} → Uses told x ss old new → (k : ℕ) → IsSome (old k) → IsSome (new k)
 still_kept {old = old} {new = new} u k some = let (e, h) = from_kept old k some in let (f, found, is) = u.there k e h in ap is_some found
 
 pub still_there : (s : ℕ) (us : List Edge) (m mid : Memory) → IsSome (m s) → ((k : ℕ) → mid k ≡ reused s us m k) → IsSome (mid s)

@@ -1,5 +1,6 @@
 -- Of entries that stay in memory where they are not kept.
 pub mod Again
+pub mod Alive
 pub mod Behind
 pub mod Comes
 pub mod EnteredHeld

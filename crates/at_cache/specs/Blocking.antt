@@ -35,5 +35,5 @@ Follows t standings lists puts e p = (f : Info) × (memory_of t p ≡ Some f)
 -- the same of the one in the slot s
 abbrev pub LeadsTo : Table → List Standing → (s p : ℕ) → Type 0
 LeadsTo t standings s p = (lists : Location ℕ → List Edge) (puts : ℕ)
-    → IsTied lists puts (memory_of t) → AreValued standings (memory_of t)
+    → IsTied lists puts standings (memory_of t) → AreValued standings (memory_of t)
     → (e : Info) → memory_of t s ≡ Some e → Follows t standings lists puts e p

@@ -38,11 +38,11 @@ pub record Reads {L : Type 0} (m : Memory) (x : Edge) (locations : List L) (old 
 abbrev pub AreListed : {L : Type 0} → Edge → List L → (L → List Edge) → Type 0
 AreListed {L} x locations lists = (l : L) → Contains locations l → Contains (lists l) x
 
--- The same entries are there, but for their users, which are so for these slots.
-pub record Uses (x : Edge) (slots : List ℕ) (old new : Memory) : Type 0 where
+-- The same entries are there, but for their users, which are so for these slots: all edges stay that tell of what is told of.
+pub record Uses (told : Memory) (x : Edge) (slots : List ℕ) (old new : Memory) : Type 0 where
   pub there : (k : ℕ) (e : Info) → old k ≡ Some e → (f : Info) × (new k ≡ Some f) × (f ≡ with_users f.users e)
   pub free : (k : ℕ) → old k ≡ None → new k ≡ None
-  pub users : Reads old x slots (users_at old) (users_at new)
+  pub users : Reads told x slots (users_at old) (users_at new)
 
 -- the entries of these slots are there
 abbrev pub AreTaken : Memory → List ℕ → Type 0

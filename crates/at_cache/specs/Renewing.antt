@@ -53,11 +53,11 @@ pub record Compares (slot : ℕ) (value : Option (Value ℕ)) (standings : List 
 abbrev pub IsSlotFor : Table → Instance ℕ → (slot : ℕ) → Type 0
 IsSlotFor t i slot = elim (lookup (same_instance i) t.entries.entries) as (λ _. Type 0) [ None ↦ slot ≡ t.places.vacant_key | Some e ↦ slot ≡ e.slot ]
 
--- What is kept is found, and so is all that is in memory; and the instance isn't kept, of which that is the slot.
+-- What is kept is found, and so is what can be kept again; and the instance isn't kept, of which that is the slot.
 pub record IsAwaited (lists : Location ℕ → List Edge) (t : Table) (standings : List Standing) (puts : ℕ)
     (i : Instance ℕ) (slot : ℕ) : Type 0 where
   pub indexed : IsIndexed lists puts (held standings (memory_of t))
-  pub tied : IsTied lists puts (memory_of t)
+  pub tied : IsTied lists puts standings (memory_of t)
   pub valued : AreValued standings (memory_of t)
   pub absent : kept_held lists t standings puts i ≡ None
   pub place : IsSlotFor t i slot
@@ -90,12 +90,12 @@ pub record PutsIn (slot : ℕ) (instance : Instance ℕ) (value : Option (Value 
   pub spared : (k : ℕ) (e : Info) → m k ≡ Some e → (k ≡ slot → ⊥) → (standing_of standings k).traced ≡ true
       → ((standing_of later k).traced ≡ true) ⊎ (IsUser m slot k e × IsAnother m slot value)
 
--- The entry of i came to be kept, by that number, or all that is kept is what it was. It is found, and so is all that is in memory; of what is
+-- The entry of i came to be kept, by that number, or all that is kept is what it was. It is found, and so is what can be kept again; of what is
 -- remembered no more is lost than by a put.
 pub record EntersHeld {E : Type 0} (i : Instance ℕ) (v : Option (Value ℕ)) (looked : List (Location ℕ)) (taken : List (Instance ℕ)) (o : Order)
     (number : ℕ) (lists : Location ℕ → List Edge) (old : Cut) (later : Location ℕ → List Edge) (new : Cut) (r : Result (Unit {0}) E) : Type 0 where
   pub indexed : IsIndexed later (number + 1) (held new.standings.items (memory_of new.entries))
-  pub tied : IsTied later (number + 1) (memory_of new.entries)
+  pub tied : IsTied later (number + 1) new.standings.items (memory_of new.entries)
   pub valued : AreValued new.standings.items (memory_of new.entries)
   pub puts : OnOk r (Puts (kept_cut lists old number) i v looked taken (kept_cut later new (number + 1)))
   pub err : OnErr r (KeepsAll (kept_cut lists old number) (kept_cut later new (number + 1)))

@@ -16,11 +16,11 @@ abbrev pub Settles : Memories → Instance ℕ → (old new : Entries) → (work
 Settles m i old new work done = (q : Instance ℕ) → IsNext m old q i
     → (n : ℕ) × Settled m q n old new × (done ≡ min (work + n) (2 ^ 64 - 1))
 
--- what is kept is found, and so is all that is in memory
+-- what is kept is found, and so is what can be kept again
 pub record IsWhole (lists : Location ℕ → List Edge) (t : Table) (standings : List Standing) (counts : Counts)
     : Type 0 where
   pub indexed : IsIndexed lists counts.puts (held standings (memory_of t))
-  pub tied : IsTied lists counts.puts (memory_of t)
+  pub tied : IsTied lists counts.puts standings (memory_of t)
   pub valued : AreValued standings (memory_of t)
   pub few : counts.work < 2 ^ 64
 

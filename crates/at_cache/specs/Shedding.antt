@@ -30,7 +30,7 @@ pub record Sheds (standings : List Standing) (old new : Memory) : Type 0 where
 
 -- how many entries may be in memory where so many are kept: an eighth of these beside them, and some
 abbrev pub most_beside : ℕ → ℕ
-most_beside kept = kept + kept / 8 + 64
+most_beside kept = kept + kept / 8 + 2048
 
 -- whether more are in memory: an edit lets go of what isn't kept
 abbrev pub is_crowded : Cut → Bool

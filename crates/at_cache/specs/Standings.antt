@@ -1,11 +1,12 @@
 -- What entries that stay in memory show, by how they stand: what is kept, and what can be kept again.
-use Rattle.std.specs.Prelude.{◌≡◌, ◌<◌, ℕ, List, [], ◌∷◌, Bool, true, false, Option, None, Some, is_some, get_or, nat_eq, option_map, if◌then◌else◌}
+use Rattle.std.specs.Prelude.{◌≡◌, ◌<◌, ◌||◌, ℕ, List, [], ◌∷◌, Bool, true, false, Option, None, Some, is_some, get_or, nat_eq, option_map, if◌then◌else◌}
 use Rattle.std.specs.List.{flat_map, list_any}
 use Rattle.std.specs.Map.{lookup}
 use Rattle.std.specs.Option.{option_and_then}
 use Rattle.at_model.specs.Run.{Instance, Location, Value}
 use Rattle.at_body.specs.Same.{same_instance}
 use Rattle.at_body.specs.Values.{value_view}
+use Rattle.at_cache.specs.declared.cut.Cut.{Cut}
 use Rattle.at_cache.specs.declared.cut.Pass.{Pass}
 use Rattle.at_cache.specs.declared.cut.Pass.TheVariants as pass
 use Rattle.at_cache.specs.declared.edge.Edge.{Edge}
@@ -55,6 +56,17 @@ seen p standings m k = option_and_then (shown p (standing_of standings k)) (m k)
 abbrev pub held : List Standing → Memory → Memory
 held standings m k = seen pass.Values standings m k
 
+-- whether what stands so is kept, or can be kept again
+abbrev pub is_alive : Standing → Bool
+is_alive s = s.holds || s.traced
+
+-- the entries of which edges tell: an edge to any other one tells of nothing
+abbrev pub alive : List Standing → Memory → Memory
+alive standings m k = if is_alive (standing_of standings k) then m k else None
+
+abbrev pub alive_in : Cut → Memory
+alive_in c k = alive c.standings.items (memory_of c.entries) k
+
 -- the entry, where it is kept
 abbrev pub held_of : List Standing → Option Entry → Option Entry
 held_of standings o = option_and_then (λ e. if (standing_of standings e.slot).holds then Some e else None) o
@@ -93,12 +105,13 @@ remembered lists t standings = record {
 abbrev pub is_tied : Memory → ℕ → Info → ℕ → Bool
 is_tied m s e p = elim (m p) [ None ↦ false | Some f ↦ is_listed (edge_to s e) f.users ]
 
--- Of all that is in memory, whether it is kept or not: each entry is found from all entries that it used, by an edge of each; an
+-- Of all that is in memory: each entry that is kept or can be kept again is found from all entries that it used, by an edge of each; an
 -- edge that has the number of the entry in its slot means that the entry used that one; and numbers are earlier ones.
-pub record IsTied (lists : Location ℕ → List Edge) (puts : ℕ) (m : Memory) : Type 0 where
+pub record IsTied (lists : Location ℕ → List Edge) (puts : ℕ) (standings : List Standing) (m : Memory) : Type 0 where
   pub idle : (s : ℕ) (e : Info) → m s ≡ Some e → e.going ≡ false
   pub known : (s : ℕ) (e : Info) → m s ≡ Some e → e.stamp < puts
-  pub used : (s : ℕ) (e : Info) → m s ≡ Some e → (p : ℕ) → list_any (nat_eq p) e.links ≡ true → is_tied m s e p ≡ true
+  pub used : (s : ℕ) (e : Info) → m s ≡ Some e → is_alive (standing_of standings s) ≡ true → (p : ℕ) → list_any (nat_eq p) e.links ≡ true
+      → is_tied m s e p ≡ true
   pub uses : (p : ℕ) (f : Info) → m p ≡ Some f → (x : Edge) → is_listed x f.users ≡ true → (e : Info) → m x.slot ≡ Some e → e.stamp ≡ x.stamp
       → list_any (nat_eq p) e.links ≡ true
   pub past_readers : (l : Location ℕ) (x : Edge) → is_listed x (lists l) ≡ true → x.stamp < puts

@@ -6,12 +6,13 @@ ghost use Rattle.at_model.specs.Run.{Location};
 ghost use Rattle.at_body.specs.Same.{same_instance};
 ghost use Rattle.at_cache.specs.declared.edge.Edge.{Edge};
 ghost use Rattle.at_cache.specs.Info.{Info, memory_of};
-ghost use Rattle.at_cache.specs.Standings.{but_for, held_of, is_shown, remembered, standing_of};
+ghost use Rattle.at_cache.specs.Putting.{is_current};
+ghost use Rattle.at_cache.specs.Standings.{alive_in, but_for, held_of, is_shown, remembered, standing_of};
 
 use crate::again::slot_by;
-use crate::edge::Slot;
+use crate::edge::{Edge, Slot};
 use crate::entry::Entry;
-use crate::standing::{Standing, standing_at};
+use crate::standing::{Standing, is_alive, standing_at};
 use crate::table::Table;
 use at_body::Inst;
 
@@ -114,6 +115,16 @@ impl Cut {
             Some(slot) => standing_at(self.standings.as_slice(), slot).holds,
             None => false,
         }
+    }
+
+    /// Whether the edge tells of an entry that is kept, or can be kept again.
+    pub fn tells_of(&self, edge: &Edge) -> bool
+        ensures { result ≡ is_current (alive_in self.now) edge.now }
+    {
+        if !is_alive(standing_at(self.standings.as_slice(), edge.slot)) {
+            return false;
+        }
+        self.entries.is_current(edge)
     }
 
     /// Whether the pass sees what is in the slot, if anything is.

@@ -59,7 +59,7 @@ pub struct KeepRecorded {
     // The last limit on what was folded into one.
     folds: u32,
     ghost indexed: { IsIndexed (edges_to readers) puts (held cut.standings.items (memory_of cut.entries)) },
-    ghost tied: { IsTied (edges_to readers) puts (memory_of cut.entries) },
+    ghost tied: { IsTied (edges_to readers) puts cut.standings.items (memory_of cut.entries) },
     ghost valued: { AreValued cut.standings.items (memory_of cut.entries) },
     ghost noted: { AreNoted (edges_to readers) index_read.items },
     ghost sure: { doubtful ≡ false → TracesKept (kept_held (edges_to readers) cut.entries cut.standings.items puts)
@@ -85,7 +85,7 @@ impl Drop for KeepRecorded {
 }
 
 // How many entries are in memory at least before an edit lets go of some.
-const FEW: usize = 64;
+const FEW: usize = 2048;
 
 impl KeepRecorded {
     /// A keeper that keeps nothing yet.

@@ -1,4 +1,5 @@
-//! One edge more of what an entry rests on.
+//! One edge more of what an entry rests on. Edges tell of entries that are kept or can be kept again; any other edge tells of nothing, and a
+//! list that gains one loses some of those.
 
 ghost use Rattle.std.specs.Prelude.{◌≡◌, ◌<◌, ◌≤◌, ◌^◌, ◌∷◌, ◌++◌, [], ℕ, List, Option, None, Some, IsSome, Contains, IfOk, IfSome, IsTrue, MatchBool, OnErr, OnOk, length, map, slice_get, slice_set, true, false};
 ghost use Rattle.std.specs.Map.{lookup};
@@ -11,13 +12,15 @@ ghost use Rattle.at_cache.specs.declared.facet.Readers.{Readers};
 ghost use Rattle.at_cache.specs.Asking.{AreNoted};
 ghost use Rattle.at_cache.specs.Edges.{edges_in};
 ghost use Rattle.at_cache.specs.Rows.{edges_along, edges_of};
-ghost use Rattle.at_cache.specs.Info.{memory_of};
+ghost use Rattle.at_cache.specs.Info.{Memory, memory_of};
 ghost use Rattle.at_cache.specs.Putting.{AreListed, AreTaken, Keeps, Lists, Reads, Uses, reused, users_at};
 ghost use Rattle.at_cache.specs.Readers.{edges_among, edges_at, stands_for};
 ghost use Rattle.at_cache.specs.Finding.{edges_to};
 ghost use Rattle.at_cache.specs.Runs.{ListsBut, Stays};
 ghost use Rattle.at_cache.specs.Slots.{HasAdded, HasChanged, ListsAt, with_edges};
+ghost use Rattle.at_cache.specs.Standings.{alive_in};
 
+use crate::cut::Cut;
 use crate::edge::{Edge, Edges, Many, Slot};
 use crate::facet::{Facet, Facets, Readers};
 use crate::facets::first_facet;
@@ -25,7 +28,6 @@ use crate::noting::note;
 use crate::row::Row;
 use crate::run::AllReaders;
 use crate::stretch::{MANY, add_along, add_stretch, before_fold};
-use crate::table::Table;
 use at_store::{Loc, Node};
 use std::alloc::{AllocError, Global};
 
@@ -35,13 +37,13 @@ const PARTS: usize = 3;
 // In a list of more rows an edge isn't looked for.
 const FEW: usize = 8;
 
-// The row without the edges at its front that tell of no entry.
-fn trimmed(entries: &Table, row: Row) -> Row
-    ensures { Keeps (memory_of entries.now) (edges_of row) (edges_of result) }
+// The row without the edges at its front that tell of nothing.
+fn trimmed(cut: &Cut, row: Row) -> Row
+    ensures { Keeps (alive_in cut.now) (edges_of row) (edges_of result) }
 {
     let mut row = row;
     while let Some((edge, rest)) = row.split_first() {
-        if entries.is_current(&edge) {
+        if cut.tells_of(&edge) {
             return row;
         }
         row = rest;
@@ -59,13 +61,13 @@ fn set_row(rows: &mut Many, place: usize, row: Row)
     }
 }
 
-// Only rows stay that begin with an edge that tells of an entry.
-fn purge(entries: &Table, rows: &mut Many)
-    ensures { Keeps (memory_of entries.now) (edges_along rows.old.items) (edges_along rows.new.items) }
+// Only rows stay that begin with an edge that tells of something.
+fn purge(cut: &Cut, rows: &mut Many)
+    ensures { Keeps (alive_in cut.now) (edges_along rows.old.items) (edges_along rows.new.items) }
 {
     let mut place = 0;
     while place < rows.len() {
-        let row = trimmed(entries, rows.as_slice()[place]);
+        let row = trimmed(cut, rows.as_slice()[place]);
         if row.is_empty() {
             rows.swap_remove(place);
         } else {
@@ -76,11 +78,11 @@ fn purge(entries: &Table, rows: &mut Many)
 }
 
 // Where among these the edge is, alone in a row, that the entry had before it is put anew.
-fn outdated_at(entries: &Table, rows: &[Row], edge: Edge) -> Option<usize>
-    ensures { IfSome result (λ k. (r : Row) × (slice_get rows.now k ≡ Some r) × Keeps (memory_of entries.now) (edges_of r) []) }
+fn outdated_at(cut: &Cut, rows: &[Row], edge: Edge) -> Option<usize>
+    ensures { IfSome result (λ k. (r : Row) × (slice_get rows.now k ≡ Some r) × Keeps (alive_in cut.now) (edges_of r) []) }
 {
     for place in 0..rows.len() {
-        if is_outdated(entries, rows[place], edge) {
+        if is_outdated(cut, rows[place], edge) {
             return Some(place);
         }
     }
@@ -88,14 +90,14 @@ fn outdated_at(entries: &Table, rows: &[Row], edge: Edge) -> Option<usize>
 }
 
 // The edge comes in place of that one, where it is found in a list of few rows.
-fn replaces_outdated(entries: &Table, rows: &mut Many, edge: Edge) -> bool
-    ensures { MatchBool result (Lists (memory_of entries.now) edge (edges_along rows.old.items) (edges_along rows.new.items)
+fn replaces_outdated(cut: &Cut, rows: &mut Many, edge: Edge) -> bool
+    ensures { MatchBool result (Lists (alive_in cut.now) edge (edges_along rows.old.items) (edges_along rows.new.items)
         × Contains (edges_along rows.new.items) edge) (rows.new.items ≡ rows.old.items) }
 {
     if rows.len() > FEW {
         return false;
     }
-    match outdated_at(entries, rows.as_slice(), edge) {
+    match outdated_at(cut, rows.as_slice(), edge) {
         Some(place) => {
             set_row(rows, place, Row::of(edge));
             true
@@ -104,12 +106,12 @@ fn replaces_outdated(entries: &Table, rows: &mut Many, edge: Edge) -> bool
     }
 }
 
-// Makes room for one more row of a list that is full: it loses those that tell of no entry first, and gets more room only where half
+// Makes room for one more row of a list that is full: it loses those that tell of nothing first, and gets more room only where half
 // of it or less is left then.
-fn make_room(entries: &Table, rows: &mut Many) -> Result<(), AllocError>
-    ensures { Keeps (memory_of entries.now) (edges_along rows.old.items) (edges_along rows.new.items) }
+fn make_room(cut: &Cut, rows: &mut Many) -> Result<(), AllocError>
+    ensures { Keeps (alive_in cut.now) (edges_along rows.old.items) (edges_along rows.new.items) }
 {
-    purge(entries, rows);
+    purge(cut, rows);
     let count = rows.len();
     if count >= rows.capacity() / 2 {
         rows.reserve(count)?;
@@ -118,37 +120,37 @@ fn make_room(entries: &Table, rows: &mut Many) -> Result<(), AllocError>
 }
 
 // One more row of a list that is full, once there is room for it.
-fn add_with_room(entries: &Table, rows: &mut Many, edge: Edge) -> Result<(), AllocError>
-    ensures lists { Lists (memory_of entries.now) edge (edges_along rows.old.items) (edges_along rows.new.items) }
+fn add_with_room(cut: &Cut, rows: &mut Many, edge: Edge) -> Result<(), AllocError>
+    ensures lists { Lists (alive_in cut.now) edge (edges_along rows.old.items) (edges_along rows.new.items) }
     ensures has { OnOk result (Contains (edges_along rows.new.items) edge) }
 {
-    make_room(entries, rows)?;
+    make_room(cut, rows)?;
     rows.push(Row::of(edge))?;
     Ok(())
 }
 
 // One more edge of a list that is full.
 #[inline(never)]
-fn add_to_full(entries: &Table, rows: &mut Many, edge: Edge) -> Result<(), AllocError>
-    ensures lists { Lists (memory_of entries.now) edge (edges_along rows.old.items) (edges_along rows.new.items) }
+fn add_to_full(cut: &Cut, rows: &mut Many, edge: Edge) -> Result<(), AllocError>
+    ensures lists { Lists (alive_in cut.now) edge (edges_along rows.old.items) (edges_along rows.new.items) }
     ensures has { OnOk result (Contains (edges_along rows.new.items) edge) }
 {
-    if replaces_outdated(entries, rows, edge) {
+    if replaces_outdated(cut, rows, edge) {
         return Ok(());
     }
-    add_with_room(entries, rows, edge)
+    add_with_room(cut, rows, edge)
 }
 
 // One more row of a list in a block.
-fn add_row(entries: &Table, rows: &mut Many, edge: Edge) -> Result<(), AllocError>
-    ensures lists { Lists (memory_of entries.now) edge (edges_along rows.old.items) (edges_along rows.new.items) }
+fn add_row(cut: &Cut, rows: &mut Many, edge: Edge) -> Result<(), AllocError>
+    ensures lists { Lists (alive_in cut.now) edge (edges_along rows.old.items) (edges_along rows.new.items) }
     ensures has { OnOk result (Contains (edges_along rows.new.items) edge) }
 {
     if rows.len() < rows.capacity() {
         rows.push_reserved(Row::of(edge));
         return Ok(());
     }
-    add_to_full(entries, rows, edge)
+    add_to_full(cut, rows, edge)
 }
 
 // Whether the edge lies behind the last row, which has it then.
@@ -187,12 +189,12 @@ fn is_apart(rows: &[Row], edge: Edge) -> bool {
 
 /// One more edge of a list in a block: its last row has it, or another one.
 #[inline(always)]
-pub fn add_to_many(entries: &Table, rows: &mut Many, edge: Edge) -> Result<(), AllocError>
-    ensures lists { Lists (memory_of entries.now) edge (edges_along rows.old.items) (edges_along rows.new.items) }
+pub fn add_to_many(cut: &Cut, rows: &mut Many, edge: Edge) -> Result<(), AllocError>
+    ensures lists { Lists (alive_in cut.now) edge (edges_along rows.old.items) (edges_along rows.new.items) }
     ensures has { OnOk result (Contains (edges_along rows.new.items) edge) }
 {
     if is_apart(rows.as_slice(), edge) {
-        return add_row(entries, rows, edge);
+        return add_row(cut, rows, edge);
     }
     if extends_last(rows, edge) {
         return Ok(());
@@ -200,7 +202,22 @@ pub fn add_to_many(entries: &Table, rows: &mut Many, edge: Edge) -> Result<(), A
     if do_end_with(rows.as_slice(), edge) {
         return Ok(());
     }
-    add_row(entries, rows, edge)
+    add_row(cut, rows, edge)
+}
+
+/// One more edge of a list in a block that loses none.
+pub fn push_edge(rows: &mut Many, edge: Edge) -> Result<(), AllocError>
+    ensures lists { (m : Memory) → Lists m edge (edges_along rows.old.items) (edges_along rows.new.items) }
+    ensures has { OnOk result (Contains (edges_along rows.new.items) edge) }
+{
+    if extends_last(rows, edge) {
+        return Ok(());
+    }
+    if do_end_with(rows.as_slice(), edge) {
+        return Ok(());
+    }
+    rows.push(Row::of(edge))?;
+    Ok(())
 }
 
 // A row and one more edge, which lies behind it or in another one.
@@ -233,9 +250,9 @@ fn in_place(row: Row, edge: Edge) -> Option<Edges>
     Edges::of_row(row.extended(edge)?)
 }
 
-// Whether the row is the one edge that an entry had before it is put anew, which tells of no entry.
-fn is_outdated(entries: &Table, row: Row, edge: Edge) -> bool
-    ensures { IsTrue result → Keeps (memory_of entries.now) (edges_of row) [] }
+// Whether the row is the one edge that an entry had before it is put anew, which tells of nothing.
+fn is_outdated(cut: &Cut, row: Row, edge: Edge) -> bool
+    ensures { IsTrue result → Keeps (alive_in cut.now) (edges_of row) [] }
 {
     let Some(only) = row.only() else {
         return false;
@@ -243,34 +260,34 @@ fn is_outdated(entries: &Table, row: Row, edge: Edge) -> bool
     if only.slot != edge.slot {
         return false;
     }
-    if entries.is_current(&only) {
+    if cut.tells_of(&only) {
         return false;
     }
     true
 }
 
 // The same of edges.
-fn are_outdated(entries: &Table, edges: &Edges, edge: Edge) -> bool
-    ensures { IsTrue result → Keeps (memory_of entries.now) (edges_in edges.now) [] }
+fn are_outdated(cut: &Cut, edges: &Edges, edge: Edge) -> bool
+    ensures { IsTrue result → Keeps (alive_in cut.now) (edges_in edges.now) [] }
 {
     match edges.row() {
-        Some(row) => is_outdated(entries, row, edge),
+        Some(row) => is_outdated(cut, row, edge),
         None => false,
     }
 }
 
-// One more edge of a list that is a row. That stays where the edge is its last one, and loses those at its front that tell of no entry,
+// One more edge of a list that is a row. That stays where the edge is its last one, and loses those at its front that tell of nothing,
 // where it would take a block else.
 #[inline(never)]
 fn add_to_few(
     alloc: Global,
-    entries: &Table,
+    cut: &Cut,
     edges: &mut Edges,
     row: Row,
     edge: Edge,
 ) -> Result<(), AllocError>
     requires row { edges_in edges.old ≡ edges_of row }
-    ensures lists { Lists (memory_of entries.now) edge (edges_in edges.old) (edges_in edges.new) }
+    ensures lists { Lists (alive_in cut.now) edge (edges_in edges.old) (edges_in edges.new) }
     ensures has { OnOk result (Contains (edges_in edges.new) edge) }
 {
     if let Some(longer) = in_place(row, edge) {
@@ -278,7 +295,7 @@ fn add_to_few(
         return Ok(());
     }
     if !row.ends_with(edge) {
-        *edges = both(alloc, trimmed(entries, row), edge)?;
+        *edges = both(alloc, trimmed(cut, row), edge)?;
     }
     Ok(())
 }
@@ -286,31 +303,26 @@ fn add_to_few(
 // The same, where the row may be the edge that the entry had before.
 fn add_to_row(
     alloc: Global,
-    entries: &Table,
+    cut: &Cut,
     edges: &mut Edges,
     row: Row,
     edge: Edge,
 ) -> Result<(), AllocError>
     requires row { edges_in edges.old ≡ edges_of row }
-    ensures lists { Lists (memory_of entries.now) edge (edges_in edges.old) (edges_in edges.new) }
+    ensures lists { Lists (alive_in cut.now) edge (edges_in edges.old) (edges_in edges.new) }
     ensures has { OnOk result (Contains (edges_in edges.new) edge) }
 {
-    if is_outdated(entries, row, edge) {
+    if is_outdated(cut, row, edge) {
         *edges = Edges::of(edge);
         return Ok(());
     }
-    add_to_few(alloc, entries, edges, row, edge)
+    add_to_few(alloc, cut, edges, row, edge)
 }
 
 /// One more edge of a list.
 #[inline(always)]
-pub fn add_edge(
-    alloc: Global,
-    entries: &Table,
-    edges: &mut Edges,
-    edge: Edge,
-) -> Result<(), AllocError>
-    ensures lists { Lists (memory_of entries.now) edge (edges_in edges.old) (edges_in edges.new) }
+pub fn add_edge(alloc: Global, cut: &Cut, edges: &mut Edges, edge: Edge) -> Result<(), AllocError>
+    ensures lists { Lists (alive_in cut.now) edge (edges_in edges.old) (edges_in edges.new) }
     ensures has { OnOk result (Contains (edges_in edges.new) edge) }
 {
     match edges {
@@ -320,9 +332,9 @@ pub fn add_edge(
         }
         Edges::Few(count, step, slot, stamp) => {
             let row = Row::few(*count, *step, *slot, *stamp);
-            add_to_row(alloc, entries, edges, row, edge)
+            add_to_row(alloc, cut, edges, row, edge)
         }
-        Edges::More(rows) => add_to_many(entries, rows, edge),
+        Edges::More(rows) => add_to_many(cut, rows, edge),
     }
 }
 
@@ -353,33 +365,33 @@ fn add_facet(readers: &mut Facets, facet: Facet, edge: Edge) -> Result<(), Alloc
 // One more edge of what stands at that place.
 fn add_at(
     alloc: Global,
-    entries: &Table,
+    cut: &Cut,
     readers: &mut Facets,
     place: usize,
     edge: Edge,
 ) -> Result<(), AllocError>
     requires there { place < length readers.old.items }
     ensures gains { (edges : Edges) × HasChanged (with_edges edges) place readers.old.items readers.new.items
-        × ListsAt (memory_of entries.now) edge place readers.old.items (edges_in edges) × OnOk result (Contains (edges_in edges) edge) }
+        × ListsAt (alive_in cut.now) edge place readers.old.items (edges_in edges) × OnOk result (Contains (edges_in edges) edge) }
 {
     let found = &mut readers.as_mut_slice()[place];
-    add_edge(alloc, entries, &mut found.edges, edge)
+    add_edge(alloc, cut, &mut found.edges, edge)
 }
 
 // One more edge of a facet, among those of a node.
 fn add_among(
     alloc: Global,
-    entries: &Table,
+    cut: &Cut,
     readers: &mut Facets,
     facet: Facet,
     edge: Edge,
 ) -> Result<(), AllocError>
-    ensures lists { (n : ℕ) (l : Location ℕ) → Lists (memory_of entries.now) edge (edges_among n readers.old.items l) (edges_among n readers.new.items l) }
+    ensures lists { (n : ℕ) (l : Location ℕ) → Lists (alive_in cut.now) edge (edges_among n readers.old.items l) (edges_among n readers.new.items l) }
     ensures has { (n : ℕ) → OnOk result ((l : Location ℕ) → stands_for n facet l ≡ true → Contains (edges_among n readers.new.items l) edge) }
     ensures others { (n : ℕ) (l : Location ℕ) → stands_for n facet l ≡ false → edges_among n readers.new.items l ≡ edges_among n readers.old.items l }
 {
     match position_of(readers.as_slice(), facet) {
-        Some(place) => add_at(alloc, entries, readers, place, edge),
+        Some(place) => add_at(alloc, cut, readers, place, edge),
         None => add_facet(readers, facet, edge),
     }
 }
@@ -400,53 +412,54 @@ fn make_list(alloc: Global, readers: &mut Vec<Facets>, node: Node) -> Result<(),
 // One more edge of a facet of the node.
 fn add_reader(
     alloc: Global,
-    entries: &Table,
+    cut: &Cut,
     readers: &mut Vec<Facets>,
     node: Node,
     facet: Facet,
     edge: Edge,
 ) -> Result<(), AllocError>
-    ensures lists { (l : Location ℕ) → Lists (memory_of entries.now) edge (edges_at readers.old.items l) (edges_at readers.new.items l) }
+    ensures lists { (l : Location ℕ) → Lists (alive_in cut.now) edge (edges_at readers.old.items l) (edges_at readers.new.items l) }
     ensures has { OnOk result ((l : Location ℕ) → stands_for node facet l ≡ true → Contains (edges_at readers.new.items l) edge) }
     ensures others { (l : Location ℕ) → stands_for node facet l ≡ false → edges_at readers.new.items l ≡ edges_at readers.old.items l }
     ensures short { length readers.old.items ≤ 2 ^ 32 → length readers.new.items ≤ 2 ^ 32 }
 {
     make_list(alloc, readers, node)?;
     let list = &mut readers[node.index()];
-    add_among(alloc, entries, list, facet, edge)
+    add_among(alloc, cut, list, facet, edge)
 }
 
 // One more edge to an entry that used this one.
-fn add_user(alloc: Global, entries: &mut Table, slot: Slot, edge: Edge) -> Result<(), AllocError>
-    requires there { IsSome (memory_of entries.old slot) }
-    ensures lists { (users : List Edge) × ((k : ℕ) → memory_of entries.new k ≡ reused slot users (memory_of entries.old) k)
-        × Lists (memory_of entries.old) edge (users_at (memory_of entries.old) slot) users × OnOk result (Contains users edge) }
-    ensures key { entries.new.places.vacant_key ≡ entries.old.places.vacant_key }
-    ensures absent { (i : Instance ℕ) → lookup (same_instance i) entries.old.entries.entries ≡ None
-        → lookup (same_instance i) entries.new.entries.entries ≡ None }
+fn add_user(alloc: Global, cut: &mut Cut, slot: Slot, edge: Edge) -> Result<(), AllocError>
+    requires there { IsSome (memory_of cut.old.entries slot) }
+    ensures lists { (users : List Edge) × ((k : ℕ) → memory_of cut.new.entries k ≡ reused slot users (memory_of cut.old.entries) k)
+        × Lists (alive_in cut.old) edge (users_at (memory_of cut.old.entries) slot) users × OnOk result (Contains users edge) }
+    ensures standings { cut.new.standings.items ≡ cut.old.standings.items }
+    ensures key { cut.new.entries.places.vacant_key ≡ cut.old.entries.places.vacant_key }
+    ensures absent { (i : Instance ℕ) → lookup (same_instance i) cut.old.entries.entries.entries ≡ None
+        → lookup (same_instance i) cut.new.entries.entries.entries ≡ None }
 {
-    let mut users = entries.exchange_users(slot, Edges::of(edge));
+    let mut users = cut.entries.exchange_users(slot, Edges::of(edge));
     if users.is_empty() {
         return Ok(());
     }
-    if are_outdated(entries, &users, edge) {
+    if are_outdated(cut, &users, edge) {
         return Ok(());
     }
-    let result = add_edge(alloc, entries, &mut users, edge);
-    entries.exchange_users(slot, users);
+    let result = add_edge(alloc, cut, &mut users, edge);
+    cut.entries.exchange_users(slot, users);
     result
 }
 
 // One more edge of each of these locations, of its own. The nodes whose index is among them are noted.
 fn add_each(
     alloc: Global,
-    entries: &Table,
+    cut: &Cut,
     readers: &mut Vec<Facets>,
     index_read: &mut Vec<Node>,
     locations: &[Loc],
     edge: Edge,
 ) -> Result<(), AllocError>
-    ensures reads { Reads (memory_of entries.now) edge (map loc_view locations.now) (edges_at readers.old.items) (edges_at readers.new.items) }
+    ensures reads { Reads (alive_in cut.now) edge (map loc_view locations.now) (edges_at readers.old.items) (edges_at readers.new.items) }
     ensures stay { OnOk result (Stays edge (edges_at readers.old.items) (edges_at readers.new.items)) }
     ensures listed { OnOk result (AreListed edge (map loc_view locations.now) (edges_at readers.new.items)) }
     ensures noted { AreNoted (edges_at readers.old.items) index_read.old.items → AreNoted (edges_at readers.new.items) index_read.new.items }
@@ -456,7 +469,7 @@ fn add_each(
     while let Some((location, others)) = rest.split_first() {
         note(readers.as_slice(), index_read, *location)?;
         let (facet, left) = first_facet(*location, others)?;
-        add_reader(alloc, entries, readers, location.node(), facet, edge)?;
+        add_reader(alloc, cut, readers, location.node(), facet, edge)?;
         rest = left;
     }
     Ok(())
@@ -465,25 +478,18 @@ fn add_each(
 // The same among all readers.
 fn add_own(
     alloc: Global,
-    entries: &Table,
+    cut: &Cut,
     readers: &mut AllReaders,
     index_read: &mut Vec<Node>,
     locations: &[Loc],
     edge: Edge,
 ) -> Result<(), AllocError>
-    ensures reads { Reads (memory_of entries.now) edge (map loc_view locations.now) (edges_to readers.old) (edges_to readers.new) }
+    ensures reads { Reads (alive_in cut.now) edge (map loc_view locations.now) (edges_to readers.old) (edges_to readers.new) }
     ensures stay { OnOk result (Stays edge (edges_to readers.old) (edges_to readers.new)) }
     ensures listed { OnOk result (AreListed edge (map loc_view locations.now) (edges_to readers.new)) }
     ensures noted { AreNoted (edges_to readers.old) index_read.old.items → AreNoted (edges_to readers.new) index_read.new.items }
 {
-    add_each(
-        alloc,
-        entries,
-        &mut readers.own,
-        index_read,
-        locations,
-        edge,
-    )
+    add_each(alloc, cut, &mut readers.own, index_read, locations, edge)
 }
 
 // How many locations at the front have one facet.
@@ -500,42 +506,42 @@ fn first_width(locations: &[Loc]) -> Result<usize, AllocError>
 // One more edge for the first facet of these locations, and one for those behind it that sit in a run; what is left of them.
 fn add_further<'a>(
     alloc: Global,
-    entries: &Table,
+    cut: &Cut,
     readers: &mut AllReaders,
     index_read: &mut Vec<Node>,
     locations: &'a [Loc],
     edge: Edge,
 ) -> Result<&'a [Loc], AllocError>
-    ensures reads { Reads (memory_of entries.now) edge (map loc_view locations.now) (edges_to readers.old) (edges_to readers.new) }
+    ensures reads { Reads (alive_in cut.now) edge (map loc_view locations.now) (edges_to readers.old) (edges_to readers.new) }
     ensures stay { OnOk result (Stays edge (edges_to readers.old) (edges_to readers.new)) }
     ensures listed { IfOk result (λ left. ListsBut edge (map loc_view locations.now) (map loc_view left.now) (edges_to readers.new)) }
     ensures noted { AreNoted (edges_to readers.old) index_read.old.items → AreNoted (edges_to readers.new) index_read.new.items }
 {
     let width = first_width(locations)?;
     let (front, others) = locations.split_at(width);
-    add_own(alloc, entries, readers, index_read, front, edge)?;
-    add_along(entries, &mut readers.seats, &mut readers.runs, others, edge)
+    add_own(alloc, cut, readers, index_read, front, edge)?;
+    add_along(cut, &mut readers.seats, &mut readers.runs, others, edge)
 }
 
 // The same, where those of a fold have one edge for each part of a run in which they lie.
 fn add_fold(
     alloc: Global,
-    entries: &Table,
+    cut: &Cut,
     readers: &mut AllReaders,
     index_read: &mut Vec<Node>,
     locations: &[Loc],
     edge: Edge,
 ) -> Result<(), AllocError>
-    ensures reads { Reads (memory_of entries.now) edge (map loc_view locations.now) (edges_to readers.old) (edges_to readers.new) }
+    ensures reads { Reads (alive_in cut.now) edge (map loc_view locations.now) (edges_to readers.old) (edges_to readers.new) }
     ensures listed { OnOk result (AreListed edge (map loc_view locations.now) (edges_to readers.new)) }
     ensures noted { AreNoted (edges_to readers.old) index_read.old.items → AreNoted (edges_to readers.new) index_read.new.items }
 {
     let place = before_fold(readers.seats.as_slice(), locations);
     let (front, others) = locations.split_at(place);
-    add_own(alloc, entries, readers, index_read, front, edge)?;
+    add_own(alloc, cut, readers, index_read, front, edge)?;
     let mut rest = add_stretch(
         alloc,
-        entries,
+        cut,
         &mut readers.seats,
         &mut readers.runs,
         others,
@@ -545,46 +551,42 @@ fn add_fold(
         if rest.is_empty() {
             return Ok(());
         }
-        rest = add_further(alloc, entries, readers, index_read, rest, edge)?;
+        rest = add_further(alloc, cut, readers, index_read, rest, edge)?;
     }
-    add_own(alloc, entries, readers, index_read, rest, edge)
+    add_own(alloc, cut, readers, index_read, rest, edge)
 }
 
 /// One more edge of each of these locations, or one for several. The nodes whose index is among them are noted.
 pub fn add_readers(
     alloc: Global,
-    entries: &Table,
+    cut: &Cut,
     readers: &mut AllReaders,
     index_read: &mut Vec<Node>,
     locations: &[Loc],
     edge: Edge,
 ) -> Result<(), AllocError>
-    ensures reads { Reads (memory_of entries.now) edge (map loc_view locations.now) (edges_to readers.old) (edges_to readers.new) }
+    ensures reads { Reads (alive_in cut.now) edge (map loc_view locations.now) (edges_to readers.old) (edges_to readers.new) }
     ensures listed { OnOk result (AreListed edge (map loc_view locations.now) (edges_to readers.new)) }
     ensures noted { AreNoted (edges_to readers.old) index_read.old.items → AreNoted (edges_to readers.new) index_read.new.items }
 {
     if locations.len() < MANY {
-        return add_own(alloc, entries, readers, index_read, locations, edge);
+        return add_own(alloc, cut, readers, index_read, locations, edge);
     }
-    add_fold(alloc, entries, readers, index_read, locations, edge)
+    add_fold(alloc, cut, readers, index_read, locations, edge)
 }
 
 /// One more edge to each of these entries that used this one.
-pub fn add_users(
-    alloc: Global,
-    entries: &mut Table,
-    slots: &[Slot],
-    edge: Edge,
-) -> Result<(), AllocError>
-    requires there { AreTaken (memory_of entries.old) slots.now }
-    ensures uses { Uses edge slots.now (memory_of entries.old) (memory_of entries.new) }
-    ensures listed { OnOk result (AreListed edge slots.now (users_at (memory_of entries.new))) }
-    ensures key { entries.new.places.vacant_key ≡ entries.old.places.vacant_key }
-    ensures absent { (i : Instance ℕ) → lookup (same_instance i) entries.old.entries.entries ≡ None
-        → lookup (same_instance i) entries.new.entries.entries ≡ None }
+pub fn add_users(alloc: Global, cut: &mut Cut, slots: &[Slot], edge: Edge) -> Result<(), AllocError>
+    requires there { AreTaken (memory_of cut.old.entries) slots.now }
+    ensures uses { Uses (alive_in cut.old) edge slots.now (memory_of cut.old.entries) (memory_of cut.new.entries) }
+    ensures listed { OnOk result (AreListed edge slots.now (users_at (memory_of cut.new.entries))) }
+    ensures standings { cut.new.standings.items ≡ cut.old.standings.items }
+    ensures key { cut.new.entries.places.vacant_key ≡ cut.old.entries.places.vacant_key }
+    ensures absent { (i : Instance ℕ) → lookup (same_instance i) cut.old.entries.entries.entries ≡ None
+        → lookup (same_instance i) cut.new.entries.entries.entries ≡ None }
 {
     for slot in slots {
-        add_user(alloc, entries, *slot, edge)?;
+        add_user(alloc, cut, *slot, edge)?;
     }
     Ok(())
 }

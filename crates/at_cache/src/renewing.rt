@@ -150,8 +150,8 @@ pub fn enter_held(
 {
     let links = slots_again(alloc, &cut.entries, likely, uses, known)?;
     make_standing(&mut cut.standings, edge.slot)?;
-    add_readers(alloc, &cut.entries, readers, index_read, reads, edge)?;
-    add_users(alloc, &mut cut.entries, links.as_slice(), edge)?;
+    add_readers(alloc, cut, readers, index_read, reads, edge)?;
+    add_users(alloc, cut, links.as_slice(), edge)?;
     let standing = Standing {
         since: edge.stamp,
         holds: true,

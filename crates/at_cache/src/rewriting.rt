@@ -5,7 +5,7 @@ ghost use Rattle.at_model.specs.Run.{Location};
 ghost use Rattle.at_cache.specs.declared.edge.Edge.{Edge};
 ghost use Rattle.at_cache.specs.Edges.{edges_in};
 ghost use Rattle.at_cache.specs.Folding.{Added, AreAlone, AreLone, AreRefolded, Gathered, IsRefolded, Parted, Refolded, slots_at};
-ghost use Rattle.at_cache.specs.Info.{Info, memory_of};
+ghost use Rattle.at_cache.specs.Info.{Info, Memory, memory_of};
 ghost use Rattle.at_cache.specs.Putting.{is_current};
 ghost use Rattle.at_cache.specs.Readers.{edges_at};
 ghost use Rattle.at_cache.specs.Recorded.{edge_to};
@@ -16,7 +16,7 @@ use crate::entry::Links;
 use crate::facet::Facets;
 use crate::folding::slots_at;
 use crate::joining::join;
-use crate::linking::add_to_many;
+use crate::linking::push_edge;
 use crate::lone::Lone;
 use crate::room::Room;
 use crate::row::Row;
@@ -118,16 +118,15 @@ fn part(
 }
 
 // One more edge, unless it is there.
-fn add_edge(entries: &Table, room: &mut Room, rows: &mut Many, edge: Edge) -> Result<(), AllocError>
-    ensures added { (kept : List Edge) (slots : List ℕ) → is_current (memory_of entries.now) edge ≡ true
-        → Added (memory_of entries.now) kept slots (edges_along rows.old.items)
-        → OnOk result (Added (memory_of entries.now) kept (slots ++ edge.slot ∷ []) (edges_along rows.new.items)) }
+fn add_edge(room: &mut Room, rows: &mut Many, edge: Edge) -> Result<(), AllocError>
+    ensures added { (m : Memory) (kept : List Edge) (slots : List ℕ) → is_current m edge ≡ true → Added m kept slots (edges_along rows.old.items)
+        → OnOk result (Added m kept (slots ++ edge.slot ∷ []) (edges_along rows.new.items)) }
     ensures slots { room.new.slots ≡ room.old.slots }
 {
     if room.has(rows.as_slice(), edge) {
         return Ok(());
     }
-    add_to_many(entries, rows, edge)?;
+    push_edge(rows, edge)?;
     room.note(edge.slot, rows.len().saturating_sub(1));
     Ok(())
 }
@@ -149,7 +148,7 @@ fn add_edge_to(
                 slot,
                 stamp: entry.stamp,
             };
-            add_edge(entries, room, rows, edge)
+            add_edge(room, rows, edge)
         }
         None => Ok(()),
     }
@@ -170,7 +169,7 @@ fn add_edge_into(
     ensures slots { room.new.slots ≡ room.old.slots }
 {
     match lone.edge_to(slot) {
-        Some(edge) => add_edge(entries, room, rows, edge),
+        Some(edge) => add_edge(room, rows, edge),
         None => add_edge_to(entries, room, rows, slot),
     }
 }

@@ -5,14 +5,15 @@ ghost use Rattle.at_model.specs.Run.{Location};
 ghost use Rattle.at_cache.specs.declared.edge.Edge.{Edge};
 ghost use Rattle.at_cache.specs.declared.run.Run.{Run};
 ghost use Rattle.at_cache.specs.declared.run.Seat.{Seat};
-ghost use Rattle.at_cache.specs.Info.{Memory, memory_of};
+ghost use Rattle.at_cache.specs.Info.{Memory};
 ghost use Rattle.at_cache.specs.Runs.{AreApart, AreGiven, ArePast, AreSeated, HoldsReach, IsFree, KeepsRuns, Lose, count_of, edges_on, edges_over, is_live};
+ghost use Rattle.at_cache.specs.Standings.{alive_in};
 
+use crate::cut::Cut;
 use crate::edge::Edge;
 use crate::facet::{Facet, small};
 use crate::facets::first_facet;
 use crate::run::{Reach, Run, Seat};
-use crate::table::Table;
 use at_store::{Loc, Node};
 use std::alloc::{AllocError, Global};
 
@@ -50,61 +51,61 @@ fn make_seat(seats: &mut Vec<Seat>, node: Node) -> Result<(), AllocError>
     Ok(())
 }
 
-/// Whether the edge tells of an entry that is there, or that is to come, as this one does.
-pub fn is_live(entries: &Table, edge: Edge, reach: &Reach) -> bool
-    ensures { result ≡ is_live (memory_of entries.now) edge reach.now.edge }
+/// Whether the edge tells of an entry, or of one that is to come, as this one does.
+pub fn is_live(cut: &Cut, edge: Edge, reach: &Reach) -> bool
+    ensures { result ≡ is_live (alive_in cut.now) edge reach.now.edge }
 {
-    entries.is_current(&reach.edge) || reach.edge.stamp == edge.stamp
+    cut.tells_of(&reach.edge) || reach.edge.stamp == edge.stamp
 }
 
-// The edges at the end that tell of no entry go.
-fn trim(entries: &Table, edge: Edge, edges: &mut Vec<Reach>)
-    ensures { HoldsReach (memory_of entries.now) edge edges.old.items edges.new.items }
+// The edges at the end that tell of nothing go.
+fn trim(cut: &Cut, edge: Edge, edges: &mut Vec<Reach>)
+    ensures { HoldsReach (alive_in cut.now) edge edges.old.items edges.new.items }
 {
     while let Some(reach) = edges.last() {
-        if is_live(entries, edge, reach) {
+        if is_live(cut, edge, reach) {
             return;
         }
         edges.pop();
     }
 }
 
-// Whether no edge of the run tells of an entry: then it has none any more.
-fn is_idle(entries: &Table, edge: Edge, runs: &mut Vec<Run>, run: usize) -> bool
-    ensures keeps { KeepsRuns (memory_of entries.now) edge runs.old.items runs.new.items }
+// Whether each edge of the run tells of nothing: then it has none any more.
+fn is_idle(cut: &Cut, edge: Edge, runs: &mut Vec<Run>, run: usize) -> bool
+    ensures keeps { KeepsRuns (alive_in cut.now) edge runs.old.items runs.new.items }
     ensures idle { IsTrue result → (s : Seat) → s.run ≡ run → edges_on runs.new.items s ≡ [] }
     ensures there { IsTrue result → run < length runs.new.items }
 {
     match runs.get_mut(run) {
         Some(found) => {
-            trim(entries, edge, &mut found.edges);
+            trim(cut, edge, &mut found.edges);
             found.edges.is_empty()
         }
         None => false,
     }
 }
 
-// The run, where no edge of it tells of an entry.
-fn idle_run(entries: &Table, edge: Edge, runs: &mut Vec<Run>, run: u32) -> Option<u32>
-    ensures keeps { KeepsRuns (memory_of entries.now) edge runs.old.items runs.new.items }
+// The run, where each edge of it tells of nothing.
+fn idle_run(cut: &Cut, edge: Edge, runs: &mut Vec<Run>, run: u32) -> Option<u32>
+    ensures keeps { KeepsRuns (alive_in cut.now) edge runs.old.items runs.new.items }
     ensures there { IfSome result (λ run. run < length runs.new.items) }
 {
-    if is_idle(entries, edge, runs, run as usize) {
+    if is_idle(cut, edge, runs, run as usize) {
         return Some(run);
     }
     None
 }
 
-// The last run, if there is one, where no edge of it tells of an entry.
-fn last_idle(entries: &Table, edge: Edge, runs: &mut Vec<Run>) -> Result<Option<u32>, AllocError>
-    ensures keeps { KeepsRuns (memory_of entries.now) edge runs.old.items runs.new.items }
+// The last run, if there is one, where each edge of it tells of nothing.
+fn last_idle(cut: &Cut, edge: Edge, runs: &mut Vec<Run>) -> Result<Option<u32>, AllocError>
+    ensures keeps { KeepsRuns (alive_in cut.now) edge runs.old.items runs.new.items }
     ensures there { IfOk result (λ o. IfSome o (λ run. run < length runs.new.items)) }
 {
     let Some(last) = runs.len().checked_sub(1) else {
         return Ok(None);
     };
     let last = small(last)?;
-    Ok(idle_run(entries, edge, runs, last))
+    Ok(idle_run(cut, edge, runs, last))
 }
 
 // One run more, with no edge.
@@ -124,18 +125,18 @@ fn add_run(alloc: Global, runs: &mut Vec<Run>) -> Result<Option<u32>, AllocError
 // more, or one more; none where edges are over it.
 fn run_for(
     alloc: Global,
-    entries: &Table,
+    cut: &Cut,
     edge: Edge,
     runs: &mut Vec<Run>,
     seat: Seat,
 ) -> Result<Option<u32>, AllocError>
-    ensures keeps { KeepsRuns (memory_of entries.now) edge runs.old.items runs.new.items }
+    ensures keeps { KeepsRuns (alive_in cut.now) edge runs.old.items runs.new.items }
     ensures there { IfOk result (λ o. IfSome o (λ run. run < length runs.new.items)) }
 {
     if seat.place > 0 {
-        return Ok(idle_run(entries, edge, runs, seat.run));
+        return Ok(idle_run(cut, edge, runs, seat.run));
     }
-    let last = last_idle(entries, edge, runs)?;
+    let last = last_idle(cut, edge, runs)?;
     if last.is_some() {
         return Ok(last);
     }
@@ -143,11 +144,11 @@ fn run_for(
 }
 
 // Whether the node that sits there may sit elsewhere: it sits nowhere, or no edge is over it.
-fn is_free(entries: &Table, edge: Edge, runs: &mut Vec<Run>, seat: Seat) -> bool
-    ensures keeps { KeepsRuns (memory_of entries.now) edge runs.old.items runs.new.items }
+fn is_free(cut: &Cut, edge: Edge, runs: &mut Vec<Run>, seat: Seat) -> bool
+    ensures keeps { KeepsRuns (alive_in cut.now) edge runs.old.items runs.new.items }
     ensures free { IsTrue result → edges_on runs.new.items seat ≡ [] }
 {
-    seat.place == 0 || is_idle(entries, edge, runs, seat.run as usize)
+    seat.place == 0 || is_idle(cut, edge, runs, seat.run as usize)
 }
 
 // The next place of the run is given, if there is one.
@@ -188,7 +189,7 @@ fn sit(
 
 /// Those that the locations at the front go over come to sit in the run, one behind the other, up to the first one that sits elsewhere.
 pub fn sit_all(
-    entries: &Table,
+    cut: &Cut,
     edge: Edge,
     seats: &mut Vec<Seat>,
     runs: &mut Vec<Run>,
@@ -197,7 +198,7 @@ pub fn sit_all(
 ) -> Result<(), AllocError>
     requires { AreSeated seats.old.items runs.old.items }
     ensures seated { AreSeated seats.new.items runs.new.items }
-    ensures holds { Lose (memory_of entries.now) edge (edges_over seats.old.items runs.old.items) (edges_over seats.new.items runs.new.items) }
+    ensures holds { Lose (alive_in cut.now) edge (edges_over seats.old.items runs.old.items) (edges_over seats.new.items runs.new.items) }
     ensures short { length seats.old.items ≤ 2 ^ 32 → length seats.new.items ≤ 2 ^ 32 }
 {
     let mut rest = locations;
@@ -207,7 +208,7 @@ pub fn sit_all(
             return Ok(());
         }
         let seat = seat_of(seats.as_slice(), location.node());
-        if !is_free(entries, edge, runs, seat) {
+        if !is_free(cut, edge, runs, seat) {
             return Ok(());
         }
         sit(seats, runs, location.node(), run, facet)?;
@@ -219,7 +220,7 @@ pub fn sit_all(
 /// The same in a run for the first of them, if that may sit elsewhere: in its own, where that has no edge any more, or in the last one.
 pub fn sit_anew(
     alloc: Global,
-    entries: &Table,
+    cut: &Cut,
     edge: Edge,
     seats: &mut Vec<Seat>,
     runs: &mut Vec<Run>,
@@ -227,12 +228,12 @@ pub fn sit_anew(
 ) -> Result<(), AllocError>
     requires { AreSeated seats.old.items runs.old.items }
     ensures seated { AreSeated seats.new.items runs.new.items }
-    ensures holds { Lose (memory_of entries.now) edge (edges_over seats.old.items runs.old.items) (edges_over seats.new.items runs.new.items) }
+    ensures holds { Lose (alive_in cut.now) edge (edges_over seats.old.items runs.old.items) (edges_over seats.new.items runs.new.items) }
     ensures short { length seats.old.items ≤ 2 ^ 32 → length seats.new.items ≤ 2 ^ 32 }
 {
     let seat = first_seat(seats.as_slice(), locations);
-    match run_for(alloc, entries, edge, runs, seat)? {
-        Some(run) => sit_all(entries, edge, seats, runs, run, locations),
+    match run_for(alloc, cut, edge, runs, seat)? {
+        Some(run) => sit_all(cut, edge, seats, runs, run, locations),
         None => Ok(()),
     }
 }

@@ -1,7 +1,7 @@
 //! How entries stand that stay in memory also where they aren't kept.
 
 ghost use Rattle.std.specs.Prelude.{◌≡◌, ◌<◌, ℕ, IsTrue, OnOk, length, slice_set, true};
-ghost use Rattle.at_cache.specs.Standings.{standing_of};
+ghost use Rattle.at_cache.specs.Standings.{is_alive, standing_of};
 
 use crate::edge::Slot;
 use std::alloc::AllocError;
@@ -25,6 +25,13 @@ pub fn standing_at(standings: &[Standing], slot: Slot) -> Standing
         Some(standing) => *standing,
         None => Standing::default(),
     }
+}
+
+/// Whether what stands so is kept, or can be kept again.
+pub fn is_alive(standing: Standing) -> bool
+    ensures { result ≡ is_alive standing }
+{
+    standing.holds || standing.traced
 }
 
 /// Whether what stands so is kept, and can be kept again: so it has a value.

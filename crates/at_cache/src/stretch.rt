@@ -2,16 +2,16 @@
 
 ghost use Rattle.std.specs.Prelude.{◌≡◌, ◌≤◌, ◌<◌, ◌^◌, ℕ, false, true, Some, Contains, IfOk, IsTrue, OnOk, length, map};
 ghost use Rattle.at_store.specs.Located.{loc_view};
-ghost use Rattle.at_cache.specs.Info.{memory_of};
 ghost use Rattle.at_cache.specs.declared.run.Seat.{Seat};
 ghost use Rattle.at_cache.specs.Runs.{Adds, AddsReads, AreApart, ArePast, AreSeated, Follows, Gains, HoldsReach, ListsBut, Lose, SitsAt, count_of, edges_on, edges_over, is_within};
+ghost use Rattle.at_cache.specs.Standings.{alive_in};
 
+use crate::cut::Cut;
 use crate::edge::Edge;
 use crate::facet::Facet;
 use crate::facets::first_facet;
 use crate::run::{Reach, Run, Seat};
 use crate::seating::{first_seat, is_live, seat_of, sit_all, sit_anew};
-use crate::table::Table;
 use at_store::{Loc, Node};
 use std::alloc::{AllocError, Global};
 
@@ -102,13 +102,13 @@ fn follow<'a>(
     Ok((last, rest))
 }
 
-// The edges that tell of no entry go.
-fn purge(entries: &Table, edge: Edge, edges: &mut Vec<Reach>)
-    ensures { HoldsReach (memory_of entries.now) edge edges.old.items edges.new.items }
+// The edges that tell of nothing go.
+fn purge(cut: &Cut, edge: Edge, edges: &mut Vec<Reach>)
+    ensures { HoldsReach (alive_in cut.now) edge edges.old.items edges.new.items }
 {
     let mut place = 0;
     while place < edges.len() {
-        if is_live(entries, edge, &edges[place]) {
+        if is_live(cut, edge, &edges[place]) {
             place += 1;
         } else {
             edges.swap_remove(place);
@@ -116,15 +116,15 @@ fn purge(entries: &Table, edge: Edge, edges: &mut Vec<Reach>)
     }
 }
 
-// Makes room for one more edge of a list that is full: it loses those that tell of no entry first, and gets more room only where half of
+// Makes room for one more edge of a list that is full: it loses those that tell of nothing first, and gets more room only where half of
 // it or less is left then.
-fn make_room(entries: &Table, edge: Edge, edges: &mut Vec<Reach>) -> Result<(), AllocError>
-    ensures { HoldsReach (memory_of entries.now) edge edges.old.items edges.new.items }
+fn make_room(cut: &Cut, edge: Edge, edges: &mut Vec<Reach>) -> Result<(), AllocError>
+    ensures { HoldsReach (alive_in cut.now) edge edges.old.items edges.new.items }
 {
     if edges.len() < edges.capacity() {
         return Ok(());
     }
-    purge(entries, edge, edges);
+    purge(cut, edge, edges);
     let count = edges.len();
     if count >= edges.capacity() / 2 {
         edges.reserve(count)?;
@@ -133,30 +133,30 @@ fn make_room(entries: &Table, edge: Edge, edges: &mut Vec<Reach>) -> Result<(), 
 }
 
 // One more edge of a list.
-fn add_to(entries: &Table, edges: &mut Vec<Reach>, reach: Reach) -> Result<(), AllocError>
-    ensures gains { Gains (memory_of entries.now) reach edges.old.items edges.new.items }
+fn add_to(cut: &Cut, edges: &mut Vec<Reach>, reach: Reach) -> Result<(), AllocError>
+    ensures gains { Gains (alive_in cut.now) reach edges.old.items edges.new.items }
     ensures has { OnOk result (Contains edges.new.items reach) }
 {
-    make_room(entries, reach.edge, edges)?;
+    make_room(cut, reach.edge, edges)?;
     edges.push(reach)?;
     Ok(())
 }
 
 // One more edge of a run.
-fn add_reach(entries: &Table, runs: &mut Vec<Run>, run: u32, reach: Reach) -> Result<(), AllocError>
+fn add_reach(cut: &Cut, runs: &mut Vec<Run>, run: u32, reach: Reach) -> Result<(), AllocError>
     requires { run < length runs.old.items }
-    ensures adds { Adds (memory_of entries.now) reach.edge (is_within run reach.behind reach.last) (edges_on runs.old.items) (edges_on runs.new.items) }
+    ensures adds { Adds (alive_in cut.now) reach.edge (is_within run reach.behind reach.last) (edges_on runs.old.items) (edges_on runs.new.items) }
     ensures has { OnOk result ((s : Seat) → is_within run reach.behind reach.last s ≡ true → Contains (edges_on runs.new.items s) reach.edge) }
     ensures given { (k : ℕ) → count_of runs.new.items k ≡ count_of runs.old.items k }
     ensures past { reach.last ≤ count_of runs.old.items run → ArePast runs.old.items → ArePast runs.new.items }
 {
     let found = &mut runs[run as usize];
-    add_to(entries, &mut found.edges, reach)
+    add_to(cut, &mut found.edges, reach)
 }
 
 // How the run goes on behind its last place.
 fn lengthen(
-    entries: &Table,
+    cut: &Cut,
     edge: Edge,
     seats: &mut Vec<Seat>,
     runs: &mut Vec<Run>,
@@ -166,7 +166,7 @@ fn lengthen(
 ) -> Result<(), AllocError>
     requires { AreSeated seats.old.items runs.old.items }
     ensures seated { AreSeated seats.new.items runs.new.items }
-    ensures holds { Lose (memory_of entries.now) edge (edges_over seats.old.items runs.old.items) (edges_over seats.new.items runs.new.items) }
+    ensures holds { Lose (alive_in cut.now) edge (edges_over seats.old.items runs.old.items) (edges_over seats.new.items runs.new.items) }
     ensures short { length seats.old.items ≤ 2 ^ 32 → length seats.new.items ≤ 2 ^ 32 }
 {
     match runs.get(run as usize) {
@@ -179,12 +179,12 @@ fn lengthen(
             return Ok(());
         }
     }
-    sit_all(entries, edge, seats, runs, run, left)
+    sit_all(cut, edge, seats, runs, run, left)
 }
 
 /// One edge for those at the front of the locations that sit one behind the other in a run; what is left of them, all where they don't.
 pub fn add_along<'a>(
-    entries: &Table,
+    cut: &Cut,
     seats: &mut Vec<Seat>,
     runs: &mut Vec<Run>,
     locations: &'a [Loc],
@@ -192,7 +192,7 @@ pub fn add_along<'a>(
 ) -> Result<&'a [Loc], AllocError>
     requires { AreSeated seats.old.items runs.old.items }
     ensures seated { AreSeated seats.new.items runs.new.items }
-    ensures adds { AddsReads (memory_of entries.now) edge (map loc_view locations.now) (edges_over seats.old.items runs.old.items)
+    ensures adds { AddsReads (alive_in cut.now) edge (map loc_view locations.now) (edges_over seats.old.items runs.old.items)
         (edges_over seats.new.items runs.new.items) }
     ensures listed { IfOk result (λ left. ListsBut edge (map loc_view locations.now) (map loc_view left.now) (edges_over seats.new.items runs.new.items)) }
     ensures short { length seats.old.items ≤ 2 ^ 32 → length seats.new.items ≤ 2 ^ 32 }
@@ -206,15 +206,15 @@ pub fn add_along<'a>(
     if last - behind < FEW {
         return Ok(locations);
     }
-    add_reach(entries, runs, run, Reach { edge, behind, last })?;
-    lengthen(entries, edge, seats, runs, run, last, left)?;
+    add_reach(cut, runs, run, Reach { edge, behind, last })?;
+    lengthen(cut, edge, seats, runs, run, last, left)?;
     Ok(left)
 }
 
 /// The same, where they come to sit so if they don't yet.
 pub fn add_stretch<'a>(
     alloc: Global,
-    entries: &Table,
+    cut: &Cut,
     seats: &mut Vec<Seat>,
     runs: &mut Vec<Run>,
     locations: &'a [Loc],
@@ -222,15 +222,15 @@ pub fn add_stretch<'a>(
 ) -> Result<&'a [Loc], AllocError>
     requires { AreSeated seats.old.items runs.old.items }
     ensures seated { AreSeated seats.new.items runs.new.items }
-    ensures adds { AddsReads (memory_of entries.now) edge (map loc_view locations.now) (edges_over seats.old.items runs.old.items)
+    ensures adds { AddsReads (alive_in cut.now) edge (map loc_view locations.now) (edges_over seats.old.items runs.old.items)
         (edges_over seats.new.items runs.new.items) }
     ensures listed { IfOk result (λ left. ListsBut edge (map loc_view locations.now) (map loc_view left.now) (edges_over seats.new.items runs.new.items)) }
     ensures short { length seats.old.items ≤ 2 ^ 32 → length seats.new.items ≤ 2 ^ 32 }
 {
-    let left = add_along(entries, seats, runs, locations, edge)?;
+    let left = add_along(cut, seats, runs, locations, edge)?;
     if left.len() < locations.len() || left.is_empty() {
         return Ok(left);
     }
-    sit_anew(alloc, entries, edge, seats, runs, locations)?;
-    add_along(entries, seats, runs, locations, edge)
+    sit_anew(alloc, cut, edge, seats, runs, locations)?;
+    add_along(cut, seats, runs, locations, edge)
 }

@@ -11,6 +11,7 @@ use Rattle.at_cache.specs.declared.standing.Standing.{Standing}
 use Rattle.at_cache.specs.Info.{Info, Memory}
 use Rattle.at_cache.specs.Recorded.{IsIndexed, covers, edge_to, is_listed, is_used}
 use Rattle.at_cache.specs.Standings.{IsTied, held, is_tied, shown, standing_of}
+use Rattle.at_cache.proofs.of_cut.Alive.{by_trace}
 use Rattle.at_cache.proofs.Ending.{and, any_of, any_same, both, opened}
 
 -- the entry as it is kept
@@ -86,9 +87,9 @@ again puts = record { since = puts; holds = true; traced = true }
 
 module _ (lists : Location ℕ → List Edge) (m : Memory) (old new : List Standing) (puts s : ℕ) (e : Info)
     (there : m s ≡ Some e)
-    (off : (standing_of old s).holds ≡ false) (here : standing_of new s ≡ again puts)
+    (off : (standing_of old s).holds ≡ false) (traced : (standing_of old s).traced ≡ true) (here : standing_of new s ≡ again puts)
     (others : (k : ℕ) → (k ≡ s → ⊥) → standing_of new k ≡ standing_of old k)
-    (indexed : IsIndexed lists puts (held old m)) (tied : IsTied lists puts m)
+    (indexed : IsIndexed lists puts (held old m)) (tied : IsTied lists puts old m)
     (on : (p : ℕ) → list_any (nat_eq p) e.links ≡ true → (standing_of old p).holds ≡ true) where
   abbrev came : Info
   came = record e { since = puts }
@@ -117,7 +118,7 @@ module _ (lists : Location ℕ → List Edge) (m : Memory) (old new : List Stand
   link : (p : ℕ) → list_any (nat_eq p) e.links ≡ true → (f : Info) × (held old m p ≡ Some f) × (f.since < puts)
       × (is_listed (edge_to s e) f.users ≡ true)
   link p h =
-      let (g, is, listed) = tied_there m s e p (tied.used s e there p h) in
+      let (g, is, listed) = tied_there m s e p (tied.used s e there (by_trace (standing_of old s) traced) p h) in
       let kept = held_on old m p g is (on p h) in
       (held_as old p g, kept, indexed.ordered p (held_as old p g) kept, listed)
 

@@ -15,8 +15,9 @@ use Rattle.at_cache.specs.Info.{Info, Memory, memory_of}
 use Rattle.at_cache.specs.Kept.{Kept, Puts, covered, same_location}
 use Rattle.at_cache.specs.Putting.{AreListed, Reads, with_users}
 use Rattle.at_cache.specs.Recorded.{IsIndexed, covers, edge_to, is_listed}
-use Rattle.at_cache.specs.Standings.{IsTied, held, instances_in, kept_held, standing_of}
+use Rattle.at_cache.specs.Standings.{IsTied, alive, held, instances_in, is_alive, kept_held, standing_of}
 use Rattle.at_cache.proofs.of_cut.Again.{held_as, held_on, is_among, tied_there}
+use Rattle.at_cache.proofs.of_cut.Alive.{alive_on, by_holding}
 use Rattle.at_cache.proofs.Ending.{any_of, any_same, far_enough, has, is_in, opened, some_of}
 use Rattle.at_cache.proofs.of_cut.HeldSlots.{as_kept, covers_slots, entry_in, kept_none, kept_slot, off_slot, slot_of}
 use Rattle.at_body.proofs.SamenessLemmas.{same_true}
@@ -47,7 +48,7 @@ pub record Comes (m new : Memory) (st ts : List Standing) (puts slot : ℕ) (e :
 
 module _ {lists : Location ℕ → List Edge} {m new : Memory} {st ts : List Standing} {puts slot : ℕ} {e : Info}
     (c : Comes m new st ts puts slot e)
-    (tied : IsTied lists puts m) (indexed : IsIndexed lists puts (held st m)) where
+    (tied : IsTied lists puts st m) (indexed : IsIndexed lists puts (held st m)) where
   apart : (k : ℕ) (g : Info) → m k ≡ Some g → (standing_of st k).holds ≡ true → k ≡ slot → ⊥
   apart k g had on same = true≢false (sym on ∙ ap (λ n. (standing_of st n).holds) same
       ∙ c.off g (ap m (sym same) ∙ had))
@@ -58,12 +59,12 @@ module _ {lists : Location ℕ → List Edge} {m new : Memory} {st ts : List Sta
       → (f : Info) × (m p ≡ Some f) × ((standing_of st p).holds ≡ true)
       × ((standing_of st p).since < (standing_of st k).since)
   older k g had on p h =
-      let (f, in_p, listed) = tied_there m k g p (tied.used k g had p h) in
+      let (f, in_p, listed) = tied_there m k g p (tied.used k g had (by_holding (standing_of st k) on) p h) in
       let (holds, less) = held_links lists puts m st indexed k g had on p h in
       (f, in_p, holds, less)
 
   module _ (later : Location ℕ → List Edge) where
-    pub comes_indexed : IsTied later (puts + 1) new → IsIndexed later (puts + 1) (held ts new)
+    pub comes_indexed : IsTied later (puts + 1) ts new → IsIndexed later (puts + 1) (held ts new)
     comes_indexed tied_new = held_indexed later (puts + 1) new ts tied_new ordered links
       where
         ordered : (k : ℕ) (f : Info) → new k ≡ Some f → (standing_of ts k).holds ≡ true
@@ -99,13 +100,14 @@ module _ {lists : Location ℕ → List Edge} {m new : Memory} {st ts : List Sta
               (c.hold p other ∙ holds, omega (arith, less, b, d))
         ]
 
-    module _ {reads : List (Location ℕ)} (r : Reads m (edge_to slot e) reads lists later)
+    module _ {reads : List (Location ℕ)} (r : Reads (alive st m) (edge_to slot e) reads lists later)
         (listed : AreListed (edge_to slot e) reads later) where
       -- an entry that was there has the edges that it had
-      pub listed_same : (k : ℕ) (g : Info) → m k ≡ Some g → (l : Location ℕ)
+      pub listed_same : (k : ℕ) (g : Info) → m k ≡ Some g → is_alive (standing_of st k) ≡ true → (l : Location ℕ)
           → is_listed (edge_to k g) (later l) ≡ is_listed (edge_to k g) (lists l)
-      listed_same k g had l = agree _ _ (λ h. has (lists l) (edge_to k g) (was_in (is_in (later l) (edge_to k g) h)))
-          (λ h. has (later l) (edge_to k g) (r.keeps l (edge_to k g) (is_in (lists l) (edge_to k g) h) g had refl))
+      listed_same k g had live l = agree _ _ (λ h. has (lists l) (edge_to k g) (was_in (is_in (later l) (edge_to k g) h)))
+          (λ h. has (later l) (edge_to k g) (r.keeps l (edge_to k g) (is_in (lists l) (edge_to k g) h) g
+          (alive_on st m k g had live) refl))
         where
           was_in : Contains (later l) (edge_to k g) → Contains (lists l) (edge_to k g)
           was_in d = elim (r.only l (edge_to k g) d) [
@@ -144,7 +146,8 @@ module _ {lists : Location ℕ → List Edge} {m new : Memory} {st ts : List Sta
           opened later (held ts new) far k (held_as ts k f) (held_on ts new k f in_k (c.hold k differs ∙ on)) l
           ∙ ap (λ (n : Info). is_listed (edge_to k n) (later l) || list_any (λ p. covers later (held ts new) far p l)
           n.links) is
-          ∙ ap (λ b. b || list_any (λ p. covers later (held ts new) far p l) g.links) (listed_same k g had l)
+          ∙ ap (λ b. b || list_any (λ p. covers later (held ts new) far p l) g.links)
+          (listed_same k g had (by_holding (standing_of st k) on) l)
           ∙ ap (λ b. is_listed (edge_to k g) (lists l) || b)
           (any_same (λ p. covers later (held ts new) far p l) (λ p. covers lists (held st m) far p l) g.links
           (λ p d. let (a, in_p, holds, less) = older k g had on p (is_among g.links p d) in
@@ -175,9 +178,9 @@ module _ {lists : Location ℕ → List Edge} {m new : Memory} {st ts : List Sta
 -- the same of instances
 module _ {lists : Location ℕ → List Edge} (later : Location ℕ → List Edge) (told tnew : Table) {st ts : List Standing}
     {puts slot : ℕ} {e : Info}
-    (c : Comes (memory_of told) (memory_of tnew) st ts puts slot e) (tied : IsTied lists puts (memory_of told))
+    (c : Comes (memory_of told) (memory_of tnew) st ts puts slot e) (tied : IsTied lists puts st (memory_of told))
     (indexed : IsIndexed lists puts (held st (memory_of told)))
-    {reads : List (Location ℕ)} (r : Reads (memory_of told) (edge_to slot e) reads lists later)
+    {reads : List (Location ℕ)} (r : Reads (alive st (memory_of told)) (edge_to slot e) reads lists later)
     (listed : AreListed (edge_to slot e) reads later)
     (one : (g : Info) → memory_of told slot ≡ Some g → g.instance ≡ e.instance) where
   abbrev entry : Kept

@@ -18,7 +18,7 @@ use Rattle.at_cache.specs.Kept.{AreKept, Puts}
 use Rattle.at_cache.specs.Putting.{AreListed, AreTaken, Reads, Uses, fresh_entry, users_at}
 use Rattle.at_cache.specs.Recorded.{IsIndexed}
 use Rattle.at_cache.specs.Renewing.{IsSlotFor, PutsIn}
-use Rattle.at_cache.specs.Standings.{AreValued, IsTied, held, instances_in, kept_held, remembered, standing_of}
+use Rattle.at_cache.specs.Standings.{AreValued, IsTied, alive, held, instances_in, kept_held, remembered, standing_of}
 use Rattle.at_cache.specs.Theirs.{AreTheirs, HasSlot}
 use Rattle.at_cache.specs.Traced.{PutsTrace, SparesOthers}
 use Rattle.at_cache.proofs.of_cut.Enters.{enters_indexed, enters_puts, enters_spares, enters_tied, enters_traces, enters_valued}
@@ -48,8 +48,8 @@ pub is_next : (t : Table) (i : Instance ℕ) (slot : ℕ) → lookup (same_insta
 is_next t i slot none is = rw (IsSlotFor, none) is
 
 -- the slot of an instance is so also with edges to those that used others
-module _ (t mid : Table) {x : Edge} {links : List ℕ} (i : Instance ℕ) (slot : ℕ)
-    (u : Uses x links (memory_of t) (memory_of mid)) (key : mid.places.vacant_key ≡ t.places.vacant_key) where
+module _ (t mid : Table) {live : Memory} {x : Edge} {links : List ℕ} (i : Instance ℕ) (slot : ℕ)
+    (u : Uses live x links (memory_of t) (memory_of mid)) (key : mid.places.vacant_key ≡ t.places.vacant_key) where
   abbrev Stands : Table → Option Entry → Type 0
   Stands t o = elim o as (λ _. Type 0) [ None ↦ slot ≡ t.places.vacant_key | Some e ↦ slot ≡ e.slot ]
 
@@ -150,7 +150,7 @@ pub record HasEntered (lists later : Location ℕ → List Edge) (told tnew : Ta
     (inst : Instance ℕ) (value : Option (Value ℕ)) (reads : List (Location ℕ)) (uses : List (Instance ℕ)) (o : Order)
     : Type 0 where
   pub indexed : IsIndexed later (number + 1) (held after (memory_of tnew))
-  pub tied : IsTied later (number + 1) (memory_of tnew)
+  pub tied : IsTied later (number + 1) after (memory_of tnew)
   pub valued : AreValued after (memory_of tnew)
   pub puts : Puts (kept_held lists told before number) inst value reads uses (kept_held later tnew after
       (number + 1))
@@ -161,17 +161,17 @@ module _ (lists later : Location ℕ → List Edge) (told tnew : Table) (mid : M
     (zero_st one_st two_st ts : List Standing) (puts slot : ℕ)
     (inst : Instance ℕ) (value : Option (Value ℕ)) (links slots : List ℕ) (reads : List (Location ℕ))
     (uses : List (Instance ℕ)) (standing : Standing) (o : Order)
-    (indexed : IsIndexed lists puts (held zero_st (memory_of told))) (tied : IsTied lists puts (memory_of told))
+    (indexed : IsIndexed lists puts (held zero_st (memory_of told))) (tied : IsTied lists puts zero_st (memory_of told))
     (valued : AreValued zero_st (memory_of told))
     (absent : kept_held lists told zero_st puts inst ≡ None)
     (present : AreKept (kept_held lists told zero_st puts) uses)
     (named : (e : Info) → memory_of told slot ≡ Some e → e.instance ≡ inst)
     (taken : AreTaken (memory_of told) links) (theirs : AreTheirs told uses links)
     (room : (k : ℕ) → standing_of one_st k ≡ standing_of zero_st k)
-    (r : Reads (memory_of told) (record { slot = slot; stamp = puts }) reads lists later)
+    (r : Reads (alive zero_st (memory_of told)) (record { slot = slot; stamp = puts }) reads lists later)
     (listed : AreListed (record { slot = slot; stamp = puts }) reads later)
     (same : slots ≡ links)
-    (u : Uses (record { slot = slot; stamp = puts }) slots (memory_of told) mid)
+    (u : Uses (alive zero_st (memory_of told)) (record { slot = slot; stamp = puts }) slots (memory_of told) mid)
     (used : AreListed (record { slot = slot; stamp = puts }) slots (users_at mid))
     (p : PutsIn slot inst value links puts one_st mid two_st (memory_of tnew))
     (set : ts ≡ slice_set two_st slot standing) (within : slot < length two_st)
@@ -185,7 +185,7 @@ module _ (lists later : Location ℕ → List Edge) (told tnew : Table) (mid : M
   has_entered =
       let are = they_are lists told zero_st puts uses links present taken theirs in
       let hold = they_hold lists told zero_st puts uses links present taken theirs in
-      let u1 = subst (λ ls. Uses edge ls (memory_of told) mid) same u in
+      let u1 = subst (λ ls. Uses (alive zero_st (memory_of told)) edge ls (memory_of told) mid) same u in
       let used1 = subst (λ ls. AreListed edge ls (users_at mid)) same used in
       let stand : (k : ℕ) → standing_of ts k ≡ (if nat_eq k slot then standing else standing_of two_st k)
       = λ k. ap (λ xs. standing_of xs k) set ∙ set_is two_st slot standing within k in

@@ -14,9 +14,10 @@ use Rattle.at_cache.specs.Kept.{Puts}
 use Rattle.at_cache.specs.Putting.{AreListed, Reads, Uses, users_at, with_users}
 use Rattle.at_cache.specs.Recorded.{IsIndexed, edge_to}
 use Rattle.at_cache.specs.Renewing.{IsAnother, IsUser, PutsIn}
-use Rattle.at_cache.specs.Standings.{AreValued, IsTied, held, instances_in, kept_held, remembered, standing_of}
+use Rattle.at_cache.specs.Standings.{AreValued, IsTied, alive, held, instances_in, is_alive, kept_held, remembered, standing_of}
 use Rattle.at_cache.specs.Traced.{IsOutdated, IsSpared, IsStill, IsTraceOf, PutsTrace, SparesOthers, Trace}
 use Rattle.at_cache.proofs.of_cut.Again.{tied_there}
+use Rattle.at_cache.proofs.of_cut.Alive.{alive_on, by_trace, was_alive}
 use Rattle.at_cache.proofs.of_cut.Comes.{Comes, comes_indexed, puts_comes}
 use Rattle.at_cache.proofs.Ending.{is_in}
 use Rattle.at_cache.proofs.Ending as ending
@@ -35,16 +36,16 @@ module _ (lists later : Location ℕ → List Edge) (told tnew : Table) (mid : M
     (zero_st one_st two_st ts : List Standing) (puts slot : ℕ)
     (inst : Instance ℕ) (value : Option (Value ℕ)) (links : List ℕ) (reads : List (Location ℕ)) (standing : Standing)
     (o : Order)
-    (indexed : IsIndexed lists puts (held zero_st (memory_of told))) (tied : IsTied lists puts (memory_of told))
+    (indexed : IsIndexed lists puts (held zero_st (memory_of told))) (tied : IsTied lists puts zero_st (memory_of told))
     (valued : AreValued zero_st (memory_of told))
     (absent : kept_held lists told zero_st puts inst ≡ None) (named : (g : Info) → memory_of told slot ≡ Some g
     → g.instance ≡ inst)
     (hold : (p : ℕ) → list_any (nat_eq p) links ≡ true → (f : Info) × (memory_of told p ≡ Some f)
     × ((standing_of zero_st p).holds ≡ true))
     (room : (k : ℕ) → standing_of one_st k ≡ standing_of zero_st k)
-    (r : Reads (memory_of told) (record { slot = slot; stamp = puts }) reads lists later)
+    (r : Reads (alive zero_st (memory_of told)) (record { slot = slot; stamp = puts }) reads lists later)
     (listed : AreListed (record { slot = slot; stamp = puts }) reads later)
-    (u : Uses (record { slot = slot; stamp = puts }) links (memory_of told) mid)
+    (u : Uses (alive zero_st (memory_of told)) (record { slot = slot; stamp = puts }) links (memory_of told) mid)
     (used : AreListed (record { slot = slot; stamp = puts }) links (users_at mid))
     (p : PutsIn slot inst value links puts one_st mid two_st (memory_of tnew))
     (set : (k : ℕ) → standing_of ts k ≡ (if nat_eq k slot then standing else standing_of two_st k))
@@ -104,18 +105,23 @@ module _ (lists later : Location ℕ → List Edge) (told tnew : Table) (mid : M
     links = λ q h. hold q (ap (λ ls. list_any (nat_eq q) ls) (sym p.put.1) ∙ h);
   }
 
-  pub enters_tied : IsTied later (puts + 1) (memory_of tnew)
-  enters_tied = renewed_tied later tied refl r u p.entry refl p.put.2 p.put.1 p.put.3 p.put.4 p.here p.others used
-
-  pub enters_indexed : IsIndexed later (puts + 1) (held ts (memory_of tnew))
-  enters_indexed = comes_indexed comes tied indexed later enters_tied
-
   fewer : (k : ℕ) (g : Info) → memory_of told k ≡ Some g → (k ≡ slot → ⊥) → (standing_of ts k).traced ≡ true
       → (standing_of zero_st k).traced ≡ true
   fewer k g had differs on =
       let (f, found, is) = u.there k g had in
       ap (λ (z : Standing). z.traced) (sym (room k)) ∙ p.fewer k f found
       (ap (λ (z : Standing). z.traced) (sym (stands k differs)) ∙ on)
+
+  live : (k : ℕ) (g : Info) → memory_of told k ≡ Some g → (k ≡ slot → ⊥) → is_alive (standing_of ts k) ≡ true
+      → is_alive (standing_of zero_st k) ≡ true
+  live k g had differs = was_alive (standing_of zero_st k) (standing_of ts k) (λ on. sym (comes.hold k differs) ∙ on)
+      (fewer k g had differs)
+
+  pub enters_tied : IsTied later (puts + 1) ts (memory_of tnew)
+  enters_tied = renewed_tied later tied refl r u p.entry refl p.put.2 p.put.1 p.put.3 p.put.4 p.here p.others used ts live
+
+  pub enters_indexed : IsIndexed later (puts + 1) (held ts (memory_of tnew))
+  enters_indexed = comes_indexed comes tied indexed later enters_tied
 
   pub enters_valued : AreValued ts (memory_of tnew)
   enters_valued k f in_k on = elim (cases_eq k slot) [
@@ -137,9 +143,11 @@ module _ (lists later : Location ℕ → List Edge) (told tnew : Table) (mid : M
       elim (p.changed f found) [
         | inl value_same ↦ p.put.0 ∙ sym value_same ∙ ap (λ (x : Info). x.value) is
         | inr lost ↦
-            let (a, in_a, edge) = tied_there (memory_of told) k g slot (tied.used k g had slot h) in
+            let live_k = by_trace (standing_of zero_st k) (fewer k g had differs on) in
+            let (a, in_a, edge) = tied_there (memory_of told) k g slot (tied.used k g had live_k slot h) in
             let c = u.users.keeps slot (edge_to k g) (subst (λ es. Contains es (edge_to k g))
-            (sym (users_of (memory_of told) slot a in_a)) (is_in a.users (edge_to k g) edge)) g had refl in
+            (sym (users_of (memory_of told) slot a in_a)) (is_in a.users (edge_to k g) edge)) g
+            (alive_on zero_st (memory_of told) k g had live_k) refl in
             let gone = lost (edge_to k g) (subst (λ es. Contains es (edge_to k g)) (users_of mid slot f found) c) n now
             (ap (λ (x : Info). x.stamp) same) in
             absurd (true≢false (sym on ∙ ap (λ (z : Standing). z.traced) (stands k differs) ∙ gone))
@@ -180,11 +188,13 @@ module _ (lists later : Location ℕ → List Edge) (told tnew : Table) (mid : M
         )
       ]
 
-  outdates : (k : ℕ) (g : Info) (trace : Trace) → memory_of told k ≡ Some g → list_any (nat_eq slot) g.links ≡ true
+  outdates : (k : ℕ) (g : Info) (trace : Trace) → memory_of told k ≡ Some g → (standing_of zero_st k).traced ≡ true
+      → list_any (nat_eq slot) g.links ≡ true
       → IsAnother (memory_of told) slot value → instances_in (memory_of told) g.links ≡ trace.uses
       → IsOutdated (remembered lists told zero_st) (remembered later tnew ts) trace
-  outdates k g trace had uses other is =
-      let (a, in_a, edge) = tied_there (memory_of told) k g slot (tied.used k g had slot uses) in
+  outdates k g trace had on uses other is =
+      let (a, in_a, edge) = tied_there (memory_of told) k g slot
+      (tied.used k g had (by_trace (standing_of zero_st k) on) slot uses) in
       record {
         one = inst;
         used = subst (λ us. Contains us inst) is (subst (Contains (instances_in (memory_of told) g.links)) (named a in_a)
@@ -207,7 +217,7 @@ module _ (lists later : Location ℕ → List Edge) (told tnew : Table) (mid : M
       (instances_in (memory_of told) links) (kept_held later tnew ts (puts + 1))) p.put.0
       (subst (λ ls. Puts (kept_held lists told zero_st puts) p.entry.instance p.entry.value reads
       (instances_in (memory_of told) ls) (kept_held later tnew ts (puts + 1))) p.put.1
-      (puts_comes later told tnew comes tied indexed (subst (λ x. Reads (memory_of told) x reads lists later)
+      (puts_comes later told tnew comes tied indexed (subst (λ x. Reads (alive zero_st (memory_of told)) x reads lists later)
       edge_is r) (subst (λ x. AreListed x reads later) edge_is listed)
       (λ g had. named g had ∙ sym its_instance))))
 
@@ -220,7 +230,7 @@ module _ (lists later : Location ℕ → List Edge) (told tnew : Table) (mid : M
       (remembered lists told zero_st) (remembered later tnew ts)) p.put.0
       (subst (λ ls. PutsTrace p.entry.instance p.entry.value reads (instances_in (memory_of told) ls) o
       (remembered lists told zero_st) (remembered later tnew ts)) p.put.1
-      (puts_traces later told tnew comes tied indexed (subst (λ x. Reads (memory_of told) x reads lists later)
+      (puts_traces later told tnew comes tied indexed (subst (λ x. Reads (alive zero_st (memory_of told)) x reads lists later)
       edge_is r) (subst (λ x. AreListed x reads later) edge_is listed)
       (λ g had. named g had ∙ sym its_instance) fewer alike o
       (λ on. ordered (ap (λ (z : Standing). z.traced) (sym stands_here) ∙ on)))))
@@ -237,7 +247,7 @@ module _ (lists later : Location ℕ → List Edge) (told tnew : Table) (mid : M
         | inl still ↦ inl (ap (remembered later tnew ts).traced (sym its) ∙ kept_trace lists later told tnew zero_st ts k g f
             trace had now (ap (λ (z : Info). z.instance) it) (ap (λ (z : Info). z.value) it) still before
             (λ w h. back_to g.instance w (λ e. apart (e ∙ its)) (enters_traces g.instance w h)))
-        | inr (uses, other) ↦ inr (outdates k g trace had uses other (ap (λ (x : Trace). x.uses) is))
+        | inr (uses, other) ↦ inr (outdates k g trace had on uses other (ap (λ (x : Trace). x.uses) is))
       ]
     where
       back_to : (i : Instance ℕ) (w : Trace) → (inst ≡ i → ⊥)

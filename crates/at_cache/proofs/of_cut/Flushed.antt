@@ -1,5 +1,5 @@
 -- What an edit leaves of entries that stay in memory.
-use Rattle.std.proofs.Common.{◌≡◌, ◌⊎◌, inl, inr, ℕ, List, [], ◌∷◌, Bool, true, false, Option, None, Some, option_map, Contains, if◌then◌else◌, refl, sym, ap, ◌∙◌, subst}
+use Rattle.std.proofs.Common.{◌≡◌, ◌⊎◌, inl, inr, ℕ, List, [], ◌∷◌, Bool, true, false, Option, None, Some, option_map, Contains, if◌then◌else◌, refl, sym, ap, ◌∙◌, subst, arith}
 use Rattle.std.specs.Map.{lookup}
 use Rattle.std.specs.Option.{option_and_then}
 use Rattle.std.proofs.lemmas.Option.{none-some, same_Some}
@@ -23,6 +23,7 @@ use Rattle.at_cache.specs.Traced.{FlushesTraces, SparesAtEdit, Trace}
 use Rattle.at_cache.proofs.Ending.{has_edge, indexed_after, is_in, leaves, loses}
 use Rattle.at_cache.proofs.Index as index
 use Rattle.at_cache.proofs.Index.{kept_at}
+use Rattle.at_cache.proofs.of_cut.Alive.{tied_on, was_alive}
 use Rattle.at_cache.proofs.of_cut.Passing.{not_seen, seen_is}
 use Rattle.at_cache.proofs.Showing.{AreShown, leaves_of, loses_of}
 use Rattle.at_cache.proofs.Shown.{found_by, held_by}
@@ -175,8 +176,21 @@ module _ (says : Location ℕ → Bool → Type 0) (lists : Location ℕ → Lis
       let (g, found, before, is) = seen_is pass.Traces (standing_of a.standings.items s) (memory_of a.entries s) o was in
       (before, here)
 
-  pub tied_after : IsTied lists puts (memory_of a.entries) → IsTied lists puts (memory_of c.entries)
-  tied_after i = subst (IsTied lists puts) all_same i
+  -- what is kept was
+  was_held : (s : ℕ) (f : Info) → memory_of a.entries s ≡ Some f → (standing_of c.standings.items s).holds ≡ true
+      → (standing_of a.standings.items s).holds ≡ true
+  was_held s f there on =
+      let here = ap (option_and_then (shown pass.Values (standing_of c.standings.items s))) (same_memory s ∙ there)
+      ∙ shown_is pass.Values (standing_of c.standings.items s) f on in
+      let (o, was, alike) = v.works.same s (shape pass.Values (standing_of c.standings.items s) f) here in
+      let (g, found, before, is) = seen_is pass.Values (standing_of b.standings.items s) (memory_of b.entries s) o was in
+      ap (λ (x : Standing). x.holds) (sym (t.stand s)) ∙ before
+
+  pub tied_after : IsTied lists puts a.standings.items (memory_of a.entries) → IsTied lists puts c.standings.items (memory_of c.entries)
+  tied_after i = tied_on puts c.standings.items (omega arith)
+      (λ s f there. let was = sym (same_memory s) ∙ there in was_alive (standing_of a.standings.items s) (standing_of c.standings.items s)
+      (was_held s f was) (λ on. (was_traced s f was on).0))
+      (subst (IsTied lists puts a.standings.items) all_same i)
 
   pub valued_after : AreValued a.standings.items (memory_of a.entries) → AreValued c.standings.items (memory_of c.entries)
   valued_after h s e there on = let was = sym (same_memory s) ∙ there in h s e was (was_traced s e was on).0

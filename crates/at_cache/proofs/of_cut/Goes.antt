@@ -16,7 +16,7 @@ use Rattle.at_cache.specs.Info.{Info, Memory, info, memory_of}
 use Rattle.at_cache.specs.Placed.{at}
 use Rattle.at_cache.specs.Kept.{value_at, PutsBy}
 use Rattle.at_cache.specs.Settling.{AreTraces, CanKeep, GoesOn, HasSettled, IsWhole}
-use Rattle.at_cache.specs.Standings.{IsTied, instances_in, kept_held, remembered, standing_of, trace_at, trace_of, held}
+use Rattle.at_cache.specs.Standings.{IsTied, instances_in, is_alive, kept_held, remembered, standing_of, trace_at, trace_of, held}
 use Rattle.at_cache.specs.Theirs.{HasSlot}
 use Rattle.at_cache.specs.Traced.{AreAlike, AreAllKept, Memories, Settled, StayTraced, Trace, itself}
 use Rattle.at_cache.proofs.of_cut.Behind.{KeepsOn, all_kept_on, settles_below, settles_itself, settles_none, settles_on, settles_then}
@@ -28,6 +28,7 @@ use Rattle.at_cache.proofs.Listing.{from_kept}
 use Rattle.at_cache.specs.Putting.{AreTaken}
 use Rattle.at_cache.specs.Recorded.{IsIndexed, edge_to, is_listed}
 use Rattle.at_cache.proofs.of_cut.Again.{again, again_indexed, is_among, tied_there}
+use Rattle.at_cache.proofs.of_cut.Alive.{by_trace, tied_on}
 use Rattle.at_cache.proofs.Ending.{either}
 use Rattle.at_cache.proofs.Taking.{none_in}
 use Rattle.slab.proofs.SlabLemmas.{Contains-cons_cases}
@@ -154,10 +155,11 @@ module _ (lists : Location ℕ → List Edge) (t : Table) where
   value_kept st puts s e there on some = ap (λ o. is_some (value_at o)) (kept_slot lists t st puts s e there on) ∙ some
 
   -- all that an entry used is in memory
-  pub links_taken : (puts s : ℕ) (e : Info) → IsTied lists puts (memory_of t) → memory_of t s ≡ Some e
-      → AreTaken (memory_of t) e.links
-  links_taken puts s e tied there p c =
-      let (f, in_p, listed) = tied_there (memory_of t) s e p (tied.used s e there p (is_among e.links p c)) in
+  pub links_taken : (st : List Standing) (puts s : ℕ) (e : Info) → IsTied lists puts st (memory_of t) → memory_of t s ≡ Some e
+      → (standing_of st s).traced ≡ true → AreTaken (memory_of t) e.links
+  links_taken st puts s e tied there traced p c =
+      let live = by_trace (standing_of st s) traced in
+      let (f, in_p, listed) = tied_there (memory_of t) s e p (tied.used s e there live p (is_among e.links p c)) in
       ap is_some in_p
 
   pub instance_among : (ps : List ℕ) (p : ℕ) (f : Info) → memory_of t p ≡ Some f → list_any (nat_eq p) ps ≡ true
@@ -174,12 +176,13 @@ module _ (lists : Location ℕ → List Edge) (t : Table) where
   ]
 
   -- each that it used, where the values of all are kept
-  links_hold : (st : List Standing) (puts s : ℕ) (e : Info) → IsTied lists puts (memory_of t) → memory_of t s ≡ Some e
+  links_hold : (st : List Standing) (puts s : ℕ) (e : Info) → IsTied lists puts st (memory_of t) → memory_of t s ≡ Some e
+      → (standing_of st s).traced ≡ true
       → AreAllKept (kept_held lists t st puts) (instances_in (memory_of t) e.links)
       → (p : ℕ) → list_any (nat_eq p) e.links ≡ true → (f : Info) × (memory_of t p ≡ Some f)
       × ((standing_of st p).holds ≡ true)
-  links_hold st puts s e tied there all p h =
-      let (f, in_p, listed) = tied_there (memory_of t) s e p (tied.used s e there p h) in
+  links_hold st puts s e tied there traced all p h =
+      let (f, in_p, listed) = tied_there (memory_of t) s e p (tied.used s e there (by_trace (standing_of st s) traced) p h) in
       (f, in_p, holds_slot lists t st puts p f in_p (all f.instance (instance_among e.links p f in_p h)))
 
   -- the entry in the slot is kept again
@@ -196,7 +199,7 @@ module _ (lists : Location ℕ → List Edge) (t : Table) where
       let others : (k : ℕ) → (k ≡ s → ⊥) → standing_of b k ≡ standing_of a k = λ k differs. set k
       ∙ ap (λ c. if c then again x.puts else standing_of a k)
       (false_from_ne_true (nat_eq k s) (λ h. differs (eqb-true k s h))) in
-      let links = links_hold a x.puts s e whole.tied there (all e there) in
+      let links = links_hold a x.puts s e whole.tied there traced (all e there) in
       let on : (p : ℕ) → list_any (nat_eq p) e.links ≡ true → (standing_of a p).holds ≡ true =
       λ p h. let (f, in_p, holds) = links p h in holds in
       let same : (k : ℕ) → (standing_of b k).traced ≡ (standing_of a k).traced = λ k. elim (cases_eq k s) [
@@ -204,12 +207,17 @@ module _ (lists : Location ℕ → List Edge) (t : Table) where
             ∙ ap (λ n. (standing_of a n).traced) (sym is)
         | inr differs ↦ ap (λ (z : Standing). z.traced) (others k differs)
       ] in
-      let puts_it = puts_again lists t a b x.puts s e there off here others whole.indexed whole.tied links in (
+      let live : (k : ℕ) (f : Info) → memory_of t k ≡ Some f → is_alive (standing_of b k) ≡ true → is_alive (standing_of a k) ≡ true
+      = λ k f in_k h. elim (cases_eq k s) [
+        | inl is ↦ ap (λ n. is_alive (standing_of a n)) is ∙ by_trace (standing_of a s) traced
+        | inr differs ↦ ap is_alive (sym (others k differs)) ∙ h
+      ] in
+      let puts_it = puts_again lists t a b x.puts s e there off traced here others whole.indexed whole.tied links in (
         record {
           whole = record {
             indexed = subst (λ n. IsIndexed lists n (held b (memory_of t))) (sym puts)
-                (again_indexed lists (memory_of t) a b x.puts s e there off here others whole.indexed whole.tied on);
-            tied = subst (λ n. IsTied lists n (memory_of t)) (sym puts) (tied_on lists x.puts (memory_of t) whole.tied);
+                (again_indexed lists (memory_of t) a b x.puts s e there off traced here others whole.indexed whole.tied on);
+            tied = subst (λ n. IsTied lists n b (memory_of t)) (sym puts) (tied_on (x.puts + 1) b (omega arith) live whole.tied);
             valued = λ k f in_k h. whole.valued k f in_k (sym (same k) ∙ h);
             few = omega (arith, work);
           };
@@ -231,17 +239,6 @@ module _ (lists : Location ℕ → List Edge) (t : Table) where
         },
         value_kept b y.puts s e there (ap (λ (z : Standing). z.holds) here) (whole.valued s e there traced),
       )
-    where
-      tied_on : (lists : Location ℕ → List Edge) (puts : ℕ) (m : Memory) → IsTied lists puts m
-          → IsTied lists (puts + 1) m
-      tied_on lists puts m tied = record {
-        idle = tied.idle;
-        known = λ s e there. let less = tied.known s e there in omega (arith, less);
-        used = tied.used;
-        uses = tied.uses;
-        past_readers = λ l x h. let less = tied.past_readers l x h in omega (arith, less);
-        past_users = λ p f there x h. let less = tied.past_users p f there x h in omega (arith, less);
-      }
 
 -- what was looked up is the entry in the slot
 pub is_pair : (t : Table) (s : ℕ) (e : Info) (x : Instance ℕ × Entry) → Some x ≡ at t.entries.entries (get t.places) s

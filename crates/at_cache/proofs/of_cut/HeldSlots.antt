@@ -127,9 +127,9 @@ module _ (lists : Location ℕ → List Edge) (t : Table) (st : List Standing) (
 
 module _ (lists : Location ℕ → List Edge) (t : Table) (old new : List Standing) (puts s : ℕ) (e : Info)
     (there : memory_of t s ≡ Some e)
-    (off : (standing_of old s).holds ≡ false) (here : standing_of new s ≡ again puts)
+    (off : (standing_of old s).holds ≡ false) (traced : (standing_of old s).traced ≡ true) (here : standing_of new s ≡ again puts)
     (others : (k : ℕ) → (k ≡ s → ⊥) → standing_of new k ≡ standing_of old k)
-    (indexed : IsIndexed lists puts (held old (memory_of t))) (tied : IsTied lists puts (memory_of t))
+    (indexed : IsIndexed lists puts (held old (memory_of t))) (tied : IsTied lists puts old (memory_of t))
     (links : (p : ℕ) → list_any (nat_eq p) e.links ≡ true → (f : Info) × (memory_of t p ≡ Some f)
     × ((standing_of old p).holds ≡ true)) where
   on : (p : ℕ) → list_any (nat_eq p) e.links ≡ true → (standing_of old p).holds ≡ true
@@ -163,7 +163,7 @@ module _ (lists : Location ℕ → List Edge) (t : Table) (old new : List Standi
           (others x.slot (differs x apart found)) ∙ is)
           ∙ (λ k. let kept : Kept = record {
             value = option_map value_view x.value;
-            covers = λ l. covers_still lists m old new puts s e there off here others indexed tied on x.slot
+            covers = λ l. covers_still lists m old new puts s e there off traced here others indexed tied on x.slot
                 (held_as old x.slot g) (held_on old m x.slot g at_x is) l k;
           } in Some kept)
           ∙ sym (kept_by lists t old puts j x found true is)
@@ -187,7 +187,7 @@ module _ (lists : Location ℕ → List Edge) (t : Table) (old new : List Standi
   covers_all : (l : Location ℕ) → entry.covers l
       ≡ covered_by (kept_held lists t old puts) (λ l. is_listed (edge_to s e) (lists l)) (instances_in m e.links) l
   covers_all l =
-      covers_it lists m old new puts s e there off here others indexed tied on l
+      covers_it lists m old new puts s e there off traced here others indexed tied on l
       ∙ ap (λ b. is_listed (edge_to s e) (lists l) || b) (sym (covers_slots lists t old puts e.links links l))
 
   pub puts_again : PutsBy (kept_held lists t old puts) e.instance e.value (λ l. is_listed (edge_to s e) (lists l))

@@ -22,6 +22,7 @@ use Rattle.at_cache.specs.Placed.{at}
 use Rattle.at_cache.specs.Standings.{AreValued, IsTied, instances_in, kept_held, remembered, standing_of, trace_of}
 use Rattle.at_cache.specs.Traced.{AreAllKept, IsNext, below, itself}
 use Rattle.at_cache.proofs.of_cut.Again.{is_among, tied_there}
+use Rattle.at_cache.proofs.of_cut.Alive.{by_trace}
 use Rattle.at_cache.proofs.Dooming.{head_of}
 use Rattle.at_cache.proofs.of_cut.Goes.{before_place, has_shown, instances_at, trace_slot, value_kept}
 use Rattle.at_cache.proofs.of_cut.HeldSlots.{slot_of}
@@ -146,12 +147,12 @@ module _ (t : Table) (st : List Standing) where
       so o c =
           let used = Contains-append_left first.front (p ∷ first.back) o c in
           let is = is_among e.links o (subst (λ ps. Contains ps o) (sym first.among) used) in
-          let (f, in_o, listed) = tied_there m s e o (tied.used s e there o is) in
+          let (f, in_o, listed) = tied_there m s e o (tied.used s e there (by_trace (standing_of st s) traced) o is) in
           is_so valued o f in_o
 
       follows : Follows t st lists puts e p
       follows =
-          let (f, in_p, listed) = tied_there m s e p (tied.used s e there p among) in
+          let (f, in_p, listed) = tied_there m s e p (tied.used s e there (by_trace (standing_of st s) traced) p among) in
           let (v, has) = has_value e (valued s e there traced) in (
             f,
             in_p,
@@ -182,7 +183,7 @@ module _ (t : Table) (st : List Standing) where
 
   -- from an instance with an entry on
   pub next_from : (lists : Location ℕ → List Edge) (puts : ℕ) (i : Instance ℕ) (x : Entry) (p : ℕ)
-      → (e : Instance ℕ × Entry) → IsTied lists puts m → AreValued st m
+      → (e : Instance ℕ × Entry) → IsTied lists puts st m → AreValued st m
       → Some x ≡ lookup (same_instance i) t.entries.entries → LeadsTo t st x.slot p → Found p e
       → IsNext (remembered lists t st) (kept_held lists t st puts) i e.0
   next_from lists puts i x p e tied valued found leads in_p =

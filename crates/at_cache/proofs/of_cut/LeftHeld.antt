@@ -1,5 +1,5 @@
 -- What stays where an entry that was to come doesn't.
-use Rattle.std.proofs.Common.{◌≡◌, inl, ℕ, ◌+◌, List, Option, None, Some, Result, Ok, Err, OnOk, OnErr, is_some, option_map, if◌then◌else◌, refl, sym, ap, ◌∙◌, subst}
+use Rattle.std.proofs.Common.{◌≡◌, inl, ℕ, ◌+◌, List, Option, None, Some, Result, Ok, Err, OnOk, OnErr, is_some, option_map, if◌then◌else◌, refl, sym, ap, ◌∙◌, subst, arith}
 use Rattle.std.specs.Map.{lookup}
 use Rattle.std.specs.Option.{option_and_then}
 use Rattle.std.proofs.lemmas.Option.{none-some, same_Some}
@@ -19,8 +19,9 @@ use Rattle.at_cache.specs.Putting.{Reads, Uses, with_users}
 use Rattle.at_cache.specs.Recorded.{IsIndexed, covers}
 use Rattle.at_cache.specs.Renewing.{EntersHeld}
 use Rattle.at_cache.specs.Shedding.{kept_cut}
-use Rattle.at_cache.specs.Standings.{AreValued, IsTied, held, kept_held, remembered, shown, standing_of}
+use Rattle.at_cache.specs.Standings.{AreValued, IsTied, alive, held, is_alive, kept_held, remembered, shown, standing_of}
 use Rattle.at_cache.specs.Traced.{KeepsTrace, PutsTrace, SparesOthers}
+use Rattle.at_cache.proofs.of_cut.Alive.{tied_on}
 use Rattle.at_cache.proofs.of_cut.Lifting.{kept_still, stale_held}
 use Rattle.at_cache.proofs.Listing.{reads_none, uses_none}
 use Rattle.at_cache.proofs.of_cut.Retraced.{stale_traces, trace_is, traced_in}
@@ -44,15 +45,15 @@ module _ (st ts : List Standing) (same : (k : ℕ) → standing_of ts k ≡ stan
       (same_instance i) t.entries.entries))
 
 -- the same where the slots have the same
-pub uses_alike : {x : Edge} {links : List ℕ} (m mid new : Memory) → ((k : ℕ) → new k ≡ mid k) → Uses x links m mid
-    → Uses x links m new
-uses_alike {x} {links} m mid new same u = subst (Uses x links m) (λ n k. sym (same k) n) u
+pub uses_alike : {told : Memory} {x : Edge} {links : List ℕ} (m mid new : Memory) → ((k : ℕ) → new k ≡ mid k) → Uses told x links m mid
+    → Uses told x links m new
+uses_alike {told} {x} {links} m mid new same u = subst (Uses told x links m) (λ n k. sym (same k) n) u
 
 -- All that is owed where the entry doesn't come.
 pub record Left (lists later : Location ℕ → List Edge) (told tnew : Table) (st ts : List Standing)
     (puts : ℕ) : Type 0 where
   pub indexed : IsIndexed later (puts + 1) (held ts (memory_of tnew))
-  pub tied : IsTied later (puts + 1) (memory_of tnew)
+  pub tied : IsTied later (puts + 1) ts (memory_of tnew)
   pub valued : AreValued ts (memory_of tnew)
   pub err : KeepsAll (kept_held lists told st puts) (kept_held later tnew ts (puts + 1))
   pub traces : (i : Instance ℕ) (v : Option (Value ℕ)) (reads : List (Location ℕ)) (uses : List (Instance ℕ))
@@ -62,10 +63,11 @@ pub record Left (lists later : Location ℕ → List Edge) (told tnew : Table) (
 
 module _ (lists later : Location ℕ → List Edge) (told tnew : Table)
     (st ts : List Standing) {puts : ℕ} {x : Edge} {reads : List (Location ℕ)} {links : List ℕ}
-    (i : IsIndexed lists puts (held st (memory_of told))) (t : IsTied lists puts (memory_of told)) (v : AreValued st
+    (i : IsIndexed lists puts (held st (memory_of told))) (t : IsTied lists puts st (memory_of told)) (v : AreValued st
     (memory_of told)) (stamp : x.stamp ≡ puts)
     (same : (k : ℕ) → standing_of ts k ≡ standing_of st k)
-    (r : Reads (memory_of told) x reads lists later) (u : Uses x links (memory_of told) (memory_of tnew)) where
+    (r : Reads (alive st (memory_of told)) x reads lists later)
+    (u : Uses (alive st (memory_of told)) x links (memory_of told) (memory_of tnew)) where
   was : (k : ℕ) (f : Info) → memory_of tnew k ≡ Some f → (e : Info) × (memory_of told k ≡ Some e) ×
       (f ≡ with_users f.users e)
   was k f found = by (memory_of told k) refl
@@ -101,7 +103,7 @@ module _ (lists later : Location ℕ → List Edge) (told tnew : Table)
   left = record {
     indexed = subst (IsIndexed later (puts + 1)) (held_alike st ts same (memory_of tnew))
         (stale_held st told tnew lists later puts x reads links i stamp r u);
-    tied = tied_still t stamp r u;
+    tied = tied_on (puts + 1) ts (omega arith) (λ k f found on. ap is_alive (sym (same k)) ∙ on) (tied_still t stamp r u);
     valued = λ k f found on.
         let (e, there, is) = was k f found in
         ap (λ (n : Info). is_some n.value) is ∙ v k e there (ap (λ (s : Standing). s.traced) (sym (same k)) ∙ on);
@@ -117,12 +119,12 @@ module _ (lists later : Location ℕ → List Edge) (told tnew : Table)
 
 -- where nothing came
 module _ (lists : Location ℕ → List Edge) (told : Table) (st : List Standing) {puts : ℕ}
-    (i : IsIndexed lists puts (held st (memory_of told))) (t : IsTied lists puts (memory_of told)) (v : AreValued st
+    (i : IsIndexed lists puts (held st (memory_of told))) (t : IsTied lists puts st (memory_of told)) (v : AreValued st
     (memory_of told)) where
   pub left_alone : (ts : List Standing) → ((k : ℕ) → standing_of ts k ≡ standing_of st k)
       → Left lists lists told told st ts puts
   left_alone ts same = left lists lists told told st ts {x = record { slot = 0; stamp = puts }} i t v refl same
-      (reads_none _ _ _) (uses_none _ _)
+      (reads_none _ _ _) (uses_none _ _ _)
 
 -- so the entry didn't come to be kept
 pub enters_none : {E : Type 0} (i : Instance ℕ) (v : Option (Value ℕ)) (looked : List (Location ℕ))

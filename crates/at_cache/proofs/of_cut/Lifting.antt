@@ -11,8 +11,9 @@ use Rattle.at_cache.specs.Info.{Info, Memory, memory_of}
 use Rattle.at_cache.specs.Kept.{KeepsAll}
 use Rattle.at_cache.specs.Putting.{Reads, Uses, users_at, with_users}
 use Rattle.at_cache.specs.Recorded.{IsIndexed}
-use Rattle.at_cache.specs.Standings.{held, is_shown, kept_held, shape, shown, standing_of}
+use Rattle.at_cache.specs.Standings.{alive, held, is_shown, kept_held, shape, shown, standing_of}
 use Rattle.at_cache.proofs.Entered.{kept_mid, stale_indexed}
+use Rattle.at_cache.proofs.of_cut.Alive.{alive_on, by_holding}
 use Rattle.at_cache.proofs.of_cut.Flushed.{shown_held, shown_is}
 use Rattle.at_cache.proofs.of_cut.Passing.{not_seen, not_shown, seen_is}
 use Rattle.at_cache.proofs.Showing.{same_of}
@@ -36,17 +37,17 @@ module _ (ss : List Standing) where
       by None none = absurd (none_in y (subst (λ (es : List Edge). Contains es y) (ap (λ (o : Option Info). elim o as (λ _. List Edge) [ None ↦ [] | Some e ↦ e.users ]) none) c))
       by (Some e) there = (e, there)
 
-  module _ {m : Memory} {x : Edge} where
-    pub reads_held : {reads : List (Location ℕ)} {lists later : Location ℕ → List Edge} → Reads m x reads lists later → Reads (held ss m) x reads lists later
+  module _ (m : Memory) {x : Edge} where
+    pub reads_held : {reads : List (Location ℕ)} {lists later : Location ℕ → List Edge} → Reads (alive ss m) x reads lists later → Reads (held ss m) x reads lists later
     reads_held r = record {
       keeps = λ l y c e there same.
           let (f, found, on, is) = seen_is pass.Values (standing_of ss y.slot) (m y.slot) e there in
-          r.keeps l y c f found (sym (ap (λ (z : Info). z.stamp) is) ∙ same);
+          r.keeps l y c f (alive_on ss m y.slot f found (by_holding (standing_of ss y.slot) on)) (sym (ap (λ (z : Info). z.stamp) is) ∙ same);
       only = r.only;
     }
 
   module _ {m n : Memory} {x : Edge} where
-    pub uses_held : {slots : List ℕ} → Uses x slots m n → Uses x slots (held ss m) (held ss n)
+    pub uses_held : {slots : List ℕ} → Uses (alive ss m) x slots m n → Uses (held ss m) x slots (held ss m) (held ss n)
     uses_held {slots} u = record {
       there = λ k e h. let (f, found, on, is) = seen_is pass.Values (standing_of ss k) (m k) e h in come k e f found on is;
       free = λ k none. free k none (m k) refl;
@@ -56,7 +57,9 @@ module _ (ss : List Standing) where
             let (f, found, on, is) = seen_is pass.Values (standing_of ss y.slot) (m y.slot) e there in
             let (g, g_found, g_on, g_is) = seen_is pass.Values (standing_of ss l) (m l) p p_there in
             let (q, q_there, alike) = come l p g g_found g_on g_is in
-            subst (λ (es : List Edge). Contains es y) (sym (held_users n l q q_there)) (u.users.keeps l y (subst (λ (es : List Edge). Contains es y) (held_users m l p p_there) c) f found (sym (ap (λ (z : Info). z.stamp) is) ∙ same));
+            subst (λ (es : List Edge). Contains es y) (sym (held_users n l q q_there)) (u.users.keeps l y
+            (subst (λ (es : List Edge). Contains es y) (held_users m l p p_there) c) f (alive_on ss m y.slot f found (by_holding (standing_of ss y.slot) on))
+            (sym (ap (λ (z : Info). z.stamp) is) ∙ same));
         only = λ l y c.
             let (q, q_there) = has_users n l y c in
             elim (u.users.only l y (subst (λ (es : List Edge). Contains es y) (held_users n l q q_there) c)) [
@@ -85,9 +88,10 @@ module _ (ss : List Standing) where
 
 -- Where the entry doesn't come all is kept as it was.
 module _ (ss : List Standing) (old mid : Table) (lists later : Location ℕ → List Edge) (puts : ℕ) (x : Edge) (reads : List (Location ℕ)) (links : List ℕ)
-    (i : IsIndexed lists puts (held ss (memory_of old))) (stamp : x.stamp ≡ puts) (r : Reads (memory_of old) x reads lists later) (u : Uses x links (memory_of old) (memory_of mid)) where
+    (i : IsIndexed lists puts (held ss (memory_of old))) (stamp : x.stamp ≡ puts) (r : Reads (alive ss (memory_of old)) x reads lists later)
+    (u : Uses (alive ss (memory_of old)) x links (memory_of old) (memory_of mid)) where
   pub stale_held : IsIndexed later (puts + 1) (held ss (memory_of mid))
-  stale_held = tested (stale_indexed later (indexed_by i) stamp (reads_held ss r) (uses_held ss u))
+  stale_held = tested (stale_indexed later (indexed_by i) stamp (reads_held ss (memory_of old) r) (uses_held ss u))
 
   pub kept_still : KeepsAll (kept_held lists old ss puts) (kept_held later mid ss (puts + 1))
-  kept_still = same_of (shown_held lists old ss puts) (shown_held later mid ss (puts + 1)) (λ s. kept_mid later (indexed_by i) stamp (reads_held ss r) (uses_held ss u) s)
+  kept_still = same_of (shown_held lists old ss puts) (shown_held later mid ss (puts + 1)) (λ s. kept_mid later (indexed_by i) stamp (reads_held ss (memory_of old) r) (uses_held ss u) s)

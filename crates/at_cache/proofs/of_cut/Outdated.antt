@@ -18,7 +18,7 @@ use Rattle.at_cache.specs.Kept.{KeepsAll}
 use Rattle.at_cache.specs.Recorded.{IsIndexed, edge_to, is_listed}
 use Rattle.at_cache.specs.Renewing.{IsAwaited, IsSlotFor, StaysAwaited}
 use Rattle.at_cache.specs.Slots.{outdated}
-use Rattle.at_cache.specs.Standings.{IsTaken, IsTied, but_for, held, instances_in, is_tied, kept_held, last_of, remembered, shown, standing_of, trace_of}
+use Rattle.at_cache.specs.Standings.{IsTaken, IsTied, but_for, held, instances_in, is_alive, is_tied, kept_held, last_of, remembered, shown, standing_of, trace_of}
 use Rattle.at_cache.specs.Traced.{KeepsTrace, Memories, PutsTrace, StayTraced, Trace}
 use Rattle.at_cache.proofs.Index.{kept_at}
 use Rattle.at_cache.proofs.of_cut.Again.{held_off, tied_there}
@@ -195,7 +195,11 @@ module _ (lists : Location ℕ → List Edge) (told tnew : Table) (st ts : List 
   tied_test s f p g now listed = ap (λ (o : Option Info). elim o as (λ _. Bool)
       [ None ↦ false | Some n ↦ is_listed (edge_to s f) n.users ]) now ∙ listed
 
-  tied : IsTied lists (puts + 1) (memory_of tnew)
+  -- what edges tell of they told of before
+  live : (k : ℕ) → (k ≡ slot → ⊥) → is_alive (standing_of ts k) ≡ true → is_alive (standing_of st k) ≡ true
+  live k differs on = ap is_alive (sym (stands k differs)) ∙ on
+
+  tied : IsTied lists (puts + 1) ts (memory_of tnew)
   tied = record {
     idle = λ k f now. elim (came k f now) [
       | inl (same, is) ↦ ap (λ (n : Info). n.going) (sym is) ∙ a.tied.idle slot e there
@@ -205,10 +209,10 @@ module _ (lists : Location ℕ → List Edge) (told tnew : Table) (st ts : List 
       | inl (same, is) ↦ let same_stamp = ap (λ (n : Info). n.stamp) is in omega (arith, same_stamp)
       | inr (differs, had) ↦ let less = a.tied.known k f had in omega (arith, less)
     ];
-    used = λ k f now p h. elim (came k f now) [
+    used = λ k f now on p h. elim (came k f now) [
       | inl (same, is) ↦ absurd (unlinked p (ap (λ (n : Info). list_any (nat_eq p) n.links) is ∙ h))
       | inr (differs, had) ↦
-          let (g, at_p, listed) = tied_there (memory_of told) k f p (a.tied.used k f had p h) in
+          let (g, at_p, listed) = tied_there (memory_of told) k f p (a.tied.used k f had (live k differs on) p h) in
           let (n, now_p, users) = users_now p g at_p in
           tied_test k f p n now_p (ap (is_listed (edge_to k f)) users ∙ listed)
     ];

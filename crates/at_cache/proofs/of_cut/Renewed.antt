@@ -9,8 +9,9 @@ use Rattle.at_cache.specs.declared.standing.Standing.{Standing}
 use Rattle.at_cache.specs.Info.{Info, Memory}
 use Rattle.at_cache.specs.Putting.{AreListed, Reads, Uses, users_at, with_users}
 use Rattle.at_cache.specs.Recorded.{IsIndexed, edge_to, is_listed, is_used}
-use Rattle.at_cache.specs.Standings.{IsTied, held, is_tied, standing_of}
+use Rattle.at_cache.specs.Standings.{IsTied, alive, held, is_alive, is_tied, standing_of}
 use Rattle.at_cache.proofs.of_cut.Again.{held_as, held_from, held_on, is_among, there_used, tied_there, used_there}
+use Rattle.at_cache.proofs.of_cut.Alive.{alive_on, by_holding}
 use Rattle.at_cache.proofs.Ending.{has, is_in, some_of}
 use Rattle.at_cache.proofs.Listing.{users_of}
 use Rattle.at_cache.proofs.Taking.{none_in}
@@ -19,9 +20,9 @@ use Rattle.at_cache.proofs.Taking.{none_in}
 pub among_is : (ps : List ℕ) (p : ℕ) → list_any (nat_eq p) ps ≡ true → Contains ps p
 among_is ps p h = let (q, c, is) = some_of (nat_eq p) ps h in subst (Contains ps) (sym (eqb-true p q is)) c
 
--- what is kept is found from all that is in memory, where each that one used is kept, and since earlier
+-- what is kept is found where each that one used is kept, and since earlier
 module _ (lists : Location ℕ → List Edge) (puts : ℕ) (m : Memory) (st : List Standing) where
-  pub held_indexed : IsTied lists puts m
+  pub held_indexed : IsTied lists puts st m
       → ((k : ℕ) (e : Info) → m k ≡ Some e → (standing_of st k).holds ≡ true → (standing_of st k).since < puts)
       → ((k : ℕ) (e : Info) → m k ≡ Some e → (standing_of st k).holds ≡ true → (p : ℕ)
       → list_any (nat_eq p) e.links ≡ true
@@ -43,7 +44,7 @@ module _ (lists : Location ℕ → List Edge) (puts : ℕ) (m : Memory) (st : Li
     used = λ k f is p h.
         let (g, in_k, on, same) = held_from st m k f is in
         let link : list_any (nat_eq p) g.links ≡ true = ap (λ (x : Info). list_any (nat_eq p) x.links) same ∙ h in
-        let (a, in_p, listed) = tied_there m k g p (tied.used k g in_k p link) in
+        let (a, in_p, listed) = tied_there m k g p (tied.used k g in_k (by_holding (standing_of st k) on) p link) in
         let (holds, before) = links k g in_k on p link in
         subst (λ (x : Info). is_used (held st m) k x p ≡ true) same
         (there_used (held st m) k (held_as st k g) p (held_as st p a) (held_on st m p a in_p holds) before listed);
@@ -75,9 +76,10 @@ module _ (lists : Location ℕ → List Edge) (puts : ℕ) (m : Memory) (st : Li
   held_since indexed k e in_k on = indexed.ordered k (held_as st k e) (held_on st m k e in_k on)
 
 -- edges of an entry that isn't there yet
-module _ {lists : Location ℕ → List Edge} {puts : ℕ} {m mid : Memory} {x : Edge} {reads : List (Location ℕ)}
+module _ {lists : Location ℕ → List Edge} {puts : ℕ} {st : List Standing} {m mid : Memory} {x : Edge} {reads : List (Location ℕ)}
     {uses : List ℕ} (later : Location ℕ → List Edge)
-    (tied : IsTied lists puts m) (stamp : x.stamp ≡ puts) (r : Reads m x reads lists later) (u : Uses x uses m mid)
+    (tied : IsTied lists puts st m) (stamp : x.stamp ≡ puts) (r : Reads (alive st m) x reads lists later)
+    (u : Uses (alive st m) x uses m mid)
   where
     back : (k : ℕ) (f : Info) → mid k ≡ Some f → (e : Info) × (m k ≡ Some e) × (f ≡ with_users f.users e)
     back k f found = by (m k) refl
@@ -94,7 +96,9 @@ module _ {lists : Location ℕ → List Edge} {puts : ℕ} {m mid : Memory} {x :
         (its_links : e.links ≡ uses)
         (its_users : e.users ≡ users_at mid slot) (idle : e.going ≡ false) (here : new slot ≡ Some e)
         (others : (k : ℕ) → (k ≡ slot → ⊥) → new k ≡ mid k)
-        (listed : AreListed x uses (users_at mid)) where
+        (listed : AreListed x uses (users_at mid))
+        (ts : List Standing) (fewer : (k : ℕ) (g : Info) → m k ≡ Some g → (k ≡ slot → ⊥) → is_alive (standing_of ts k) ≡ true
+        → is_alive (standing_of st k) ≡ true) where
       is_e : (k : ℕ) (f : Info) → new k ≡ Some f → k ≡ slot → e ≡ f
       is_e k f found same = same_Some e f (sym here ∙ ap new (sym same) ∙ found)
 
@@ -146,7 +150,7 @@ module _ {lists : Location ℕ → List Edge} {puts : ℕ} {m mid : Memory} {x :
           by (Some f) is = tied.uses p f is y (has f.users y (subst (λ es. Contains es y) (users_of m p f is) c))
               g at_y same
 
-      pub renewed_tied : IsTied later (puts + 1) new
+      pub renewed_tied : IsTied later (puts + 1) ts new
       renewed_tied = record {
         idle = λ k f found. elim (cases_eq k slot) [
           | inl same ↦ ap (λ (n : Info). n.going) (sym (is_e k f found same)) ∙ idle
@@ -161,7 +165,7 @@ module _ {lists : Location ℕ → List Edge} {puts : ℕ} {m mid : Memory} {x :
               let a = ap (λ (n : Info). n.stamp) is in
               omega (arith, less, a)
         ];
-        used = λ k f found p h. elim (cases_eq k slot) [
+        used = λ k f found on p h. elim (cases_eq k slot) [
           | inl same ↦
               let is = is_e k f found same in
               let c = among_is uses p (ap (λ ls. list_any (nat_eq p) ls) (sym its_links)
@@ -174,10 +178,11 @@ module _ {lists : Location ℕ → List Edge} {puts : ℕ} {m mid : Memory} {x :
               tied_by k p f (subst (Contains (users_at mid p)) it (listed p c))
           | inr differs ↦
               let (g, there, is) = was k f found differs in
-              let (a, in_p, edge) = tied_there m k g p (tied.used k g there p
+              let live = fewer k g there differs on in
+              let (a, in_p, edge) = tied_there m k g p (tied.used k g there live p
               (ap (λ (n : Info). list_any (nat_eq p) n.links) (sym is) ∙ h)) in
               let c = u.users.keeps p (edge_to k g) (subst (λ es. Contains es (edge_to k g)) (sym (users_of m p a in_p))
-              (is_in a.users (edge_to k g) edge)) g there refl in
+              (is_in a.users (edge_to k g) edge)) g (alive_on st m k g there live) refl in
               let it : edge_to k g ≡ edge_to k f = λ n. record {
                 slot = k;
                 stamp = (ap (λ (i : Info). i.stamp) (sym is))

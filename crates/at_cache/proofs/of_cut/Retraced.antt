@@ -18,9 +18,10 @@ use Rattle.at_cache.specs.declared.table.Table.{Table}
 use Rattle.at_cache.specs.Info.{Info, Memory, memory_of}
 use Rattle.at_cache.specs.Putting.{AreListed, Reads, with_users}
 use Rattle.at_cache.specs.Recorded.{IsIndexed, edge_to, is_listed}
-use Rattle.at_cache.specs.Standings.{IsTied, held, instances_in, last_of, remembered, standing_of, trace_at, trace_of}
+use Rattle.at_cache.specs.Standings.{IsTied, alive, held, instances_in, is_alive, last_of, remembered, standing_of, trace_at, trace_of}
 use Rattle.at_cache.specs.Traced.{IsStill, IsTraceOf, PutsTrace, StayTraced, Trace}
 use Rattle.at_cache.proofs.of_cut.Again.{tied_there}
+use Rattle.at_cache.proofs.of_cut.Alive.{alive_on, by_trace}
 use Rattle.at_cache.proofs.of_cut.Comes.{Comes, agree, listed_it, listed_same}
 use Rattle.at_cache.proofs.Ending.{has, is_in, on_right}
 use Rattle.at_cache.proofs.of_cut.HeldSlots.{entry_in, slot_of}
@@ -96,9 +97,9 @@ slot_among m (q ∷ qs) u c = elim (Contains-append_cases (names (m q)) (instanc
 
 module _ {lists : Location ℕ → List Edge} (later : Location ℕ → List Edge) (told tnew : Table) {st ts : List Standing}
     {puts slot : ℕ} {e : Info}
-    (c : Comes (memory_of told) (memory_of tnew) st ts puts slot e) (tied : IsTied lists puts (memory_of told))
+    (c : Comes (memory_of told) (memory_of tnew) st ts puts slot e) (tied : IsTied lists puts st (memory_of told))
     (indexed : IsIndexed lists puts (held st (memory_of told)))
-    {reads : List (Location ℕ)} (r : Reads (memory_of told) (edge_to slot e) reads lists later)
+    {reads : List (Location ℕ)} (r : Reads (alive st (memory_of told)) (edge_to slot e) reads lists later)
     (listed : AreListed (edge_to slot e) reads later)
     (one : (g : Info) → memory_of told slot ≡ Some g → g.instance ≡ e.instance)
     (fewer : (k : ℕ) (g : Info) → memory_of told k ≡ Some g → (k ≡ slot → ⊥) → (standing_of ts k).traced ≡ true
@@ -151,16 +152,17 @@ module _ {lists : Location ℕ → List Edge} (later : Location ℕ → List Edg
       let (g, had, is) = c.was k f now differs in
       let (v, on, value, it) = trace_is later tnew ts k f now trace traced in
       let before = fewer k g had differs on in
+      let live = by_trace (standing_of st k) before in
       let links : (p : ℕ) → list_any (nat_eq p) g.links ≡ true → (a : Info)
       × (memory_of told p ≡ Some a) = λ p h. let (a, in_p, edge) = tied_there (memory_of told) k g p
-      (tied.used k g had p h) in (a, in_p) in
+      (tied.used k g had live p h) in (a, in_p) in
       let valued : g.value ≡ Some v = ap (λ (n : Info). n.value) (sym is) ∙ value in
       let uses : instances_in (memory_of tnew) f.links ≡ instances_in (memory_of told) g.links = ap
       (λ (n : Info). instances_in (memory_of tnew) n.links) is ∙ instances_same g.links links in
       let same : trace_of lists (memory_of told) k g v ≡ trace = (λ n. let made : Trace = record {
         value = v;
         reads = λ l. (sym (ap (λ (n : Info). is_listed (edge_to k n) (later l)) is
-            ∙ listed_same c tied indexed later r listed k g had l)) n;
+            ∙ listed_same c tied indexed later r listed k g had live l)) n;
         uses = sym uses n;
       } in made) ∙ it in
       let its : g.instance ≡ f.instance = ap (λ (n : Info). n.instance) (sym is) in
@@ -211,17 +213,18 @@ module _ {lists : Location ℕ → List Edge} (later : Location ℕ → List Edg
 
 -- where no entry comes, but edges of it
 module _ (lists later : Location ℕ → List Edge) (told tmid : Table) (st ts : List Standing) {puts : ℕ} {x : Edge}
-    {reads : List (Location ℕ)} (tied : IsTied lists puts (memory_of told)) (stamp : x.stamp ≡ puts)
-    (r : Reads (memory_of told) x reads lists later)
+    {reads : List (Location ℕ)} (tied : IsTied lists puts st (memory_of told)) (stamp : x.stamp ≡ puts)
+    (r : Reads (alive st (memory_of told)) x reads lists later)
     (stays : (k : ℕ) (g : Info) → memory_of told k ≡ Some g
     → (f : Info) × (memory_of tmid k ≡ Some f) × (f ≡ with_users f.users g))
     (was : (k : ℕ) (f : Info) → memory_of tmid k ≡ Some f
     → (g : Info) × (memory_of told k ≡ Some g) × (f ≡ with_users f.users g))
     (same : (k : ℕ) → (standing_of ts k).traced ≡ (standing_of st k).traced) where
-  still_listed : (k : ℕ) (g : Info) → memory_of told k ≡ Some g → (l : Location ℕ)
+  still_listed : (k : ℕ) (g : Info) → memory_of told k ≡ Some g → is_alive (standing_of st k) ≡ true → (l : Location ℕ)
       → is_listed (edge_to k g) (later l) ≡ is_listed (edge_to k g) (lists l)
-  still_listed k g had l = agree _ _ (λ h. has (lists l) (edge_to k g) (was_in (is_in (later l) (edge_to k g) h)))
-      (λ h. has (later l) (edge_to k g) (r.keeps l (edge_to k g) (is_in (lists l) (edge_to k g) h) g had refl))
+  still_listed k g had live l = agree _ _ (λ h. has (lists l) (edge_to k g) (was_in (is_in (later l) (edge_to k g) h)))
+      (λ h. has (later l) (edge_to k g) (r.keeps l (edge_to k g) (is_in (lists l) (edge_to k g) h) g
+      (alive_on st (memory_of told) k g had live) refl))
     where
       was_in : Contains (later l) (edge_to k g) → Contains (lists l) (edge_to k g)
       was_in d = elim (r.only l (edge_to k g) d) [
@@ -257,14 +260,15 @@ module _ (lists later : Location ℕ → List Edge) (told tmid : Table) (st ts :
       let (k, f, now, named) = traced_in later tmid ts j trace traced in
       let (g, had, is) = was k f now in
       let (v, on, value, it) = trace_is later tmid ts k f now trace (ap (remembered later tmid ts).traced named ∙ traced) in
+      let live = by_trace (standing_of st k) (sym (same k) ∙ on) in
       let links : (p : ℕ) → list_any (nat_eq p) g.links ≡ true → (a : Info) × (memory_of told p ≡ Some a)
-      = λ p h. let (a, in_p, edge) = tied_there (memory_of told) k g p (tied.used k g had p h) in (a, in_p) in
+      = λ p h. let (a, in_p, edge) = tied_there (memory_of told) k g p (tied.used k g had live p h) in (a, in_p) in
       let valued : g.value ≡ Some v = ap (λ (n : Info). n.value) (sym is) ∙ value in
       let uses : instances_in (memory_of tmid) f.links ≡ instances_in (memory_of told) g.links
       = ap (λ (n : Info). instances_in (memory_of tmid) n.links) is ∙ still_named g.links links in
       let alike : trace_of lists (memory_of told) k g v ≡ trace = (λ n. let made : Trace = record {
         value = v;
-        reads = λ l. (sym (ap (λ (n : Info). is_listed (edge_to k n) (later l)) is ∙ still_listed k g had l)) n;
+        reads = λ l. (sym (ap (λ (n : Info). is_listed (edge_to k n) (later l)) is ∙ still_listed k g had live l)) n;
         uses = sym uses n;
       } in made) ∙ it in
       let its : g.instance ≡ j = ap (λ (n : Info). n.instance) (sym is) ∙ named in

@@ -20,6 +20,7 @@ use Rattle.at_cache.proofs.Ending.{on_right}
 use Rattle.at_cache.proofs.Index.{kept_at}
 use Rattle.at_cache.proofs.Showing.{same_of}
 use Rattle.at_cache.proofs.of_cut.Again.{held_as, held_from, held_off, held_on, tied_there, used_there}
+use Rattle.at_cache.proofs.of_cut.Alive.{by_holding}
 use Rattle.at_cache.proofs.of_cut.Flushed.{shown_held}
 use Rattle.at_cache.proofs.of_cut.Retraced.{last_slot, names, slot_among, trace_is, traced_in, traced_slot}
 use Rattle.at_cache.proofs.of_cut.Seeing.{past_nothing}
@@ -92,11 +93,11 @@ module _ (lists : Location ℕ → List Edge) (st : List Standing) (m : Memory) 
   tied_by : (s : ℕ) (e : Info) (p : ℕ) (g : Info) → m p ≡ Some g → is_listed (edge_to s e) g.users ≡ true → is_tied m s e p ≡ true
   tied_by s e p g there listed = ap (λ (o : Option Info). elim o as (λ _. Bool) [ None ↦ false | Some f ↦ is_listed (edge_to s e) f.users ]) there ∙ listed
 
-  pub tied_held : IsTied lists puts m
+  pub tied_held : IsTied lists puts st m
   tied_held = record {
     idle = λ s e there. i.idle s (held_as st s e) (here s e there);
     known = λ s e there. i.known s (held_as st s e) (here s e there);
-    used = λ s e there p h.
+    used = λ s e there live p h.
         let (f, found, less, listed) = used_there (held st m) s (held_as st s e) p (i.used s (held_as st s e) (here s e there) p h) in
         let (g, in_p, holds, is) = held_from st m p f found in
         tied_by s e p g in_p (ap (λ (x : Info). is_listed (edge_to s e) x.users) is ∙ listed);
@@ -127,7 +128,7 @@ module _ (lists : Location ℕ → List Edge) (t u : Table) (st : List Standing)
     pub indexed_shed : IsIndexed lists puts (held st (memory_of u))
     indexed_shed = subst (IsIndexed lists puts) (sym all_held) i
 
-    pub tied_shed : IsTied lists puts (memory_of u)
+    pub tied_shed : IsTied lists puts st (memory_of u)
     tied_shed = tied_held lists st (memory_of u) puts s.only indexed_shed
 
     instances_same : (ps : List ℕ) → ((p : ℕ) → list_any (nat_eq p) ps ≡ true → (standing_of st p).holds ≡ true)
@@ -146,7 +147,10 @@ module _ (lists : Location ℕ → List Edge) (t u : Table) (st : List Standing)
         let (v, on, value, it) = trace_is lists u st k f there trace (ap (remembered lists u st).traced named ∙ traced) in
         let was = sym (s.stays k (s.only k f there)) ∙ there in
         let holds : (p : ℕ) → list_any (nat_eq p) f.links ≡ true → (standing_of st p).holds ≡ true
-        = λ p h. let (g, in_p, edge) = tied_there (memory_of u) k f p (tied_shed.used k f there p h) in s.only p g in_p in
+        = λ p h.
+        let live = by_holding (standing_of st k) (s.only k f there) in
+        let (g, in_p, edge) = tied_there (memory_of u) k f p (tied_shed.used k f there live p h) in
+        s.only p g in_p in
         let same : trace_of lists (memory_of t) k f v ≡ trace
         = ap (λ us. let x : Trace = record { value = v; reads = λ l. is_listed (edge_to k f) (lists l); uses = us } in x) (instances_same f.links holds) ∙ it in
         record {

@@ -2,15 +2,15 @@ use Rattle.std.proofs.Common.{◌≤◌, ◌⊎◌, ◌^◌, ℕ, Contains, leng
 use Rattle.at_model.specs.Run.{Location}
 use Rattle.at_store.specs.Located.{loc_view}
 use Rattle.at_cache.specs.Asking.{AreNoted}
-use Rattle.at_cache.specs.Info.{memory_of}
 use Rattle.at_cache.specs.Readers.{edges_at}
 use Rattle.at_cache.specs.Putting.{Reads}
 use Rattle.at_cache.specs.Runs.{Stays}
+use Rattle.at_cache.specs.Standings.{alive_in}
 use Rattle.at_cache.proofs.linking.add_each.Given as goal
 
 abbrev pub invariant-loop-location : goal.invariant-loop-location
 invariant-loop-location l = record {
-  reads : Reads (memory_of l.entries) l.edge (map loc_view l.locations) (edges_at l.initial.readers.items)
+  reads : Reads (alive_in l.cut) l.edge (map loc_view l.locations) (edges_at l.initial.readers.items)
       (edges_at l.readers.items);
   noted : AreNoted (edges_at l.initial.readers.items) l.initial.index_read.items → AreNoted (edges_at l.readers.items) l.index_read.items;
   stay : Stays l.edge (edges_at l.initial.readers.items) (edges_at l.readers.items);

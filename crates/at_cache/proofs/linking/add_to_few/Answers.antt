@@ -1,14 +1,14 @@
 use Rattle.std.proofs.Common.{sym, subst, Contains}
 use Rattle.std.proofs.lemmas.List.Elements.{Contains-push}
 use Rattle.at_cache.specs.Edges.{edges_in}
-use Rattle.at_cache.specs.Info.{memory_of}
 use Rattle.at_cache.specs.Putting.{Lists}
+use Rattle.at_cache.specs.Standings.{alive_in}
 use Rattle.at_cache.proofs.Listing.{listed_one}
 use Rattle.at_cache.proofs.linking.add_to_few.Goals as goal
 
 pub returns-in_ok-edges-clause-lists : goal.returns-in_ok-edges-clause-lists
 returns-in_ok-edges-clause-lists c =
-    subst (λ es. Lists (memory_of c.args.entries.now) c.args.edge es (edges_in c.in_ok-edges.field-0))
+    subst (λ es. Lists (alive_in c.args.cut.now) c.args.edge es (edges_in c.in_ok-edges.field-0))
     (sym c.requires.row) (listed_one c.trimmed.ensures c.in_ok-edges.ensures)
 
 pub returns-in_ok-edges-clause-has : goal.returns-in_ok-edges-clause-has

@@ -1,7 +1,9 @@
 use Rattle.std.proofs.Common.{◌∙◌, sym}
 use Rattle.at_cache.specs.Edges.{edges_in}
-use Rattle.at_cache.proofs.Listing.{listed_one, lists_reused, reused_twice, still_there}
+use Rattle.at_cache.specs.Info.{memory_of}
+use Rattle.at_cache.proofs.Listing.{listed_one, lists_moved, reused_twice, still_there}
 use Rattle.at_cache.proofs.OneEdge.{alone_has, lists_alone}
+use Rattle.at_cache.proofs.of_cut.Alive.{told_reused}
 use Rattle.at_cache.proofs.linking.add_user.Goals as goal
 
 pub returns-then-is_empty-clause-lists : goal.returns-then-is_empty-clause-lists
@@ -18,7 +20,8 @@ returns-then-are_outdated-clause-lists c =
     let x = c.exchange_users-users.ensures in (
       edges_in c.of.result,
       x.written,
-      lists_reused _ _ _ _ x.written x.was (listed_one (c.are_outdated.ensures c.if-are_outdated.true) c.of.ensures),
+      lists_moved (told_reused c.args.cut.now.standings.items _ _ (memory_of c.args.cut.now.entries) _ x.written) x.was
+          (listed_one (c.are_outdated.ensures c.if-are_outdated.true) c.of.ensures),
       alone_has _ _ c.of.ensures,
     )
 
@@ -27,7 +30,8 @@ returns-clause-lists c =
     let x = c.exchange_users-users.ensures in (
       edges_in c.add_edge-result.new.edges,
       λ k. c.exchange_users.ensures.written k ∙ reused_twice _ _ _ _ _ x.written k,
-      lists_reused _ _ _ _ x.written (x.was) c.add_edge-result.ensures.lists,
+      lists_moved (told_reused c.args.cut.now.standings.items _ _ (memory_of c.args.cut.now.entries) _ x.written) x.was
+          c.add_edge-result.ensures.lists,
       c.add_edge-result.ensures.has,
     )
 

@@ -4,25 +4,43 @@ use Rattle.std.proofs.lemmas.List.{take_more}
 use Rattle.std.proofs.lemmas.List.Elements.{Contains-get_or}
 use Rattle.at_cache.specs.Info.{memory_of}
 use Rattle.at_cache.specs.Putting.{AreListed, Uses, users_at}
+use Rattle.at_cache.specs.Standings.{alive_in}
 use Rattle.at_cache.proofs.Listing.{uses_none, uses_more, uses_all, users_here, users_other, listed_more, still_kept}
+use Rattle.at_cache.proofs.of_cut.Alive.{told_uses}
 use Rattle.at_cache.proofs.linking.add_users.Goals as goal
 
 pub loop-slot-init : goal.loop-slot-init
-loop-slot-init c = record { uses = uses_none _ _; listed = λ l d. absurd (omega (arith, d.1)); key = refl; absent = λ i h. h }
+loop-slot-init c = record {
+  uses = uses_none _ _ _;
+  listed = λ l d. absurd (omega (arith, d.1));
+  standings = refl;
+  key = refl;
+  absent = λ i h. h;
+}
 
 pub add_user-requires : goal.add_user-requires
-add_user-requires c = record { there = still_kept c.loop-slot.invariant.uses _ (c.requires.there _ (Contains-get_or c.args.slots.now c.loop-slot.slot-index 0 c.loop-slot-test.true)) }
+add_user-requires c = record {
+  there = still_kept c.loop-slot.invariant.uses _
+      (c.requires.there _ (Contains-get_or c.args.slots.now c.loop-slot.slot-index 0 c.loop-slot-test.true));
+}
 
 pub loop-slot-preserved : goal.loop-slot-preserved
 loop-slot-preserved c =
     let l = c.loop-slot in
+    let was = c.args.cut.now in
     let on = sym (take_more c.args.slots.now l.slot-index 0 c.loop-slot-test.true) in
     let some = still_kept l.invariant.uses _ (c.requires.there _ (Contains-get_or c.args.slots.now l.slot-index 0 c.loop-slot-test.true)) in
+    let told = told_uses was.standings.items l.cut.standings.items (memory_of was.entries) (memory_of l.cut.entries) l.invariant.standings
+    l.invariant.uses in
     let (users, written, lists, has) = c.add_user.ensures.lists in
-    let new = memory_of c.add_user.new.entries in
+    let new = memory_of c.add_user.new.cut.entries in
     record {
-      uses = subst (λ ss. Uses c.args.edge ss (memory_of c.args.entries.now) new) on (uses_more _ l.invariant.uses users some written lists);
-      listed = subst (λ ss. AreListed c.args.edge ss (users_at new)) on (listed_more cases_eq _ _ l.invariant.listed (subst (λ es. Contains es c.args.edge) (sym (users_here _ l.invariant.uses users some written lists)) (rw c.in_ok-add_user.was at has)) (users_other _ l.invariant.uses users some written lists));
+      uses = subst (λ ss. Uses (alive_in was) c.args.edge ss (memory_of was.entries) new) on
+          (uses_more _ told l.invariant.uses users some written lists);
+      listed = subst (λ ss. AreListed c.args.edge ss (users_at new)) on (listed_more cases_eq _ _ l.invariant.listed
+          (subst (λ es. Contains es c.args.edge) (sym (users_here _ told l.invariant.uses users some written lists)) (rw c.in_ok-add_user.was at has))
+          (users_other _ told l.invariant.uses users some written lists));
+      standings = c.add_user.ensures.standings ∙ l.invariant.standings;
       key = c.add_user.ensures.key ∙ l.invariant.key;
       absent = λ i h. c.add_user.ensures.absent i (l.invariant.absent i h);
     }
@@ -30,17 +48,28 @@ loop-slot-preserved c =
 pub returns-in_err-add_user-clause-uses : goal.returns-in_err-add_user-clause-uses
 returns-in_err-add_user-clause-uses c =
     let l = c.loop-slot in
+    let was = c.args.cut.now in
     let on = sym (take_more c.args.slots.now l.slot-index 0 c.loop-slot-test.true) in
     let some = still_kept l.invariant.uses _ (c.requires.there _ (Contains-get_or c.args.slots.now l.slot-index 0 c.loop-slot-test.true)) in
+    let told = told_uses was.standings.items l.cut.standings.items (memory_of was.entries) (memory_of l.cut.entries) l.invariant.standings
+    l.invariant.uses in
     let (users, written, lists, has) = c.add_user.ensures.lists in
-    let new = memory_of c.add_user.new.entries in
-    uses_all (l.slot-index + 1) _ (subst (λ ss. Uses c.args.edge ss (memory_of c.args.entries.now) new) on (uses_more _ l.invariant.uses users some written lists))
+    uses_all (l.slot-index + 1) _ (subst (λ ss. Uses (alive_in was) c.args.edge ss (memory_of was.entries) (memory_of c.add_user.new.cut.entries)) on
+    (uses_more _ told l.invariant.uses users some written lists))
 
 pub returns-clause-uses : goal.returns-clause-uses
-returns-clause-uses c = subst (λ ss. Uses c.args.edge ss (memory_of c.args.entries.now) (memory_of c.loop-slot.entries)) (take_all c.loop-slot.slot-index c.args.slots.now c.loop-slot-test.false) c.loop-slot.invariant.uses
+returns-clause-uses c = subst (λ ss. Uses (alive_in c.args.cut.now) c.args.edge ss (memory_of c.args.cut.now.entries) (memory_of c.loop-slot.cut.entries))
+    (take_all c.loop-slot.slot-index c.args.slots.now c.loop-slot-test.false) c.loop-slot.invariant.uses
 
 pub returns-clause-listed : goal.returns-clause-listed
-returns-clause-listed c = subst (λ ss. AreListed c.args.edge ss (users_at (memory_of c.loop-slot.entries))) (take_all c.loop-slot.slot-index c.args.slots.now c.loop-slot-test.false) c.loop-slot.invariant.listed
+returns-clause-listed c = subst (λ ss. AreListed c.args.edge ss (users_at (memory_of c.loop-slot.cut.entries)))
+    (take_all c.loop-slot.slot-index c.args.slots.now c.loop-slot-test.false) c.loop-slot.invariant.listed
+
+pub returns-in_err-add_user-clause-standings : goal.returns-in_err-add_user-clause-standings
+returns-in_err-add_user-clause-standings c = c.add_user.ensures.standings ∙ c.loop-slot.invariant.standings
+
+pub returns-clause-standings : goal.returns-clause-standings
+returns-clause-standings c = c.loop-slot.invariant.standings
 
 pub returns-in_err-add_user-clause-absent : goal.returns-in_err-add_user-clause-absent
 returns-in_err-add_user-clause-absent c i h = c.add_user.ensures.absent i (c.loop-slot.invariant.absent i h)

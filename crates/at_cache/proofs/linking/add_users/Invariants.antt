@@ -4,12 +4,15 @@ use Rattle.at_model.specs.Run.{Instance}
 use Rattle.at_body.specs.Same.{same_instance}
 use Rattle.at_cache.specs.Info.{memory_of}
 use Rattle.at_cache.specs.Putting.{AreListed, Uses, users_at}
+use Rattle.at_cache.specs.Standings.{alive_in}
 use Rattle.at_cache.proofs.linking.add_users.Given as goal
 
 abbrev pub invariant-loop-slot : goal.invariant-loop-slot
 invariant-loop-slot l = record {
-  uses : Uses l.edge (take l.slot-index l.slots) (memory_of l.initial.entries) (memory_of l.entries);
-  listed : AreListed l.edge (take l.slot-index l.slots) (users_at (memory_of l.entries));
-  key : l.entries.places.vacant_key ≡ l.initial.entries.places.vacant_key;
-  absent : (i : Instance ℕ) → lookup (same_instance i) l.initial.entries.entries.entries ≡ None → lookup (same_instance i) l.entries.entries.entries ≡ None;
+  uses : Uses (alive_in l.initial.cut) l.edge (take l.slot-index l.slots) (memory_of l.initial.cut.entries) (memory_of l.cut.entries);
+  listed : AreListed l.edge (take l.slot-index l.slots) (users_at (memory_of l.cut.entries));
+  standings : l.cut.standings.items ≡ l.initial.cut.standings.items;
+  key : l.cut.entries.places.vacant_key ≡ l.initial.cut.entries.places.vacant_key;
+  absent : (i : Instance ℕ) → lookup (same_instance i) l.initial.cut.entries.entries.entries ≡ None
+      → lookup (same_instance i) l.cut.entries.entries.entries ≡ None;
 }

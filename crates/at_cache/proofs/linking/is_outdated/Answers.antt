@@ -3,4 +3,4 @@ use Rattle.at_cache.proofs.RowLists.{keeps_rest}
 use Rattle.at_cache.proofs.linking.is_outdated.Goals as goal
 
 pub returns : goal.returns
-returns c _ = keeps_rest c.in-Some.only [] c.in-Some.ensures (sym c.is_current.ensures ∙ c.if-is_current.false)
+returns c _ = keeps_rest c.in-Some.only [] c.in-Some.ensures (sym c.tells_of.ensures ∙ c.if-tells_of.false)

@@ -8,4 +8,4 @@ pub loop-edge-init : goal.loop-edge-init
 loop-edge-init c = keeps_itself _ _
 
 pub loop-edge-preserved : goal.loop-edge-preserved
-loop-edge-preserved c = keeps_then c.loop-edge.invariant (keeps_rest c.in-Some.edge (edges_of c.in-Some.rest) c.in-Some.ensures (sym c.is_current.ensures ∙ c.if-is_current.false))
+loop-edge-preserved c = keeps_then c.loop-edge.invariant (keeps_rest c.in-Some.edge (edges_of c.in-Some.rest) c.in-Some.ensures (sym c.tells_of.ensures ∙ c.if-tells_of.false))

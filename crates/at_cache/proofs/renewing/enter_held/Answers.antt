@@ -1,4 +1,4 @@
-use Rattle.std.proofs.Common.{◌<◌, ◌∙◌, List, true, ap, map, option_map, refl, rules, subst, sym}
+use Rattle.std.proofs.Common.{◌<◌, ◌∙◌, List, true, ap, length, map, option_map, refl, rules, subst, sym}
 use Rattle.at_body.specs.Values.{value_view}
 use Rattle.at_store.specs.Located.{loc_view}
 use Rattle.at_cache.specs.declared.standing.Standing.{Standing}
@@ -7,6 +7,7 @@ use Rattle.at_cache.specs.Putting.{AreTaken}
 use Rattle.at_cache.specs.Finding.{edges_to}
 use Rattle.at_cache.specs.Renewing.{IsSlotFor}
 use Rattle.at_cache.specs.Standings.{standing_of}
+use Rattle.at_cache.proofs.of_cut.Alive.{reads_stand, uses_stand}
 use Rattle.at_cache.proofs.of_cut.EnteredHeld.{has_entered, made_so, puts_so, slot_still}
 use Rattle.at_cache.proofs.of_cut.Goes.{has_shown}
 use Rattle.at_cache.proofs.of_cut.LeftHeld.{enters_none, left, left_alone, uses_alike}
@@ -29,15 +30,17 @@ pub returns-in_err-add_readers-clause-enters : goal.returns-in_err-add_readers-c
 returns-in_err-add_readers-clause-enters c = enters_none c.args.inst _ _ _ c.args.order _ _ _ _ _ (left
     (edges_to c.args.readers.now) (edges_to c.add_readers.new.readers) c.args.cut.now.entries c.args.cut.now.entries
     c.args.cut.now.standings.items c.make_standing.new.standings.items c.requires.awaited.indexed
-    c.requires.awaited.tied c.requires.awaited.valued refl c.make_standing.ensures.same c.add_readers.ensures.reads
-    (uses_none _ _)) _ (search rules)
+    c.requires.awaited.tied c.requires.awaited.valued refl c.make_standing.ensures.same
+    (reads_stand _ _ c.make_standing.ensures.same _ c.add_readers.ensures.reads) (uses_none _ _ _)) _ (search rules)
 
 pub returns-in_err-add_users-clause-enters : goal.returns-in_err-add_users-clause-enters
 returns-in_err-add_users-clause-enters c = enters_none c.args.inst _ _ _ c.args.order _ _ _ _ _ (left
-    (edges_to c.args.readers.now) (edges_to c.add_readers.new.readers) c.args.cut.now.entries c.add_users.new.entries
-    c.args.cut.now.standings.items c.make_standing.new.standings.items c.requires.awaited.indexed
-    c.requires.awaited.tied c.requires.awaited.valued refl c.make_standing.ensures.same c.add_readers.ensures.reads
-    c.add_users.ensures.uses) _ (search rules)
+    (edges_to c.args.readers.now) (edges_to c.add_readers.new.readers) c.args.cut.now.entries c.add_users.new.cut.entries
+    c.args.cut.now.standings.items c.add_users.new.cut.standings.items c.requires.awaited.indexed
+    c.requires.awaited.tied c.requires.awaited.valued refl
+    (λ k. ap (λ (ss : List Standing). standing_of ss k) c.add_users.ensures.standings ∙ c.make_standing.ensures.same k)
+    (reads_stand _ _ c.make_standing.ensures.same _ c.add_readers.ensures.reads)
+    (uses_stand _ _ c.make_standing.ensures.same _ c.add_users.ensures.uses)) _ (search rules)
 
 pub returns-in_err-put_in-clause-enters : goal.returns-in_err-put_in-clause-enters
 returns-in_err-put_in-clause-enters c = let kept = rw c.in_err-put_in.was at c.put_in.ensures.err in enters_none
@@ -45,10 +48,10 @@ returns-in_err-put_in-clause-enters c = let kept = rw c.in_err-put_in.was at c.p
     (edges_to c.args.readers.now) (edges_to c.add_readers.new.readers) c.args.cut.now.entries
     c.put_in.new.cut.entries c.args.cut.now.standings.items c.put_in.new.cut.standings.items
     c.requires.awaited.indexed c.requires.awaited.tied c.requires.awaited.valued refl
-    (λ k. ap (λ (ss : List Standing). standing_of ss k) kept.1 ∙ c.make_standing.ensures.same k)
-    c.add_readers.ensures.reads (uses_alike (memory_of c.args.cut.now.entries)
-    (memory_of c.add_users.new.entries) (memory_of c.put_in.new.cut.entries) kept.0 c.add_users.ensures.uses)) _
-    (search rules)
+    (λ k. ap (λ (ss : List Standing). standing_of ss k) (kept.1 ∙ c.add_users.ensures.standings) ∙ c.make_standing.ensures.same k)
+    (reads_stand _ _ c.make_standing.ensures.same _ c.add_readers.ensures.reads)
+    (uses_alike (memory_of c.args.cut.now.entries) (memory_of c.add_users.new.cut.entries) (memory_of c.put_in.new.cut.entries) kept.0
+    (uses_stand _ _ c.make_standing.ensures.same _ c.add_users.ensures.uses))) _ (search rules)
 
 pub add_users-requires : goal.add_users-requires
 add_users-requires c = record {
@@ -57,8 +60,8 @@ add_users-requires c = record {
 }
 
 pub put_in-requires-clause-slot : goal.put_in-requires-clause-slot
-put_in-requires-clause-slot c = subst (λ s. IsSlotFor c.add_users.new.entries c.args.inst s) (sym c.fresh.ensures.slot)
-    (slot_still c.args.cut.now.entries c.add_users.new.entries c.args.inst c.args.edge.slot c.add_users.ensures.uses
+put_in-requires-clause-slot c = subst (λ s. IsSlotFor c.add_users.new.cut.entries c.args.inst s) (sym c.fresh.ensures.slot)
+    (slot_still c.args.cut.now.entries c.add_users.new.cut.entries c.args.inst c.args.edge.slot c.add_users.ensures.uses
     c.add_users.ensures.key c.requires.awaited.place)
 
 pub put_in-requires-clause-made : goal.put_in-requires-clause-made
@@ -68,29 +71,32 @@ put_in-requires-clause-made c = made_so c.args.inst c.fresh.result
 pub set_standing-requires : goal.set_standing-requires
 set_standing-requires c =
     let put = rw c.in_ok-put_in.was at c.put_in.ensures.puts in
-    subst (λ n. c.args.edge.slot < n) (sym put.room) (rw c.in_ok-make_standing.was at c.make_standing.ensures.there)
+    subst (λ n. c.args.edge.slot < n) (sym (put.room ∙ ap length c.add_users.ensures.standings))
+    (rw c.in_ok-make_standing.was at c.make_standing.ensures.there)
 
 pub returns : goal.returns
 returns c =
     let put = puts_so c.args.inst c.fresh.result (option_map value_view c.args.value) c.in_ok-links.links.items
-    c.args.edge.stamp (c.fresh.ensures.entry c.args.inst) c.args.edge.slot c.make_standing.new.standings.items
+    c.args.edge.stamp (c.fresh.ensures.entry c.args.inst) c.args.edge.slot c.add_users.new.cut.standings.items
     c.put_in.new.cut.standings.items
-    (memory_of c.add_users.new.entries) (memory_of c.put_in.new.cut.entries) c.fresh.ensures.slot
+    (memory_of c.add_users.new.cut.entries) (memory_of c.put_in.new.cut.entries) c.fresh.ensures.slot
     (rw c.in_ok-put_in.was at c.put_in.ensures.puts) in
-    let within = subst (λ n. c.args.edge.slot < n) (sym put.room)
+    let within = subst (λ n. c.args.edge.slot < n) (sym (put.room ∙ ap length c.add_users.ensures.standings))
     (rw c.in_ok-make_standing.was at c.make_standing.ensures.there) in
     let done = has_entered (edges_to c.args.readers.now)
     (edges_to c.add_readers.new.readers) c.args.cut.now.entries c.put_in.new.cut.entries
-    (memory_of c.add_users.new.entries)
-    c.args.cut.now.standings.items c.make_standing.new.standings.items c.put_in.new.cut.standings.items
+    (memory_of c.add_users.new.cut.entries)
+    c.args.cut.now.standings.items c.add_users.new.cut.standings.items c.put_in.new.cut.standings.items
     c.set_standing.new.standings.items c.args.edge.stamp c.args.edge.slot c.args.inst
     (option_map value_view c.args.value)
     c.in_ok-links.links.items c.as_slice.result.now (map loc_view c.args.reads.now) c.args.uses.now
     (record { since = c.args.edge.stamp; holds = true; traced = c.is_traced.result }) c.args.order
     c.requires.awaited.indexed c.requires.awaited.tied c.requires.awaited.valued c.requires.awaited.absent c.requires.present c.requires.awaited.its
-    c.in_ok-links.ensures.taken c.in_ok-links.ensures.theirs c.make_standing.ensures.same
-    c.add_readers.ensures.reads (rw c.in_ok-add_readers.was at c.add_readers.ensures.listed) c.as_slice.ensures
-    c.add_users.ensures.uses (rw c.in_ok-add_users.was at c.add_users.ensures.listed)
+    c.in_ok-links.ensures.taken c.in_ok-links.ensures.theirs
+    (λ k. ap (λ (ss : List Standing). standing_of ss k) c.add_users.ensures.standings ∙ c.make_standing.ensures.same k)
+    (reads_stand _ _ c.make_standing.ensures.same _ c.add_readers.ensures.reads)
+    (rw c.in_ok-add_readers.was at c.add_readers.ensures.listed) c.as_slice.ensures
+    (uses_stand _ _ c.make_standing.ensures.same _ c.add_users.ensures.uses) (rw c.in_ok-add_users.was at c.add_users.ensures.listed)
     put c.set_standing.ensures within refl refl (λ on. (c.is_traced.ensures on).0)
     (λ on. has_shown value_view c.args.value ∙ (c.is_traced.ensures on).1) in
     record {

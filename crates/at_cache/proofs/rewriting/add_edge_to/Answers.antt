@@ -7,7 +7,7 @@ use Rattle.at_cache.proofs.rewriting.add_edge_to.Goals as goal
 pub returns-in-Some-clause-added : goal.returns-in-Some-clause-added
 returns-in-Some-clause-added c kept slots a =
     let there = ap (option_map info) (sym c.in-Some.ensures) in
-    c.add_edge.ensures.added kept slots
+    c.add_edge.ensures.added (memory_of c.args.entries.now) kept slots
     (current (memory_of c.args.entries.now) (record { slot = c.args.slot; stamp = c.in-Some.entry.now.stamp }) _ there refl) a
 
 pub returns-in-None-clause-added : goal.returns-in-None-clause-added

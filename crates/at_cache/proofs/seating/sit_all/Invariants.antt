@@ -1,12 +1,12 @@
 use Rattle.std.proofs.Common.{◌≤◌, ◌^◌, length}
-use Rattle.at_cache.specs.Info.{memory_of}
 use Rattle.at_cache.specs.Runs.{AreSeated, Lose, edges_over}
+use Rattle.at_cache.specs.Standings.{alive_in}
 use Rattle.at_cache.proofs.seating.sit_all.Given as goal
 
 abbrev pub invariant-loop-location : goal.invariant-loop-location
 invariant-loop-location l = record {
   seated : AreSeated l.seats.items l.runs.items;
-  holds : Lose (memory_of l.entries) l.edge (edges_over l.initial.seats.items l.initial.runs.items) (edges_over l.seats.items l.runs.items);
+  holds : Lose (alive_in l.cut) l.edge (edges_over l.initial.seats.items l.initial.runs.items) (edges_over l.seats.items l.runs.items);
   short : length l.initial.seats.items ≤ 2 ^ 32 → length l.seats.items ≤ 2 ^ 32;
 }
 

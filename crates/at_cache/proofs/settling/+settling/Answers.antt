@@ -63,8 +63,8 @@ settle_below-returns-then-not-settle_all t c lists whole e there =
     there traced in
     let same = c.as_slice-2.ensures ∙ ap (λ (y : Info). y.links)
     (is_pair c.args.entries.now c.args.slot e _ c.in-Some.ensures there) in
-    let taken = subst (AreTaken m) (sym same) (links_taken lists c.args.entries.now c.args.counts.now.puts c.args.slot
-    e whole.tied there) in
+    let taken = subst (AreTaken m) (sym same) (links_taken lists c.args.entries.now c.args.standings.now.items
+    c.args.counts.now.puts c.args.slot e whole.tied there traced) in
     let (goes, all) = c.settle_all.ensures lists whole taken e.instance (trace_of lists m c.args.slot e v)
     (trace_slot lists c.args.entries.now c.args.standings.now.items c.args.slot e v there traced valued)
     (ap (instances_in m) (sym same)) in
@@ -79,8 +79,8 @@ settle_below-returns t c lists whole e there =
     there traced in
     let same = c.as_slice-2.ensures ∙ ap (λ (y : Info). y.links)
     (is_pair c.args.entries.now c.args.slot e _ c.in-Some.ensures there) in
-    let taken = subst (AreTaken m) (sym same) (links_taken lists c.args.entries.now c.args.counts.now.puts c.args.slot
-    e whole.tied there) in
+    let taken = subst (AreTaken m) (sym same) (links_taken lists c.args.entries.now c.args.standings.now.items
+    c.args.counts.now.puts c.args.slot e whole.tied there traced) in
     let (goes, all) = c.settle_all.ensures lists whole taken e.instance (trace_of lists m c.args.slot e v)
     (trace_slot lists c.args.entries.now c.args.standings.now.items c.args.slot e v there traced valued)
     (ap (instances_in m) (sym same)) in

@@ -1,0 +1,88 @@
+-- The entries of which edges tell: those that are kept, or can be kept again.
+use Rattle.std.proofs.Common.{◌≡◌, ◌≤◌, inl, inr, ℕ, List, Bool, true, false, None, Some, nat_eq, if◌then◌else◌, refl, ap, ◌∙◌, subst, arith}
+use Rattle.std.proofs.lemmas.Option.{none-some}
+use Rattle.at_model.specs.Run.{Location}
+use Rattle.at_cache.specs.declared.edge.Edge.{Edge}
+use Rattle.at_cache.specs.declared.standing.Standing.{Standing}
+use Rattle.at_cache.specs.Info.{Info, Memory}
+use Rattle.at_cache.specs.Putting.{Reads, Uses, is_current, reused}
+use Rattle.at_cache.specs.Standings.{IsTied, alive, is_alive, standing_of}
+use Rattle.at_cache.proofs.Ending.{either, on_left, on_right}
+use Rattle.at_cache.proofs.Listing.{IsToldOn, reused_from}
+
+pub by_holding : (s : Standing) → s.holds ≡ true → is_alive s ≡ true
+by_holding s on = on_left s.holds s.traced on
+
+pub by_trace : (s : Standing) → s.traced ≡ true → is_alive s ≡ true
+by_trace s on = on_right s.holds s.traced on
+
+-- what stands so later stood so before
+pub was_alive : (s t : Standing) → (t.holds ≡ true → s.holds ≡ true) → (t.traced ≡ true → s.traced ≡ true)
+    → is_alive t ≡ true → is_alive s ≡ true
+was_alive s t holds traced on = elim (either t.holds t.traced on) [
+  | inl h ↦ by_holding s (holds h)
+  | inr h ↦ by_trace s (traced h)
+]
+
+module _ (st : List Standing) (m : Memory) (k : ℕ) (e : Info) where
+  pub alive_on : m k ≡ Some e → is_alive (standing_of st k) ≡ true → alive st m k ≡ Some e
+  alive_on there on = ap (λ b. if b then m k else None) on ∙ there
+
+  pub alive_from : alive st m k ≡ Some e → (m k ≡ Some e) × (is_alive (standing_of st k) ≡ true)
+  alive_from h = by (is_alive (standing_of st k)) refl h
+    where
+      by : (b : Bool) → is_alive (standing_of st k) ≡ b → (if b then m k else None) ≡ Some e
+          → (m k ≡ Some e) × (is_alive (standing_of st k) ≡ true)
+      by true on h = (h, on)
+      by false off h = absurd (none-some e h)
+
+-- an edge tells of nothing else
+module _ (st : List Standing) (m : Memory) (x : Edge) where
+  abbrev tells_if : Bool → Bool
+  tells_if b = elim (if b then m x.slot else None) as (λ _. Bool) [ None ↦ false | Some e ↦ nat_eq e.stamp x.stamp ]
+
+  pub not_told : is_alive (standing_of st x.slot) ≡ false → is_current (alive st m) x ≡ false
+  not_told off = ap tells_if off
+
+  pub told_as : is_alive (standing_of st x.slot) ≡ true → is_current (alive st m) x ≡ is_current m x
+  told_as on = ap tells_if on
+
+-- they are told of still where one has other users, and where several have
+pub told_reused : (st : List Standing) (s : ℕ) (us : List Edge) (m mid : Memory) → ((k : ℕ) → mid k ≡ reused s us m k)
+    → IsToldOn (alive st m) (alive st mid)
+told_reused st s us m mid is k e h =
+    let (there, on) = alive_from st m k e h in
+    let (f, found, same) = reused_from s us m mid is k e there in
+    (f, alive_on st mid k f found on, same)
+
+pub told_uses : {told : Memory} {x : Edge} {slots : List ℕ} (st ts : List Standing) (m mid : Memory) → ts ≡ st
+    → Uses told x slots m mid → IsToldOn (alive st m) (alive ts mid)
+told_uses st ts m mid same u k e h =
+    let (there, on) = alive_from st m k e h in
+    let (f, found, is) = u.there k e there in
+    (f, alive_on ts mid k f found (ap (λ ss. is_alive (standing_of ss k)) same ∙ on), ap (λ (i : Info). i.stamp) is)
+
+-- by standings that are the same
+module _ (st ts : List Standing) (same : (k : ℕ) → standing_of ts k ≡ standing_of st k) (m : Memory) where
+  alive_alike : alive ts m ≡ alive st m
+  alive_alike n k = if is_alive (same k n) then m k else None
+
+  pub reads_stand : {L : Type 0} {x : Edge} {reads : List L} {lists later : L → List Edge} → Reads (alive ts m) x reads lists later
+      → Reads (alive st m) x reads lists later
+  reads_stand {L} {x} {reads} {lists} {later} r = subst (λ told. Reads told x reads lists later) alive_alike r
+
+  pub uses_stand : {x : Edge} {slots : List ℕ} {old new : Memory} → Uses (alive ts m) x slots old new → Uses (alive st m) x slots old new
+  uses_stand {x} {slots} {old} {new} u = subst (λ told. Uses told x slots old new) alive_alike u
+
+-- all is found as before where no more stands so
+pub tied_on : {lists : Location ℕ → List Edge} {puts : ℕ} {st : List Standing} {m : Memory} (next : ℕ) (ts : List Standing) → puts ≤ next
+    → ((k : ℕ) (e : Info) → m k ≡ Some e → is_alive (standing_of ts k) ≡ true → is_alive (standing_of st k) ≡ true)
+    → IsTied lists puts st m → IsTied lists next ts m
+tied_on next ts less fewer tied = record {
+  idle = tied.idle;
+  known = λ s e there. let past = tied.known s e there in omega (arith, past, less);
+  used = λ s e there on. tied.used s e there (fewer s e there on);
+  uses = tied.uses;
+  past_readers = λ l x h. let past = tied.past_readers l x h in omega (arith, past, less);
+  past_users = λ p f there x h. let past = tied.past_users p f there x h in omega (arith, past, less);
+}
