@@ -6,11 +6,12 @@
 The folder that it runs in is a repository whose libraries `rt ci` has proved and left in crates/NAME/out/rlib. The edits of
 all crates are tried, or of those named.
 
-An edit's line `refused:` names the function that has to be refused. All edits of a crate are made in one copy of it, and the
-prover checks the functions that they turn, over the contracts of what these call. Those were proved by `rt ci` a moment ago,
-or, of the same files, by an earlier run on this machine; so in the copy their bodies and proofs are left out, and what the
-prover says of each turned function is of its own goals alone. An edit is refused where one of these can't be proved; that it
-calls what isn't proved doesn't count, and neither does a name that a proof file misses.
+An edit's line `refused:` names the function that has to be refused. All edits of a crate are made in one copy of it, but those
+with a line `alone:`, whose functions call what others turn, in one of their own; and the prover checks the functions that they
+turn, over the contracts of what these call. Those were proved by `rt ci` a moment ago, or, of the same files, by an earlier run
+on this machine; so in the copy their bodies and proofs are left out, and what the prover says of each turned function is of its
+own goals alone. An edit is refused where one of these can't be proved; that it calls what isn't proved doesn't count, and
+neither does a name that a proof file misses.
 
 With --control no edit is made, and none of the functions may be refused. `rt must-fail NAME` tries the same edits one by one,
 each over a whole check of the crate, which takes several times as long.
