@@ -96,7 +96,8 @@ pub trait Keeper: Drop {
         ensures leaves { LeavesUntouched (Answers (F.post touched.now)) (contents self.old) (contents self.new) }
         ensures loses { LosesTouched (Answers (F.post touched.now)) (contents self.old) (contents self.new) }
         ensures traces { FlushesTraces (Answers (F.post touched.now)) (memories self.old) (memories self.new) }
-        ensures spares { SparesAtEdit (Answers (F.post touched.now)) (crowded self.old) (memories self.old) (memories self.new) };
+        ensures spares { SparesAtEdit (Answers (F.post touched.now)) (crowded self.old) (memories self.old) (memories self.new) }
+        ensures fewer { count self.new ≤ count self.old };
 
     /// Has no more than so many entries in memory, kept or not. Where there are more, those go first that aren't kept; of the others
     /// those stay as they were that stay.

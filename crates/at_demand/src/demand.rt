@@ -1,6 +1,6 @@
 //! Questions for the values of instances.
 
-ghost use Rattle.std.specs.Prelude.{◌≡◌, ◌<◌, ◌^◌, [], is_some, map, IfOk, IfSome, OnSome, None, false, true};
+ghost use Rattle.std.specs.Prelude.{◌≡◌, ◌≤◌, ◌<◌, ◌^◌, [], is_some, map, IfOk, IfSome, OnSome, None, false, true};
 ghost use Rattle.at_model.specs.of_fixpoints.Fixpoints.{HasValue};
 ghost use Rattle.at_store.specs.Located.{loc_view};
 ghost use Rattle.at_store.specs.Shown.{IsIdle, contents};
@@ -235,8 +235,9 @@ impl<K: Keeper> Demand<K> {
     )
         requires callable { F.IsAlwaysCallable touched.now }
         requires named { AreNamed places.now (F.post touched.now) }
-        ensures { Forgets (Says (F.post touched.now)) (is_over most (K.count self.old.keeper)) (K.crowded self.old.keeper) (K.contents self.old.keeper)
+        ensures forgets { Forgets (Says (F.post touched.now)) (is_over most (K.count self.old.keeper)) (K.crowded self.old.keeper) (K.contents self.old.keeper)
             (K.contents self.new.keeper) (K.memories self.old.keeper) (K.memories self.new.keeper) self.old.work self.new.work self.old.made self.new.made }
+        ensures bound { IfSome most (λ m. K.count self.new.keeper ≤ m) }
     {
         fit(&mut self.keeper, most);
         self.keeper.flush(places, touched);
@@ -344,6 +345,7 @@ fn fit<K: Keeper>(keeper: &mut K, most: Option<usize>)
     ensures kept { LeavesKept (K.contents keeper.old) (K.contents keeper.new) }
     ensures stay { StayTraced (K.memories keeper.old) (K.memories keeper.new) }
     ensures within { is_over most (K.count keeper.old) ≡ false → keeper.new ≡ keeper.old }
+    ensures few { IfSome most (λ m. K.count keeper.new ≤ m) }
 {
     match most {
         Some(most) => keeper.fit(most),

@@ -1,5 +1,6 @@
 -- What an edit forgets, once no more is in memory than a bound allows.
-use Rattle.std.proofs.Common.{◌≡◌, ◌≤◌, ◌⊎◌, ℕ, Bool, true, false, None, Option, Some, ◌||◌, inl, inr, refl, sym, ◌∙◌, subst}
+use Rattle.std.specs.Prelude.{IfSome}
+use Rattle.std.proofs.Common.{◌≡◌, ◌≤◌, ◌⊎◌, ℕ, Bool, true, false, None, Option, Some, ◌||◌, arith, inl, inr, refl, sym, ◌∙◌, subst}
 use Rattle.std.proofs.lemmas.Bool.{ltb-false}
 use Rattle.at_model.specs.Run.{Instance, Location}
 use Rattle.at_cache.specs.Kept.{Entries, LeavesKept, LeavesUntouched, LosesTouched}
@@ -49,3 +50,8 @@ module _ (says : Location ℕ → Bool → Type 0) (crowded late : Bool) (old mi
     work = refl;
     made = refl;
   }
+
+-- what no more was in memory than a bound allows stays so where no more is
+pub bounded : (m : Option ℕ) (mid new : ℕ) → new ≤ mid → IfSome m (λ b. mid ≤ b) → IfSome m (λ b. new ≤ b)
+bounded None mid new fewer few = few
+bounded (Some b) mid new fewer few = omega (arith, fewer, few)

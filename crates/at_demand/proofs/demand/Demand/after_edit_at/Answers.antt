@@ -1,11 +1,11 @@
 use Rattle.std.proofs.Common.{ap}
 use Rattle.at_cache.specs.Kept.{Answers}
 use Rattle.at_demand.specs.Answered.{is_over}
-use Rattle.at_demand.proofs.of_traces.Forgetting.{forgets}
+use Rattle.at_demand.proofs.of_traces.Forgetting.{bounded, forgets}
 use Rattle.at_demand.proofs.demand.Demand.after_edit_at.Goals as goal
 
-pub returns : goal.returns
-returns g c =
+pub returns-clause-forgets : goal.returns-clause-forgets
+returns-clause-forgets g c =
     let old = c.args.self.now.keeper in
     let mid = c.fit.new.keeper in
     let new = c.flush.new.self in
@@ -18,3 +18,6 @@ returns g c =
     (λ off. ap g.K.Keeper.contents (c.fit.ensures.within off))
     (λ off. ap g.K.Keeper.memories (c.fit.ensures.within off))
     (λ off. ap g.K.Keeper.crowded (c.fit.ensures.within off))
+
+pub returns-clause-bound : goal.returns-clause-bound
+returns-clause-bound g c = bounded c.args.most (g.K.Keeper.count c.fit.new.keeper) (g.K.Keeper.count c.flush.new.self) c.flush.ensures.fewer c.fit.ensures.few
