@@ -166,12 +166,13 @@ pub record GainsInChain (rules : Rules) (old new : Entries) (u : UnderWay ℕ) :
   pub others : (j : Instance ℕ) → IsSome (new j) → IsSome (old j) ⊎ (IsKept new j ⊎ Among j (keys u.found))
 
 -- So many single turns were given, one behind the other: each tried the one equation to which the question had come, and lets no more
--- come to what is kept than a turn may. None but the last one answers it. Before each, where turns keep again, what could be kept again at
--- the beginning may come to be kept, with no evaluation, where demands lead to it from the one that is tried. What is kept is right behind each.
+-- come to what is kept than a turn may. None but the last one answers it. Before each, where turns keep again, what could be kept again
+-- at the beginning may come to be kept, with no evaluation, of the one that is tried, of what it used, and so on; demands lead there. What
+-- is kept is right behind each.
 pub data AreTurns (rules : Rules) (s : Shown) (m : Memories) : (given : ℕ) → (before : Entries) → Search ℕ → (after : Entries) → Search ℕ
     → Option (Answer ℕ) → Type 0 where
   none : (e : Entries) (u : Search ℕ) → AreTurns rules s m 0 e u e u None
-  again : (n : ℕ) (d e f : Entries) (u v : Search ℕ) → AreTurns rules s m n d u e v None → m.in_turns ≡ true → KeepsAgain m e f
+  again : (n : ℕ) (d e f : Entries) (u v : Search ℕ) → AreTurns rules s m n d u e v None → m.in_turns ≡ true → KeepsAgain m v.last.next e f
       → AreLed rules s v.last.next e f → AreRightValues (contents s) (meaning rules) (kept_values f) → AreTurns rules s m n d u f v None
   more : (n : ℕ) (d e f : Entries) (u v w : Search ℕ) (o : Option (Answer ℕ)) → AreTurns rules s m n d u e v None
       → Turned (contents s) (meaning rules) (kept_values e) v w o → GainsInTurn rules e f v
@@ -181,7 +182,7 @@ pub data AreTurns (rules : Rules) (s : Shown) (m : Memories) : (given : ℕ) →
 pub data AreTurnsOfChain (rules : Rules) (s : Shown) (m : Memories) : (given : ℕ) → (before : Entries) → UnderWay ℕ → (after : Entries) → UnderWay ℕ
     → Option (Answer ℕ) → Type 0 where
   none : (e : Entries) (u : UnderWay ℕ) → AreTurnsOfChain rules s m 0 e u e u None
-  again : (n : ℕ) (d e f : Entries) (u v : UnderWay ℕ) → AreTurnsOfChain rules s m n d u e v None → m.in_turns ≡ true → KeepsAgain m e f
+  again : (n : ℕ) (d e f : Entries) (u v : UnderWay ℕ) → AreTurnsOfChain rules s m n d u e v None → m.in_turns ≡ true → KeepsAgain m v.last e f
       → AreTurnsOfChain rules s m n d u f v None
   more : (n : ℕ) (d e f : Entries) (u v w : UnderWay ℕ) (o : Option (Answer ℕ)) → AreTurnsOfChain rules s m n d u e v None
       → ChainTurned (contents s) (equations rules) (kept_values e) v w o → GainsInChain rules e f v → AreTurnsOfChain rules s m (n + 1) d u f w o

@@ -69,6 +69,7 @@ impl<K: Keeper> Demand<K> {
     pub fn new(alloc: Global, keeper: K) -> Demand<K>
         ensures keeper { result.keeper ≡ keeper }
         ensures work { result.work ≡ 0 }
+        ensures made { result.made ≡ 0 }
     {
         Demand {
             alloc,

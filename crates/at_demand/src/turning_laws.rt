@@ -58,7 +58,7 @@ pub fn a_question_stands_while_more_is_kept()
 /// Where nothing is traced nothing is kept again before a turn; nor is it where turns don't keep again, whatever is traced: turns are then what they
 /// are over any memories, such as those that trace nothing.
 pub fn without_traces_nothing_is_kept_again()
-    ensures untraced { (m : Memories) (old new : Entries) → TracesNothing m → KeepsAgain m old new → (i : Instance ℕ) → new i ≡ old i }
+    ensures untraced { (m : Memories) (q : Instance ℕ) (old new : Entries) → TracesNothing m → KeepsAgain m q old new → (i : Instance ℕ) → new i ≡ old i }
     ensures searched { (rules : Rules) (s : Shown) (m any : Memories) → m.in_turns ≡ false → (n : ℕ) (before after : Entries) (u v : Search ℕ)
         (o : Option (Answer ℕ)) → AreTurns rules s m n before u after v o → AreTurns rules s any n before u after v o }
     ensures plainly { (rules : Rules) (s : Shown) (m any : Memories) → m.in_turns ≡ false → (n : ℕ) (before after : Entries) (u v : UnderWay ℕ)

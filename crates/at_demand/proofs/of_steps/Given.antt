@@ -31,7 +31,7 @@ use Rattle.at_demand.proofs.Gaining.{worthy_none}
 use Rattle.at_demand.proofs.Standing.{answers_right, asked_same, last_led, sound_after, worthy_both}
 use Rattle.at_demand.proofs.of_nesting.InnerGains.{gains_up, known_none}
 use Rattle.at_demand.proofs.of_steps.Grown.{spares_grown, stands_grown, stands_more}
-use Rattle.at_demand.proofs.of_steps.KeptAgain.{again_before, gains_again, settled_again}
+use Rattle.at_demand.proofs.of_steps.KeptAgain.{again_before, gains_again}
 use Rattle.at_demand.proofs.of_traces.Justified.{stay_justified}
 use Rattle.at_demand.proofs.of_traces.Settled.{LastKept, settled_demanded}
 
@@ -88,7 +88,7 @@ module _ (rules : Rules) (s : Shown) (m : Memories) (basis : IsBasis rules s) (f
     sound_again : AreSound rules s new
     sound_again = sound_after rules s basis mid q inv.sound inv.standing new gains.known.right up.worthy
 
-    pub given_again : m.in_turns ≡ true → KeepsAgain m mid new → AreLed rules s q.inst mid new → So new y given q
+    pub given_again : m.in_turns ≡ true → KeepsAgain m q.inst mid new → AreLed rules s q.inst mid new → So new y given q
     given_again told again on = record {
       sound = sound_again;
       plain = gains.known.plain;
@@ -101,7 +101,8 @@ module _ (rules : Rules) (s : Shown) (m : Memories) (basis : IsBasis rules s) (f
           let (v, silent, each, stands) = inv.searched u st in
           let next_is : v.last.next ≡ q.inst = ap (λ (l : Level ℕ). l.next) stands.is.last in
           let led = subst (λ (i : Instance ℕ). AreLed rules s i mid new) (sym next_is) on in
-          (v, silent, turns.again given first mid new u v each told again led gains.known.right, stands_more rules s mid new gains.worthy.stays q sound_again v stands);
+          let kept = subst (λ (i : Instance ℕ). KeepsAgain m i mid new) (sym next_is) again in
+          (v, silent, turns.again given first mid new u v each told kept led gains.known.right, stands_more rules s mid new gains.worthy.stays q sound_again v stands);
       worthy = worthy_both rules (contents s) (asked_by old) first mid new inv.worthy
           (subst (λ (i : Instance ℕ). AddsWorthy rules (contents s) i mid new) inv.same up.worthy);
       stays = λ there right. up.stays (subst (λ (i : Instance ℕ). IsThere s i) (sym inv.same) there) (inv.stays there right);
@@ -118,7 +119,7 @@ module _ (rules : Rules) (s : Shown) (m : Memories) (basis : IsBasis rules s) (f
       (gains_again rules s basis.idle l n mid new x y q.inst few
       (known_none rules (contents s) mid basis.circular inv.sound.right inv.plain)
       (stay_justified rules (contents s) m l stay justified) last kept)
-      told (again_before m l mid new stay (settled_again l q.inst kept.count mid new kept.settled))
+      told (again_before m l q.inst mid new stay (kept.count, kept.settled))
       (settled_demanded rules s basis.idle l (stay_justified rules (contents s) m l stay justified) q.inst kept.count mid new []
       kept.settled (known_none rules (contents s) mid basis.circular inv.sound.right inv.plain) last)
 

@@ -1,18 +1,18 @@
 -- What is kept again for the last instance of a question: it came with no evaluation, and is right and worthy.
-use Rattle.std.proofs.Common.{◌≡◌, ◌⊎◌, ◌<◌, ◌^◌, ℕ, Bool, true, false, [], Option, None, Some, inl, inr, refl, sym, ap, ◌∙◌, subst, if◌then◌else◌, arith, true≢false}
+use Rattle.std.proofs.Common.{◌≡◌, ◌<◌, ◌^◌, ℕ, Bool, true, false, List, [], Option, None, Some, IsSome, refl, sym, ap, ◌∙◌, subst, if◌then◌else◌, arith, true≢false}
 use Rattle.std.proofs.lemmas.Option.{none-some}
 use Rattle.at_model.specs.Rules.{Rules}
 use Rattle.at_model.specs.Meaning.{Answer}
-use Rattle.at_model.specs.Run.{Instance}
+use Rattle.at_model.specs.Run.{Instance, Location, Value}
 use Rattle.at_model.specs.Turning.{UnderWay}
 use Rattle.at_model.specs.of_fixpoints.Searching.{Search}
 use Rattle.at_store.specs.Shown.{IsIdle, Shown, contents}
 use Rattle.at_body.specs.Same.{same_instance}
-use Rattle.at_cache.specs.Kept.{Entries, PutsBy, value_at}
-use Rattle.at_cache.specs.Traced.{Memories, Settled, StayTraced, Trace, TracesNothing, nothing, one_more}
+use Rattle.at_cache.specs.Kept.{Entries, PutsBy}
+use Rattle.at_cache.specs.Traced.{IsNext, Memories, Settled, StayTraced, TracesNothing, below, itself, nothing, one_more}
 use Rattle.at_demand.specs.Again.{HasKeptAgain, KeepsAgain}
 use Rattle.at_demand.specs.Inner.{AreKnown, Gains}
-use Rattle.at_demand.specs.Known.{KeepsEntries, kept_values}
+use Rattle.at_demand.specs.Known.{KeepsEntries}
 use Rattle.at_demand.specs.Traces.{AreJustified}
 use Rattle.at_demand.specs.Turns.{AreTurns, AreTurnsOfChain}
 use Rattle.at_demand.specs.Turns as turns
@@ -21,52 +21,21 @@ use Rattle.at_demand.proofs.Sameness.{same_true}
 use Rattle.at_demand.proofs.of_traces.Justified.{stay_same}
 use Rattle.at_demand.proofs.of_traces.Settled.{LastKept, settled_gains}
 
--- nothing comes
-pub again_none : (m : Memories) (e : Entries) → KeepsAgain m e e
-again_none m e i = inl refl
+-- from q on there is a way over memories that were more before, too
+next_before : (m n : Memories) (e : Entries) (q i : Instance ℕ) → StayTraced m n → IsNext n e q i → IsNext m e q i
+next_before m n e q _ stay itself = itself
+next_before m n e q i stay (below j _ t front back way traced uses all) =
+    below j i t front back (next_before m n e q j stay way) (stay j t traced).traced uses all
 
--- what becomes of the entry of an instance
-abbrev Comes : Memories → Instance ℕ → Entries → Entries → Type 0
-Comes m i x y = (y i ≡ x i) ⊎ ((x i ≡ None) × ((t : Trace) × (m.traced i ≡ Some t) × (kept_values y i ≡ Some t.value)))
+-- what was settled by memories that were more before
+settled_before : (m n : Memories) (q : Instance ℕ) (k : ℕ) (e f : Entries) → StayTraced m n → Settled n q k e f → Settled m q k e f
+settled_before m n q _ e _ stay (nothing _) = nothing e
+settled_before m n q _ e f stay (one_more k _ mid _ i t before next traced absent all puts) =
+    one_more k e mid f i t (settled_before m n q k e mid stay before) (next_before m n mid q i stay next) (stay i t traced).traced absent all puts
 
--- first some came, and then others
-pub again_then : (m : Memories) (d e f : Entries) → KeepsAgain m d e → KeepsAgain m e f → KeepsAgain m d f
-again_then m d e f a b i = by (a i) (b i)
-  where
-    by : Comes m i d e → Comes m i e f → Comes m i d f
-    by (inl same) (inl is) = inl (is ∙ same)
-    by (inl same) (inr (none, x)) = inr (sym same ∙ none, x)
-    by (inr (none, (t, traced, value))) (inl is) = inr (none, (t, traced, ap value_at is ∙ value))
-    by (inr (none, x)) (inr (gone, y)) = inr (none, y)
-
--- of memories that were more before
-pub again_before : (m n : Memories) (e f : Entries) → StayTraced m n → KeepsAgain n e f → KeepsAgain m e f
-again_before m n e f stay a i = by (a i)
-  where
-    by : Comes n i e f → Comes m i e f
-    by (inl same) = inl same
-    by (inr (none, (t, traced, value))) = inr (none, (t, (stay i t traced).traced, value))
-
--- one that had no entry, with the value of its trace
-again_one : (m : Memories) (e f : Entries) (i : Instance ℕ) (t : Trace) → m.traced i ≡ Some t → e i ≡ None
-    → PutsBy e i (Some t.value) t.reads t.uses f → KeepsAgain m e f
-again_one m e f i t traced absent puts j = by (same_instance i j) refl
-  where
-    by : (b : Bool) → same_instance i j ≡ b → Comes m j e f
-    by false at = inl (puts.adds j ∙ ap (λ (b : Bool). if b then Some puts.entry else e j) at)
-    by true at =
-        let here = puts.adds j ∙ ap (λ (b : Bool). if b then Some puts.entry else e j) at in
-        let same = same_true i j at in
-        inr (
-          subst (λ (x : Instance ℕ). e x ≡ None) same absent,
-          (t, subst (λ (x : Instance ℕ). m.traced x ≡ Some t) same traced, ap value_at here ∙ puts.value),
-        )
-
--- so all came that was settled
-pub settled_again : (m : Memories) (q : Instance ℕ) (n : ℕ) (e f : Entries) → Settled m q n e f → KeepsAgain m e f
-settled_again m q _ e _ (nothing _) = again_none m e
-settled_again m q _ e f (one_more n _ mid _ i t before next traced absent all puts) = again_then m e mid f
-    (settled_again m q n e mid before) (again_one m mid f i t traced absent puts)
+-- what was kept again by these is kept again by those
+pub again_before : (m n : Memories) (q : Instance ℕ) (e f : Entries) → StayTraced m n → KeepsAgain n q e f → KeepsAgain m q e f
+again_before m n q e f stay (count, settled) = (count, settled_before m n q count e f stay settled)
 
 -- where nothing is done, too
 pub kept_nothing : (m : Memories) (e : Entries) (w : ℕ) (q : Instance ℕ) → w < 2 ^ 64 → HasKeptAgain m m e e w w q
@@ -85,21 +54,32 @@ pub gains_again : (rules : Rules) (s : Shown) → IsIdle s → (m n : Memories) 
 gains_again rules s idle m n e f w x q few known justified last h = settled_gains rules s idle m justified q h.count e f [] w x
     h.settled few h.counts known last
 
--- what had an entry has it still
-pub again_stays : (m : Memories) (e f : Entries) → KeepsAgain m e f → KeepsEntries e f
-again_stays m e f again i some = by (again i)
+-- one that had no entry came, and each other one has its own
+one_stays : (e f : Entries) (i : Instance ℕ) (v : Option (Value ℕ)) (reads : Location ℕ → Bool) (uses : List (Instance ℕ)) → e i ≡ None
+    → PutsBy e i v reads uses f → KeepsEntries e f
+one_stays e f i v reads uses absent puts j some = by (same_instance i j) refl
   where
-    by : Comes m i e f → f i ≡ e i
-    by (inl same) = same
-    by (inr (none, x)) = absurd (not_none (e i) some none)
+    by : (b : Bool) → same_instance i j ≡ b → f j ≡ e j
+    by false at = puts.adds j ∙ ap (λ (b : Bool). if b then Some puts.entry else e j) at
+    by true at = absurd (not_none (e j) some (subst (λ (x : Instance ℕ). e x ≡ None) (same_true i j at) absent))
+
+settled_stays : (m : Memories) (q : Instance ℕ) (k : ℕ) (e f : Entries) → Settled m q k e f → KeepsEntries e f
+settled_stays m q _ e _ (nothing _) i some = refl
+settled_stays m q _ e f (one_more k _ mid _ i t before next traced absent all puts) j some =
+    let same = settled_stays m q k e mid before j some in
+    one_stays mid f i (Some t.value) t.reads t.uses absent puts j (subst IsSome (sym same) some) ∙ same
+
+-- what had an entry has it still
+pub again_stays : (m : Memories) (q : Instance ℕ) (e f : Entries) → KeepsAgain m q e f → KeepsEntries e f
+again_stays m q e f (count, settled) = settled_stays m q count e f settled
 
 -- where nothing is traced nothing comes
-pub again_nothing : (m : Memories) (e f : Entries) → TracesNothing m → KeepsAgain m e f → (i : Instance ℕ) → f i ≡ e i
-again_nothing m e f none again i = by (again i)
-  where
-    by : Comes m i e f → f i ≡ e i
-    by (inl same) = same
-    by (inr (gone, (t, traced, value))) = absurd (none-some t (sym (none i) ∙ traced))
+settled_nothing : (m : Memories) (q : Instance ℕ) (k : ℕ) (e f : Entries) → TracesNothing m → Settled m q k e f → (i : Instance ℕ) → f i ≡ e i
+settled_nothing m q _ e _ none (nothing _) i = refl
+settled_nothing m q _ e f none (one_more k _ mid _ j t before next traced absent all puts) i = absurd (none-some t (sym (none j) ∙ traced))
+
+pub again_nothing : (m : Memories) (q : Instance ℕ) (e f : Entries) → TracesNothing m → KeepsAgain m q e f → (i : Instance ℕ) → f i ≡ e i
+again_nothing m q e f none (count, settled) = settled_nothing m q count e f none settled
 
 -- turns over memories by which turns keep nothing again are turns over any
 module _ (rules : Rules) (s : Shown) (m l : Memories) (off : m.in_turns ≡ false) where

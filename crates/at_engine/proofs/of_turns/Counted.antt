@@ -209,7 +209,7 @@ module _ (rules : Rules) (s : Shown) (former latter : Memories) (stay : StayTrac
       → AreTurnsOfSearch rules s former n d u e v o
   search_before _ d _ u _ _ (turns.none _ _) = turns.none d u
   search_before n d e u v _ (turns.again _ _ x _ _ _ front asks kept led right) =
-      turns.again n d x e u v (search_before n d x u v None front) (sym alike ∙ asks) (again_before former latter x e stay kept) led right
+      turns.again n d x e u v (search_before n d x u v None front) (sym alike ∙ asks) (again_before former latter v.last.next x e stay kept) led right
   search_before _ d e u v o (turns.more n _ x _ _ w _ _ front turned last right) =
       turns.more n d x e u w v o (search_before n d x u w None front) turned last right
 
@@ -217,7 +217,7 @@ module _ (rules : Rules) (s : Shown) (former latter : Memories) (stay : StayTrac
       → AreTurnsOfChain rules s former n d u e v o
   chain_before _ d _ u _ _ (turns.none _ _) = turns.none d u
   chain_before n d e u v _ (turns.again _ _ x _ _ _ front asks kept) =
-      turns.again n d x e u v (chain_before n d x u v None front) (sym alike ∙ asks) (again_before former latter x e stay kept)
+      turns.again n d x e u v (chain_before n d x u v None front) (sym alike ∙ asks) (again_before former latter v.last x e stay kept)
   chain_before _ d e u v o (turns.more n _ x _ _ w _ _ front turned last) =
       turns.more n d x e u w v o (chain_before n d x u w None front) turned last
 

@@ -7,7 +7,7 @@ use Rattle.at_demand.specs.Went.{begun}
 use Rattle.at_store.specs.Shown.{contents}
 use Rattle.at_demand.proofs.Fitting.{fit_grown, none_fit, none_noted}
 use Rattle.at_demand.proofs.of_steps.Given.{given_all, given_answered, given_asked, given_broken, given_more, given_none}
-use Rattle.at_demand.proofs.of_steps.KeptAgain.{again_stays, settled_again}
+use Rattle.at_demand.proofs.of_steps.KeptAgain.{again_stays}
 use Rattle.at_demand.proofs.of_levels.Resolving.{keeps_groups}
 use Rattle.at_demand.proofs.of_traces.TurnsPut.{puts_stay, went_on}
 use Rattle.at_demand.proofs.of_traces.Justified.{stay_same, stay_then}
@@ -149,8 +149,7 @@ turn_with-requires g c =
       };
       fit = record {
         chain = fit_grown c.args.rules.now c.args.store.now old mid
-            (again_stays l old mid (settled_again l q.inst c.keep_again_in_turns.ensures.kept.count old mid
-            c.keep_again_in_turns.ensures.kept.settled))
+            (again_stays l q.inst old mid (c.keep_again_in_turns.ensures.kept.count, c.keep_again_in_turns.ensures.kept.settled))
             q c.loop-given.trials.frames.items c.loop-given.trials.awaited c.loop-given.invariant.fit.chain;
         noted = c.loop-given.invariant.fit.noted;
       };
