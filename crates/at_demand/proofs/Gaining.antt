@@ -6,13 +6,11 @@ use Rattle.at_model.specs.Rules.{Rules, is_lazy, start_of}
 use Rattle.at_model.specs.Meaning.{Among}
 use Rattle.at_model.specs.of_fixpoints.Resting.{Comes, Leads, goes, stays}
 use Rattle.at_rules.specs.Circular.{AreCircularLazy}
-use Rattle.at_body.specs.declared.trial.Step.TheVariants as step
 use Rattle.at_cache.specs.Kept.{Kept, Entries}
 use Rattle.at_cache.proofs.Lists.{get_push, get_contains}
-use Rattle.at_demand.specs.declared.evaluation.Demanded.{Demanded}
 use Rattle.at_demand.specs.declared.evaluation.Find.{Find}
 use Rattle.at_demand.specs.Known.{meaning, kept_values, AreValued, IsFound, IsKept}
-use Rattle.at_demand.specs.Covering.{AreWhole, AreWholeIn, IsDemanded, IsWhole, alone, by_first, in_group}
+use Rattle.at_demand.specs.Covering.{AreWhole, AreWholeIn, IsWhole, alone, by_first, in_group}
 use Rattle.at_demand.specs.Sparing.{IsDeep, IsWorthy, AddsWorthy, HasWorthy, MayGain, IsSettled, AreSettled}
 use Rattle.at_demand.proofs.Entered.{entered, entered_on, kept_on, not_none}
 use Rattle.at_demand.proofs.Extending.{among_at}
@@ -148,10 +146,6 @@ module _ (rules : Rules) (look : Contents ℕ) where
     -- with an entry, or found
     abbrev pub IsKnown : Instance ℕ → Type 0
     IsKnown j = IsSome (entries j) ⊎ ((p : ℕ) × (f : Find) × (slice_get found p ≡ Some (j, f)))
-
-    pub known_demanded : (d : Demanded) (j : Instance ℕ) → AreValued entries d.kept.items → IsDemanded found d j → IsKnown j
-    known_demanded d j all (inl k) = inl (entered entries j (is_kept entries d.kept.items j all k))
-    known_demanded d j all (inr (p, f, at, is)) = inr (p, f, is)
 
     pub known_below : (i j : Instance ℕ) → IsKnown i → Leads look (meaning rules) i j → IsLazy j → IsKept entries j
     known_below i j (inl some) led lazy = deep i j some led lazy

@@ -1,5 +1,5 @@
 -- What a question has come to holds.
-use Rattle.std.proofs.Common.{◌≡◌, ℕ, [], nat_eq, None, refl, ◌∙◌}
+use Rattle.std.proofs.Common.{◌≡◌, ℕ, [], nat_eq, None, refl}
 use Rattle.at_model.specs.Run.{Value, Instance, Contents, Known}
 use Rattle.at_model.specs.Follow.{follow}
 use Rattle.at_model.specs.Rules.{Rules, evaluation, start_of}

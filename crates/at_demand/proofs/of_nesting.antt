@@ -6,3 +6,4 @@ pub mod InnerAnswered
 pub mod Asked
 pub mod Grown
 pub mod Demanding
+pub mod GrownAhead

@@ -1,5 +1,5 @@
 -- What a question is answered, and what becomes of what is kept.
-use Rattle.std.specs.Prelude.{◌≡◌, ◌||◌, ◌+◌, ℕ, Bool, false, Option, Some, None, IfNone, IfOk, IfSome, OnErr, Result, nat_lt}
+use Rattle.std.specs.Prelude.{◌≡◌, ◌||◌, ◌+◌, ◌^◌, ℕ, Bool, false, Option, Some, None, IfNone, IfOk, IfSome, IsSome, OnErr, Result, nat_lt}
 use Rattle.std.specs.Option.{option_map}
 use Rattle.at_model.specs.Run.{Contents, Instance, Location}
 use Rattle.at_model.specs.Rules.{Rules}
@@ -58,6 +58,11 @@ IsOfUse rules (Some a) P = HasNoneCircular rules → P
 pub record GainsBy (rules : Rules) (s : Shown) (before after : Entries) (q : Question) : Type 0 where
   pub plainly : HasNoneCircular rules → GainsInChain rules before after (under_way q)
   pub searched : (u : Search ℕ) → StandsFor rules s before q u → GainsInTurn rules before after u
+
+-- how many turns may be given at most: without a limit one more than can be counted
+abbrev pub most_turns : (limit : Option ℕ) → ℕ
+most_turns None = 2 ^ 64
+most_turns (Some limit) = limit
 
 -- where no attribute is circular, turns of the question's chain were given
 pub record HasGivenPlainly {E : Type 0} (rules : Rules) (s : Shown) (m : Memories) (before after : Entries) (limit : ℕ) (old new : Question)
@@ -121,15 +126,16 @@ pub record HasTurnedOn {E : Type 0} (rules : Rules) (s : Shown) (before after : 
   pub answered : IfOk r (λ o. IfSome o (λ a. HasTurnedWith rules s before after earlier later old new t r))
   pub gains : GainsAtMost rules s before after earlier later old (KeepsGroups rules r)
 
--- It was given as many turns as it may be, which are counted, or fewer where one of them answered it; so it is then, too. What these memories
--- have may be kept again before each of them, where they say that turns do.
-pub record HasTurnedOften {E : Type 0} (rules : Rules) (s : Shown) (m : Memories) (before after : Entries) (earlier later limit : ℕ)
+-- It was given as many turns as it may be, which are counted, or fewer where one of them answered it, as one does without a limit; so it is then,
+-- too. What these memories have may be kept again before each of them, where they say that turns do.
+pub record HasTurnedOften {E : Type 0} (rules : Rules) (s : Shown) (m : Memories) (before after : Entries) (earlier later : ℕ) (limit : Option ℕ)
     (old new : Question) (r : Result (ℕ × Option AnswerCode) E) : Type 0 where
-  pub plainly : HasNoneCircular rules → HasGivenPlainly rules s m before after limit old new r
+  pub plainly : HasNoneCircular rules → HasGivenPlainly rules s m before after (most_turns limit) old new r
   pub given : (u : Search ℕ) → StandsFor rules s before old u → IfOk r (λ g. (v : Search ℕ)
-      × HasGivenBy (contents s) (meaning rules) limit g.0 u v (option_map answer_view g.1)
+      × HasGivenBy (contents s) (meaning rules) (most_turns limit) g.0 u v (option_map answer_view g.1)
       × AreTurns rules s m g.0 before u after v (option_map answer_view g.1) × (g.1 ≡ None → StandsFor rules s after new v))
-  pub broke : (u : Search ℕ) → StandsFor rules s before old u → OnErr r (BreaksOff rules s m limit before u after)
+  pub ended : limit ≡ None → IfOk r (λ g. IsSome g.1)
+  pub broke : (u : Search ℕ) → StandsFor rules s before old u → OnErr r (BreaksOff rules s m (most_turns limit) before u after)
   pub counted : IfOk r (λ g. IfNone g.1 (new.turns ≡ old.turns + g.0))
   pub same : IfOk r (λ g. IfNone g.1 (asked_by new ≡ asked_by old))
   pub all : AreSpare rules (contents s) before → IsSparingTurns rules (contents s) before old

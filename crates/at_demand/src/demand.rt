@@ -10,13 +10,12 @@ ghost use Rattle.at_cache.specs.Traced.{StayTraced};
 ghost use Rattle.at_demand.specs.Answerable.{CanBeAsked, CanBeKept, CanBeKeptLazily};
 ghost use Rattle.at_demand.specs.Known.{meaning};
 ghost use Rattle.at_demand.specs.Made.{Makes};
-ghost use Rattle.at_demand.specs.Went.{Went};
 ghost use Rattle.at_demand.specs.Keeping.{IsKeptWhereLazy, IsPlaced, IsPut};
 ghost use Rattle.at_demand.specs.Answered.{Forgets, IsAnswered, is_over};
 ghost use Rattle.at_demand.specs.Reasons.{AreLed};
 ghost use Rattle.at_demand.specs.Sparing.{AreSpare, HasWorthy};
 ghost use Rattle.at_demand.specs.Inner.{Gains};
-ghost use Rattle.at_demand.specs.InParts.{AreHeld};
+ghost use Rattle.at_demand.specs.InParts.{AreHeld, HasGrown, held};
 ghost use Rattle.at_demand.specs.Traces.{StayJustified};
 
 mod recalling;
@@ -208,11 +207,9 @@ impl<K: Keeper> Demand<K> {
     ) -> Result<usize, AllocError>
         requires idle { IsIdle store.now }
         requires held { AreHeld rules.now store.now (K.contents self.old.keeper) (K.memories self.old.keeper) self.old.work self.old.made }
-        ensures gains { Gains rules.now store.now question.now.inst (K.contents self.old.keeper) (K.contents self.new.keeper) [] []
-            self.old.work self.new.work }
-        ensures led { AreLed rules.now store.now question.now.inst (K.contents self.old.keeper) (K.contents self.new.keeper) }
-        ensures traces { StayJustified rules.now store.now question.now.inst (K.memories self.old.keeper) (K.memories self.new.keeper) }
-        ensures went { Went (K.memories self.old.keeper) self.old.made (K.memories self.new.keeper) self.new.made }
+        ensures { HasGrown rules.now store.now question.now.inst
+            (held (K.contents self.old.keeper) (K.memories self.old.keeper) [] self.old.work self.old.made)
+            (held (K.contents self.new.keeper) (K.memories self.new.keeper) [] self.new.work self.new.made) }
     {
         self.keep_again(&question.inst);
         let worth = self.caution.is_worth(rules, question, is_new, due);

@@ -86,7 +86,8 @@ pub fn what_stays_traced_is_right()
 {}
 
 /// What could be kept again is made by a question only if, since then, an edit touched what was looked at for its value, or something that was
-/// used for it was put with another value, or a turn put it itself, or an edit let go of it, since much more was in memory than was kept.
+/// used for it was put with another value, or a turn put it itself, or an edit let go of it, whatever it touched: since more was in memory than
+/// the engine's bound allows, or much more than was kept.
 pub fn what_is_made_again_has_a_cause()
     ensures { (old new later : Memories) (first k l : ℕ) (w : Went old first new k) (e f : Entries) (x : Makes e f new later k l)
         → (i : Instance ℕ) (t : Trace) → old.traced i ≡ Some t → Among i x.made → HasCause old first i t later l (asked new later e f k l w x) }

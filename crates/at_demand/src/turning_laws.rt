@@ -1,6 +1,6 @@
 //! Laws of questions that are given turns: each is the contract of a function that does nothing.
 
-ghost use Rattle.std.specs.Prelude.{Bool, Option, [], ◌≡◌, ◌⊎◌, ◌≤◌, ◌+◌, ◌*◌, IsSome, None, Some, false, length, ℕ};
+ghost use Rattle.std.specs.Prelude.{Option, [], ◌≡◌, ◌⊎◌, ◌≤◌, ◌+◌, ◌*◌, IsSome, None, Some, false, length, ℕ};
 ghost use Rattle.at_model.specs.Alike.{InstanceLike, Names};
 ghost use Rattle.at_model.specs.Asking.{IsWellFormed};
 ghost use Rattle.at_model.specs.Instances.{instances};

@@ -12,5 +12,4 @@ pub mod Reading
 pub mod Bounding
 pub mod Awaiting
 pub mod Settling
-pub mod TurnedSo
 pub mod Waiting

@@ -1,9 +1,7 @@
 -- What turns come to, by the position of their question.
 use Rattle.std.specs.declared.alloc.AllocError.{AllocError}
-use Rattle.std.specs.Prelude.{◌≡◌, ◌⊎◌, ℕ, ◌+◌, ◌<◌, ◌≤◌, Bool, true, false, List, Option, Some, None, Result, Ok, Err, IfNone, IfOk, IfSome, OnErr, length, remove, slice_get, slice_set}
-use Rattle.std.specs.Option.{option_map}
+use Rattle.std.specs.Prelude.{◌≡◌, ◌⊎◌, ℕ, ◌+◌, ◌<◌, ◌≤◌, Bool, true, false, List, Option, Some, None, Result, Ok, Err, IfNone, IfSome, length, remove, slice_get, slice_set}
 use Rattle.at_model.specs.Alike.{AnswerLike, InstanceLike, Names}
-use Rattle.at_model.specs.Asking.{IsWellFormed}
 use Rattle.at_model.specs.Lines.{Command}
 use Rattle.at_model.specs.Machine.{State, Asks, Refuses, Waits, answer_form, obeyed}
 use Rattle.at_model.specs.Meaning.{Answer}
@@ -12,24 +10,16 @@ use Rattle.at_model.specs.Replies.{Code, Form as FormOf, Reply}
 use Rattle.at_model.specs.Rules.{Rules}
 use Rattle.at_model.specs.Run.{Contents, Instance}
 use Rattle.at_model.specs.Turning.{posted}
-use Rattle.at_model.specs.of_fixpoints.Circles.{Answers}
 use Rattle.at_model.specs.of_fixpoints.Searching.{Search, posted as search_posted}
 use Rattle.at_protocol.specs.ReplyView.{code_view}
 use Rattle.at_protocol.specs.declared.reply.Form.{Form}
 use Rattle.at_rules.specs.Circular.{HasNoneCircular}
 use Rattle.at_store.specs.Shown.{Shown, contents, path, tree}
 use Rattle.at_cache.specs.Kept.{Entries}
-use Rattle.at_cache.specs.Traced.{Memories, StayTraced}
-use Rattle.at_demand.specs.Answerable.{CanTurn as CanBeTurned}
-use Rattle.at_demand.specs.Answered.{HasWorthyFor, IsOfUse}
-use Rattle.at_demand.specs.Groups.{KeepsGroups}
-use Rattle.at_demand.specs.Known.{answer_view, kept_values, meaning, ArePlain}
+use Rattle.at_cache.specs.Traced.{Memories}
+use Rattle.at_demand.specs.Answered.{HasWorthyFor}
 use Rattle.at_demand.specs.Levels.{StandsFor, asked_by}
-use Rattle.at_demand.specs.Meant.{AreRightValues}
-use Rattle.at_demand.specs.Right.{AreRight, IsThere}
-use Rattle.at_demand.specs.Sparing.{AddsWorthy, AreSpare}
-use Rattle.at_demand.specs.Turns.{AreTurns as AreTurnsOfSearch, AreTurnsOfChain, BreaksOff as BreaksOffSearch, BreaksOffChain, IsSparingTurns, IsStanding, under_way}
-use Rattle.at_demand.specs.declared.answer.Answer.{Answer as AnswerCode}
+use Rattle.at_demand.specs.Turns.{AreTurns as AreTurnsOfSearch, AreTurnsOfChain, BreaksOff as BreaksOffSearch, BreaksOffChain, IsSparingTurns, under_way}
 use Rattle.at_demand.specs.declared.demand.Demand.{Demand}
 use Rattle.at_demand.specs.declared.question.Question.{Question}
 use Rattle.at_engine.specs.Engines.{rules_of, state_of, IsHeld, IsSound, IsTyped}
@@ -96,12 +86,6 @@ Begins rules s entries p o (begun.Refused r) = words_verdict rules (tree s) (pos
 abbrev pub BeginsSparing : Rules → Contents ℕ → Entries → Begun → Type 0
 BeginsSparing rules look entries (begun.Question q) = IsSparingTurns rules look entries q
 BeginsSparing rules look entries (begun.Refused r) = Unit {0}
-
--- the number's instance is one for which words can ask
-pub record IsAskedOf (rules : Rules) (s : Shown) (i : Instance ℕ) : Type 0 where
-  pub named : Instance Node
-  pub like : InstanceLike (Names (path s)) i named
-  pub formed : IsWellFormed rules (tree s) named
 
 -- the words of the question are refused
 pub record AreRefused {K : Type 0} (e : Engine K) (p : Posted) : Type 0 where
@@ -274,31 +258,3 @@ pub record TakesOff {K : Type 0} (entries : K → Entries) (memories : K → Mem
   pub rest : new ≡ record old { posts = record new.posts { count = old.posts.count } }
   pub spare : IsSpare entries old → IsSpare entries new
   pub sound : IsHeld entries memories new
-
--- what is done for the question stands on the tree, and its answer can be found
-pub record CanAnswer (rules : Rules) (s : Shown) (entries : Entries) (q : Question) : Type 0 where
-  pub turns : CanBeTurned rules s entries q
-  pub named : IsAskedOf rules s (asked_by q)
-
--- It was given turns: so many, or fewer where one of them answers it, or, without a limit, until one does. What is kept is right still;
--- what was spare is so still, where groups are kept whole, and where it was answered all that is worthy of it is kept then; and nothing
--- is traced anew.
-pub record HasTurnedUpTo {E : Type 0} (rules : Rules) (s : Shown) (limit : Option ℕ) (before after : Entries)
-    (earlier later : Memories) (old new : Question) (r : Result (ℕ × Option AnswerCode) E) : Type 0 where
-  pub each : IfOk r (λ g. (given : ℕ) × CountsTurns limit given g.0 (option_map answer_view g.1)
-      × AreTurns rules s earlier given before (Some old) (asked_by old) after new (option_map answer_view g.1))
-  pub broke : OnErr r (BreaksOffIn rules s earlier limit before (Some old) (asked_by old) after)
-  pub same : IfOk r (λ g. IfNone g.1 (asked_by new ≡ asked_by old))
-  pub answers : IfOk r (λ g. IfSome g.1 (λ a. Answers (contents s) (meaning rules) (asked_by old) (answer_view a)))
-  pub all : AreSpare rules (contents s) before → IsSparingTurns rules (contents s) before old
-      → IfOk r (λ g. IfSome g.1 (λ a. HasWorthyFor rules (contents s) (asked_by old) (answer_view a) after))
-  pub standing : IfOk r (λ g. IsOfUse rules g.1 (IsStanding rules s after new))
-  pub right : AreRightValues (contents s) (meaning rules) (kept_values after)
-  pub worthy : AddsWorthy rules (contents s) (asked_by old) before after
-  pub stays : IsThere s (asked_by old) → AreRight rules s before → AreRight rules s after
-  pub plain : ArePlain rules after
-  pub spare : KeepsGroups rules r → AreSpare rules (contents s) before → IsSparingTurns rules (contents s) before old
-      → AreSpare rules (contents s) after
-  pub sparing : AreSpare rules (contents s) before → IsSparingTurns rules (contents s) before old
-      → IfOk r (λ g. IsOfUse rules g.1 (IsSparingTurns rules (contents s) after new))
-  pub traces : StayTraced earlier later

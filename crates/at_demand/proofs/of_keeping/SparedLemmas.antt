@@ -1,4 +1,4 @@
--- Over an edit that is done, an exact keeper has just what rests on nothing that the edit touches, and that is spare.
+-- Over an edit that is done, where an entry goes only for what it touches, just what rests on nothing that it touches is kept, and that is spare.
 use Rattle.std.proofs.Common.{◌≡◌, true, Ok}
 use Rattle.at_model.specs.Trees.{Tree, conforms}
 use Rattle.at_model.specs.Rules.{Rules}

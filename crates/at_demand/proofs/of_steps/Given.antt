@@ -1,5 +1,6 @@
 -- What turns that follow each other come to, none of which answers the question.
-use Rattle.std.proofs.Common.{◌≡◌, ◌+◌, ◌<◌, ◌^◌, ℕ, suc, Bool, true, false, [], Option, Some, None, Result, Ok, Err, refl, sym, ap, ◌∙◌, subst, arith}
+use Rattle.std.proofs.Common.{◌≡◌, ◌+◌, ◌<◌, ◌≤◌, ◌^◌, ℕ, suc, Bool, true, false, not, true≢false, [], Option, Some, None, is_some, Result, Ok, Err, refl, sym, ap, ◌∙◌, subst, arith}
+use Rattle.std.specs.Option.{unwrap_or}
 use Rattle.std.specs.declared.alloc.AllocError.{AllocError}
 use Rattle.at_model.specs.Rules.{Rules}
 use Rattle.at_model.specs.Run.{Instance}
@@ -15,7 +16,7 @@ use Rattle.at_demand.specs.declared.question.Question.{Question}
 use Rattle.at_demand.specs.declared.trials.Trials.{Trials}
 use Rattle.at_demand.specs.Answerable.{IsBasis}
 use Rattle.at_demand.specs.Again.{HasKeptAgain, KeepsAgain}
-use Rattle.at_demand.specs.Answered.{GainsAtMost, HasTurnedOften, HasTurnedWith, HasWorthyFor}
+use Rattle.at_demand.specs.Answered.{GainsAtMost, HasTurnedOften, HasTurnedWith, HasWorthyFor, most_turns}
 use Rattle.at_demand.specs.Inner.{Gains}
 use Rattle.at_demand.specs.Known.{ArePlain, answer_view, equations, kept_values, meaning}
 use Rattle.at_demand.specs.Levels.{StandsFor, asked_by}
@@ -32,6 +33,7 @@ use Rattle.at_demand.proofs.Standing.{answers_right, asked_same, last_led, sound
 use Rattle.at_demand.proofs.of_nesting.InnerGains.{gains_up, known_none}
 use Rattle.at_demand.proofs.of_steps.Grown.{spares_grown, stands_grown, stands_more}
 use Rattle.at_demand.proofs.of_steps.KeptAgain.{again_before, gains_again}
+use Rattle.at_demand.proofs.of_steps.Turning.{gains_none}
 use Rattle.at_demand.proofs.of_traces.Justified.{stay_justified}
 use Rattle.at_demand.proofs.of_traces.Settled.{LastKept, settled_demanded}
 
@@ -54,6 +56,15 @@ pub record HasGivenSo (rules : Rules) (s : Shown) (m : Memories) (first now : En
 
 one_up : (P : ℕ → Type 0) (n : ℕ) → P (suc n) → P (n + 1)
 one_up P n p = let e : suc n ≡ n + 1 = omega arith in subst P e p
+
+-- no number of turns that is counted is greater
+abbrev greatest : ℕ
+greatest = 18446744073709551615
+
+-- what is less than stands in for the limit may be given
+pub below_most : (limit : Option ℕ) (given most : ℕ) → most ≡ unwrap_or limit greatest → given < most → given < most_turns limit
+below_most None given most fits less = omega (arith, fits, less)
+below_most (Some limit) given most fits less = omega (arith, fits, less)
 
 -- so many turns, and the answer behind them
 abbrev pub with_answer : ℕ → Option AnswerCode → ℕ × Option AnswerCode
@@ -181,7 +192,7 @@ module _ (rules : Rules) (s : Shown) (m : Memories) (basis : IsBasis rules s) (f
     }
 
     -- and the last one answers the question
-    pub given_answered : (limit : ℕ) (a : AnswerCode) → given < limit →
+    pub given_answered : (limit : Option ℕ) (a : AnswerCode) → given < most_turns limit →
         HasTurnedWith {E = AllocError} rules s mid new x y q p t (Ok (Some a)) →
         HasTurnedOften {E = AllocError} rules s m first new w y limit old p (Ok (with_answer (given + 1) (Some a)))
     given_answered limit a less e = record {
@@ -202,6 +213,7 @@ module _ (rules : Rules) (s : Shown) (m : Memories) (basis : IsBasis rules s) (f
             turns.more given first mid new u v z (Some (answer_view a)) each turned (e.gains.last.searched v stands) e.gains.right,
             λ none. absurd (no_answer none),
           );
+      ended = λ none. refl;
       broke = λ u st. tt;
       counted = tt;
       same = tt;
@@ -223,7 +235,7 @@ module _ (rules : Rules) (s : Shown) (m : Memories) (basis : IsBasis rules s) (f
         no_answer e = cc
 
     -- or breaks off
-    pub given_broken : (limit : ℕ) (r : Result (ℕ × Option AnswerCode) AllocError) (f : AllocError) → r ≡ Err f → given < limit →
+    pub given_broken : (limit : Option ℕ) (r : Result (ℕ × Option AnswerCode) AllocError) (f : AllocError) → r ≡ Err f → given < most_turns limit →
         {Whole : Type 0} → (HasNoneCircular rules → Whole) → GainsAtMost rules s mid new x y q Whole → HasTurnedOften {E = AllocError} rules s m first new w y limit old p r
     given_broken limit r f is less {Whole} keeps g = subst (λ z. HasTurnedOften {E = AllocError} rules s m first new w y limit old p z) (sym is) (record {
       plainly = λ none. record {
@@ -233,6 +245,7 @@ module _ (rules : Rules) (s : Shown) (m : Memories) (basis : IsBasis rules s) (f
             record { given = given; fewer = less; mid = mid; way = under_way q; turns = each; last = g.last.plainly none };
       };
       given = λ u st. tt;
+      ended = λ none. tt;
       broke = λ u st. let (v, silent, each, stands) = inv.searched u st in
           record { given = given; fewer = less; mid = mid; way = v; turns = each; last = g.last.searched v stands };
       counted = tt;
@@ -250,11 +263,14 @@ module _ (rules : Rules) (s : Shown) (m : Memories) (basis : IsBasis rules s) (f
     })
 
   -- all of them were given
-  pub given_all : (now : Entries) (x given limit : ℕ) (new : Question) → So now x given new → given ≡ limit →
-      HasTurnedOften {E = AllocError} rules s m first now w x limit old new (Ok (with_answer given None))
-  given_all now x given limit new inv full = record {
-    plainly = λ none. let (each, silent) = inv.plainly none in record { given = (full, silent); each = each; broke = tt };
-    given = λ u st. let (v, silent, each, stands) = inv.searched u st in (v, (full, silent), each, λ e. stands);
+  pub given_all : (now : Entries) (x given most : ℕ) (limit : Option ℕ) (b : Bool) (new : Question) → So now x given new → is_some limit ≡ not b
+      → b ≡ false → most ≡ unwrap_or limit greatest → given ≡ most
+      → HasTurnedOften {E = AllocError} rules s m first now w x limit old new (Ok (with_answer given None))
+  given_all now x given most None b new inv is some fits full = absurd (true≢false (sym (is ∙ ap not some)))
+  given_all now x given most (Some limit) b new inv is some fits full = record {
+    plainly = λ none. let (each, silent) = inv.plainly none in record { given = (full ∙ fits, silent); each = each; broke = tt };
+    given = λ u st. let (v, silent, each, stands) = inv.searched u st in (v, (full ∙ fits, silent), each, λ e. stands);
+    ended = λ none. absurd (no_limit none);
     broke = λ u st. tt;
     counted = inv.turns;
     same = inv.same;
@@ -269,3 +285,16 @@ module _ (rules : Rules) (s : Shown) (m : Memories) (basis : IsBasis rules s) (f
     sparing = λ spare sparing. (inv.spare spare sparing).1;
     counts = inv.counts;
   }
+    where
+      no_limit : Some limit ≡ None → ⊥
+      no_limit e = cc
+
+  -- without a limit, where no more of them can be counted
+  pub given_out : (now : Entries) (x given most : ℕ) (limit : Option ℕ) (b : Bool) (new : Question) (t : Trials) → So now x given new
+      → x < 2 ^ 64 → is_some limit ≡ not b → b ≡ true → most ≡ unwrap_or limit greatest → given ≤ most → (f : AllocError)
+      → HasTurnedOften {E = AllocError} rules s m first now w x limit old new (Err f)
+  given_out now x given most None b new t inv few is none fits within f =
+      let less : given < 2 ^ 64 = omega (arith, fits, within) in
+      given_broken now x given new inv now x new t None (Err f) f refl less {Whole = Unit {0}} (λ none. tt)
+      (gains_none rules s now x few new inv.sound.right inv.plain)
+  given_out now x given most (Some limit) b new t inv few is none fits within f = absurd (true≢false (is ∙ ap not none))

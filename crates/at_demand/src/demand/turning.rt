@@ -52,8 +52,8 @@ impl<K: Keeper> Demand<K> {
         Ok(Question::new(self.alloc, inst))
     }
 
-    /// So many turns of a question that was posted on the tree as it is, or fewer where one of them answers it: how many they
-    /// were, from 0 up to the limit, and its answer, if there is one. In each, where the keeper says that turns do so, what can be kept again with
+    /// So many turns of a question that was posted on the tree as it is, or fewer where one of them answers it; without a limit, turns until one
+    /// does. How many they were, from 0 up to the limit, and its answer, if there is one. In each, where the keeper says that turns do so, what can be kept again with
     /// no evaluation is kept first, of the last instance, what it used, and so on. Then at most one equation is tried, once, and at most the values of the last instance and of
     /// those that searches under way have seen come to what is kept. Where that doesn't answer it, its chain has one level more, or the
     /// equation of its last instance has ended. A trial that was begun is gone on with, and not begun anew. An error where memory is
@@ -63,7 +63,7 @@ impl<K: Keeper> Demand<K> {
         rules: &Rules,
         store: &Store,
         question: &mut Question,
-        limit: u64,
+        limit: Option<u64>,
     ) -> Result<(u64, Option<Answer>), AllocError>
         requires can { CanTurn rules.now store.now (K.contents self.old.keeper) question.old }
         requires justified { AreJustified rules.now (contents store.now) (K.memories self.old.keeper) }
@@ -75,14 +75,18 @@ impl<K: Keeper> Demand<K> {
         self.sharing.clear();
         let again = self.keeper.keeps_in_turns();
         let mut trials = Trials::new(self.alloc);
+        let most = limit.unwrap_or(u64::MAX);
         let mut given = 0;
-        while given < limit {
+        while given < most {
             self.keep_again_in_turns(again, &question.inst);
             let told = self.turn_with(rules, store, question, &mut trials)?;
             given += 1;
             if let Some(answer) = told {
                 return Ok((given, Some(answer)));
             }
+        }
+        if limit.is_none() {
+            return Err(AllocError);
         }
         Ok((given, None))
     }

@@ -1,6 +1,6 @@
 //! What is done at the end of an evaluation in one go, and with what is known: it is told, kept, kept again or remembered.
 
-ghost use Rattle.std.specs.Prelude.{◌≡◌, ◌≢◌, IfNone, IfOk, IfSome, OnErr, OnOk, IsTrue, None, Some, false, true};
+ghost use Rattle.std.specs.Prelude.{◌≡◌, ◌≢◌, IfNone, IfOk, IfSome, OnErr, OnOk, None, Some, false, true};
 ghost use Rattle.std.specs.Option.{option_map};
 ghost use Rattle.at_model.specs.Rules.{is_lazy, start_of};
 ghost use Rattle.at_store.specs.Shown.{contents};

@@ -1,8 +1,10 @@
 -- What comes of turns of the question at a position.
 use Rattle.std.proofs.Common.{◌≡◌, ℕ, ◌<◌, List, [], length, Option, Some, None, Result, Ok, Err, refl, sym, ap, ◌∙◌, subst, inl, inr}
 use Rattle.std.specs.Prelude.{slice_get, slice_set, IfSome}
+use Rattle.std.specs.Option.{option_map}
 use Rattle.at_model.specs.Edits.{max_nodes}
 use Rattle.at_model.specs.Alike.{AnswerLike, InstanceLike, Names}
+use Rattle.at_model.specs.Asking.{IsWellFormed}
 use Rattle.at_model.specs.Machine.{answer_form, line_of}
 use Rattle.at_model.specs.Meaning.{Answer}
 use Rattle.at_model.specs.Paths.{Node}
@@ -14,12 +16,14 @@ use Rattle.at_protocol.specs.declared.reply.Form.TheVariants as form
 use Rattle.at_protocol.specs.declared.reply.Refusal.{Refusal}
 use Rattle.at_store.specs.Shown.{contents, path, tree}
 use Rattle.at_cache.specs.Kept.{Entries}
-use Rattle.at_cache.specs.Traced.{Memories}
+use Rattle.at_cache.specs.Traced.{Memories, StayTraced}
 use Rattle.at_demand.specs.Known.{answer_view}
-use Rattle.at_demand.specs.Answerable.{IsBasis}
+use Rattle.at_demand.specs.Answerable.{CanTurn as CanBeTurned, IsBasis}
+use Rattle.at_demand.specs.Answered.{HasTurnedOften}
 use Rattle.at_demand.specs.Groups.{KeepsGroups}
 use Rattle.at_demand.specs.Levels.{asked_by}
 use Rattle.at_demand.specs.Right.{IsThere}
+use Rattle.at_demand.specs.Sound.{AreSound}
 use Rattle.at_demand.specs.Turns.{IsSparingTurns}
 use Rattle.at_demand.specs.declared.answer.Answer.{Answer as AnswerCode}
 use Rattle.at_demand.specs.declared.demand.Demand.{Demand}
@@ -29,7 +33,7 @@ use Rattle.at_engine.specs.Holding.{AreKeptTyped, HasBegun, IsBegunFor, IsPosted
 use Rattle.at_engine.specs.Keeping.{IsSpare, IsSparingOn}
 use Rattle.at_engine.specs.Posted.{posted_view}
 use Rattle.at_engine.specs.Telling.{IsAnswerTo, IsToldAs}
-use Rattle.at_engine.specs.Turning.{Attends, Begins, BeginsSparing, BreaksOffIn, Came, CameFrom, CanAnswer, CanTurn, HasGone, HasTurnedUpTo, IsBegun, Reopens, TakesOut, StandsAt}
+use Rattle.at_engine.specs.Turning.{AreTurns, Attends, Begins, BeginsSparing, BreaksOffIn, Came, CameFrom, CanTurn, CountsTurns, HasGone, IsBegun, Reopens, TakesOut, StandsAt}
 use Rattle.at_engine.specs.declared.engine.Engine.{Engine}
 use Rattle.at_engine.specs.declared.engine.turning.Begun.{Begun}
 use Rattle.at_engine.specs.declared.engine.turning.Begun.TheVariants as begun
@@ -41,6 +45,7 @@ use Rattle.at_engine.proofs.Numbered.{answer_named}
 use Rattle.at_engine.proofs.of_keeping.KeptTyped.{basis_held, sound_typed, typed_more}
 use Rattle.at_engine.proofs.of_turns.Counted.{breaks_behind, breaks_from, counts_refused, counts_same, silent_same, turns_from}
 use Rattle.at_engine.proofs.of_turns.Openings.{sound_grown, sound_reopened, spare_grown, spare_reopened}
+use Rattle.at_engine.proofs.of_turns.Settling.{broken as breaks_off, counted}
 use Rattle.at_engine.proofs.Positions.{get_set, holds_at, same_there, set_set, there_at, within_set}
 use Rattle.at_engine.proofs.of_turns.Wordings.{answers_asked, answers_refused}
 use Rattle.at_engine.proofs.Typing.{numbered_typed}
@@ -190,50 +195,47 @@ module _ {K : Type 0} (kept : K → Entries) (memories : K
     basis : IsBasis (rules_of e) e.store
     basis = basis_held kept memories e it.held typed
 
-    pub can_answer : (q : Question) → IsBegun (rules_of e) e.store entries bare o q → CanAnswer (rules_of e) e.store entries q
-    can_answer q b =
-        let v = posted_view (path e.store) bare in
-        record {
-          turns = record {
-            answerable = record { basis = basis; right = it.held.right.values; plain = it.held.right.plain };
-            standing = b.begun.standing;
-            wholes = (sound_typed (rules_of e) e.store basis entries it.held.right.values it.held.typed).whole;
-          };
-          named = record {
-            named = b.begun.named;
-            like = b.begun.like;
-            formed = well_asked (rules_of e)
-                (record { tree = tree e.store; limit = max_nodes; version = 0; marks = v.marks; posts = 0; posted = [] })
-                (line_of v) b.begun.named b.begun.asks;
-          };
-        }
+    sound : AreSound (rules_of e) e.store entries
+    sound = sound_typed (rules_of e) e.store basis entries it.held.right.values it.held.typed
+
+    pub can_be_turned : (q : Question) → IsBegun (rules_of e) e.store entries bare o q → CanBeTurned (rules_of e) e.store entries q
+    can_be_turned q b = record {
+      answerable = record { basis = basis; right = it.held.right.values; plain = it.held.right.plain };
+      standing = b.begun.standing;
+      wholes = sound.whole;
+    }
 
     module _ (q : Question) (b : IsBegun (rules_of e) e.store entries bare o q)
         (sparing : IsSpare kept e → IsSparingTurns (rules_of e) (contents e.store) entries q) where
       there_asked : IsThere e.store (asked_by q)
       there_asked = (b.begun.named, b.begun.like)
 
+      formed : IsWellFormed (rules_of e) (tree e.store) b.begun.named
+      formed =
+          let v = posted_view (path e.store) bare in
+          well_asked (rules_of e)
+          (record { tree = tree e.store; limit = max_nodes; version = 0; marks = v.marks; posts = 0; posted = [] })
+          (line_of v) b.begun.named b.begun.asks
+
       came : CameFrom (rules_of e) e.store entries it.posted.question q
       came = subst (λ (x : Option Question). CameFrom (rules_of e) e.store entries x q) it.same b.came
 
       -- it was given turns
       module _ {E' : Type 0} (d : Demand K) (later : Question) (r : Result (ℕ × Option AnswerCode) E')
-          (h : HasTurnedUpTo (rules_of e) e.store limit entries (kept d.keeper) (memories e.demand.keeper)
-          (memories d.keeper) q later r) where
+          (h : HasTurnedOften (rules_of e) e.store (memories e.demand.keeper) entries (kept d.keeper) e.demand.work d.work limit q later r)
+          (traces : StayTraced (memories e.demand.keeper) (memories d.keeper)) where
         abbrev more : Entries
         more = kept d.keeper
 
         typed_later : AreKeptTyped (rules_of e) e.store more
-        typed_later =
-            let named = (can_answer q b).named in
-            typed_more (rules_of e) e.store basis (asked_by q)
-            (numbered_typed (rules_of e) e.store (asked_by q) named.named named.like named.formed) entries more h.worthy it.held.typed
+        typed_later = typed_more (rules_of e) e.store basis (asked_by q)
+            (numbered_typed (rules_of e) e.store (asked_by q) b.begun.named b.begun.like formed) entries more h.worthy it.held.typed
 
         pub sound_more : IsSoundWith (rules_of e) e.store (marks_of e) t more (memories d.keeper)
         sound_more = sound_grown (rules_of e) e.store entries more h.worthy.stays (marks_of e) t sound_taken
             (h.stays there_asked it.held.right) typed_later
             (remembered_still (rules_of e) e.store (memories e.demand.keeper)
-            (memories d.keeper) h.traces it.held.remembered)
+            (memories d.keeper) traces it.held.remembered)
 
         spare_more : KeepsGroups (rules_of e) r → IsSpare kept e → IsSpare kept (record e { posts = t; demand = d })
         spare_more whole was = record {
@@ -264,37 +266,43 @@ module _ {K : Type 0} (kept : K → Entries) (memories : K
               (broken r failed h)
             where
               broken : (x : Result (ℕ × Option AnswerCode) E') → x ≡ Err f
-                  → HasTurnedUpTo (rules_of e) e.store limit entries more (memories e.demand.keeper)
-                  (memories d.keeper) q later x
+                  → HasTurnedOften (rules_of e) e.store (memories e.demand.keeper) entries more e.demand.work d.work limit q later x
                   → BreaksOffIn (rules_of e) e.store (memories e.demand.keeper) limit entries (Some q) (asked_by q) more
               broken (Ok g) failed h = absurd cc
-              broken (Err f) failed h = h.broke
+              broken (Err f) failed h = breaks_off E' (rules_of e) e.store limit entries more e.demand.work d.work (memories e.demand.keeper) q later
+                  b.begun.standing sound f h
 
       module _ (d : Demand K) (later : Question) (turns : ℕ) where
         abbrev grown : Entries
         grown = kept d.keeper
 
+        abbrev Turned : (E' : Type 0) → Option AnswerCode → Type 0
+        Turned E' a = HasTurnedOften {E = E'} (rules_of e) e.store (memories e.demand.keeper) entries grown e.demand.work d.work limit q later
+            (Ok (turns, a))
+
+        given_so : (E' : Type 0) (a : Option AnswerCode) → Turned E' a → (given : ℕ) × CountsTurns limit given turns (option_map answer_view a)
+            × AreTurns (rules_of e) e.store (memories e.demand.keeper) given entries (Some q) (asked_by q) grown later (option_map answer_view a)
+        given_so E' a h = counted E' (rules_of e) e.store limit entries grown e.demand.work d.work (memories e.demand.keeper) q later
+            b.begun.standing sound (turns, a) h
+
         -- its answer can't be told
-        pub untold : {E E' : Type 0} (a : AnswerCode)
-            (h : HasTurnedUpTo {E = E'} (rules_of e) e.store limit entries grown (memories e.demand.keeper)
-            (memories d.keeper) q later (Ok (turns, Some a)))
+        pub untold : {E E' : Type 0} (a : AnswerCode) (h : Turned E' (Some a)) (traces : StayTraced (memories e.demand.keeper) (memories d.keeper))
             (result : Result (ℕ × Option Form) E) (e' : E) → result ≡ Err e'
             → Attends kept memories e (record e { posts = t; demand = d }) position
             (λ p. HasGone kept memories limit e (record e { posts = t; demand = d }) position p result) (KeepsGroups (rules_of e) result)
-        untold {E} {E'} a h result e' is = without_memory {E' = E'} d later (Ok (turns, Some a)) h result e' is (λ whole. tt)
-            (breaks_behind (rules_of e) e.store (memories e.demand.keeper) entries (Some q) (asked_by q) grown later (answer_view a) limit turns h.each)
+        untold {E} {E'} a h traces result e' is = without_memory {E' = E'} d later (Ok (turns, Some a)) h traces result e' is (λ whole. tt)
+            (breaks_behind (rules_of e) e.store (memories e.demand.keeper) entries (Some q) (asked_by q) grown later (answer_view a) limit turns
+            (given_so E' (Some a) h))
 
         -- it is told
-        pub told : {E E' : Type 0} (a : AnswerCode)
-            (h : HasTurnedUpTo {E = E'} (rules_of e) e.store limit entries grown (memories e.demand.keeper)
-            (memories d.keeper) q later (Ok (turns, Some a)))
+        pub told : {E E' : Type 0} (a : AnswerCode) (h : Turned E' (Some a)) (traces : StayTraced (memories e.demand.keeper) (memories d.keeper))
             (f : Form) → ((x : Answer Node) → AnswerLike (Names (path e.store)) (answer_view a) x
             → IsToldAs (rules_of e) (tree e.store) x f)
             → Attends kept memories e (record e { posts = t; demand = d }) position
             (λ p. HasGone {E = E} kept memories limit e (record e { posts = t; demand = d }) position p (Ok (turns, Some f))) (Unit {0})
-        told {E} {E'} a h f tells =
+        told {E} {E'} a h traces f tells =
             let new : Engine K = record e { posts = t; demand = d } in
-            let (given, counts, each) = h.each in
+            let (given, counts, each) = given_so E' (Some a) h in
             let v = posted_view (path e.store) it.posted in
             let (x, like, answers) = answer_named (rules_of e) e.store it.held.idle (asked_by q) b.begun.named
             (answer_view a) b.begun.like h.answers in
@@ -306,8 +314,8 @@ module _ {K : Type 0} (kept : K → Entries) (memories : K
               answers = answers_asked (rules_of e) (state_of e) v b.begun.named x b.begun.asks answers;
             } in
             attended kept memories e position limit new it.posted it.there None it.opens refl
-            (sound_more {E' = E'} d later (Ok (turns, Some a)) h) {E = E} (Ok (turns, Some f))
-            (λ whole spare. spare_more {E' = E'} d later (Ok (turns, Some a)) h tt spare) (
+            (sound_more {E' = E'} d later (Ok (turns, Some a)) h traces) {E = E} (Ok (turns, Some f))
+            (λ whole spare. spare_more {E' = E'} d later (Ok (turns, Some a)) h traces tt spare) (
               given,
               counts_same limit given turns (answer_view a) f counts,
               said,
@@ -329,15 +337,13 @@ module _ {K : Type 0} (kept : K → Entries) (memories : K
             )
 
         -- it has no answer yet
-        pub not_yet : {E E' : Type 0}
-            (h : HasTurnedUpTo {E = E'} (rules_of e) e.store limit entries grown (memories e.demand.keeper)
-            (memories d.keeper) q later (Ok (turns, None)))
+        pub not_yet : {E E' : Type 0} (h : Turned E' None) (traces : StayTraced (memories e.demand.keeper) (memories d.keeper))
             (k : Posts) → ((p : Posted) → slice_get t.items.items position ≡ Some p → Reopens position t k p (Some later))
             → Attends kept memories e (record e { posts = k; demand = d }) position
             (λ p. HasGone {E = E} kept memories limit e (record e { posts = k; demand = d }) position p (Ok (turns, None))) (Unit {0})
-        not_yet {E} {E'} h k keeps =
+        not_yet {E} {E'} h traces k keeps =
             let new : Engine K = record e { posts = k; demand = d } in
-            let (given, counts, each) = h.each in
+            let (given, counts, each) = given_so E' None h in
             let put = keeps bare there_still in
             let still : IsBegunFor (rules_of e) e.store grown bare later = record {
               standing = h.standing;
@@ -355,9 +361,9 @@ module _ {K : Type 0} (kept : K → Entries) (memories : K
             attended kept memories e position limit new it.posted it.there (Some later) opens refl
             (sound_reopened (rules_of e) e.store entries grown h.worthy.stays
             (marks_of e) t sound_taken position bare there_still (Some later) k
-            put (h.stays there_asked it.held.right) (typed_later {E' = E'} d later (Ok (turns, None)) h)
+            put (h.stays there_asked it.held.right) (typed_later {E' = E'} d later (Ok (turns, None)) h traces)
             (remembered_still (rules_of e) e.store (memories e.demand.keeper)
-            (memories d.keeper) h.traces it.held.remembered) still)
+            (memories d.keeper) traces it.held.remembered) still)
             {E = E} (Ok (turns, None))
             (λ whole was. record {
               unbounded = was.unbounded;

@@ -1,20 +1,12 @@
 //! Turns of open questions.
 
-ghost use Rattle.std.specs.Prelude.{None};
-ghost use Rattle.at_store.specs.Shown.{contents};
-ghost use Rattle.at_demand.specs.Traces.{AreJustified};
-ghost use Rattle.at_demand.specs.Went.{Went};
-ghost use Rattle.at_engine.specs.Turning.{CanAnswer, HasTurnedUpTo};
-
 use super::asking::Asked;
 use super::saying::{Told, say};
 use super::{Engine, REPLY_ROOM};
 use crate::marks::has_asked;
 use at_cache::Keeper;
-use at_demand::{Answer, Demand, Question};
+use at_demand::Question;
 use at_protocol::reply::{Form, Posting, Refusal};
-use at_rules::Rules;
-use at_store::Store;
 use std::alloc::AllocError;
 
 /// What a turn begins with: what was done for the question, or why its words are refused.
@@ -30,48 +22,6 @@ pub enum Begun {
 pub struct Spent {
     pub turns: u64,
     pub told: Option<bool>,
-}
-
-/// So many turns of a question, or fewer where one of them answers it; without a limit, turns until it is answered. How many
-/// they were, where there is a limit, and its answer.
-fn turns_up_to<K: Keeper>(
-    demand: &mut Demand<K>,
-    rules: &Rules,
-    store: &Store,
-    question: &mut Question,
-    limit: Option<u64>,
-) -> Result<(u64, Option<Answer>), AllocError>
-    requires can { CanAnswer rules.now store.now (K.contents demand.old.keeper) question.old }
-    requires justified { AreJustified rules.now (contents store.now) (K.memories demand.old.keeper) }
-    ensures turned { HasTurnedUpTo rules.now store.now limit (K.contents demand.old.keeper) (K.contents demand.new.keeper)
-        (K.memories demand.old.keeper) (K.memories demand.new.keeper) question.old question.new result }
-    ensures went { Went (K.memories demand.old.keeper) demand.old.made (K.memories demand.new.keeper) demand.new.made }
-{
-    match limit {
-        Some(limit) => demand.turns(rules, store, question, limit),
-        None => all_turns(demand, rules, store, question),
-    }
-}
-
-/// Turns of a question until it is answered: how many the last ones were, and its answer.
-fn all_turns<K: Keeper>(
-    demand: &mut Demand<K>,
-    rules: &Rules,
-    store: &Store,
-    question: &mut Question,
-) -> Result<(u64, Option<Answer>), AllocError>
-    requires can { CanAnswer rules.now store.now (K.contents demand.old.keeper) question.old }
-    requires justified { AreJustified rules.now (contents store.now) (K.memories demand.old.keeper) }
-    ensures turned { HasTurnedUpTo rules.now store.now None (K.contents demand.old.keeper) (K.contents demand.new.keeper)
-        (K.memories demand.old.keeper) (K.memories demand.new.keeper) question.old question.new result }
-    ensures went { Went (K.memories demand.old.keeper) demand.old.made (K.memories demand.new.keeper) demand.new.made }
-{
-    loop {
-        let (turns, answer) = demand.turns(rules, store, question, u64::MAX)?;
-        if let Some(answer) = answer {
-            return Ok((turns, Some(answer)));
-        }
-    }
 }
 
 impl<K: Keeper> Engine<K> {
@@ -211,13 +161,9 @@ impl<K: Keeper> Engine<K> {
             Begun::Question(question) => question,
             Begun::Refused(refusal) => return Ok((1, Some(Form::Refused(refusal)))),
         };
-        let (turns, answer) = turns_up_to(
-            &mut self.demand,
-            &self.rules,
-            &self.store,
-            &mut question,
-            limit,
-        )?;
+        let (turns, answer) = self
+            .demand
+            .turns(&self.rules, &self.store, &mut question, limit)?;
         match answer {
             Some(answer) => Ok((turns, Some(self.told(answer)?))),
             None => {

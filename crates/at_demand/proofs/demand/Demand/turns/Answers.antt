@@ -6,7 +6,7 @@ use Rattle.at_demand.specs.Answered.{HasTurnedWith}
 use Rattle.at_demand.specs.Went.{begun}
 use Rattle.at_store.specs.Shown.{contents}
 use Rattle.at_demand.proofs.Fitting.{fit_grown, none_fit, none_noted}
-use Rattle.at_demand.proofs.of_steps.Given.{given_all, given_answered, given_asked, given_broken, given_more, given_none}
+use Rattle.at_demand.proofs.of_steps.Given.{below_most, given_all, given_answered, given_asked, given_broken, given_more, given_none, given_out}
 use Rattle.at_demand.proofs.of_steps.KeptAgain.{again_stays}
 use Rattle.at_demand.proofs.of_levels.Resolving.{keeps_groups}
 use Rattle.at_demand.proofs.of_traces.TurnsPut.{puts_stay, went_on}
@@ -74,7 +74,7 @@ returns-in_err-told g c =
           (g.K.Keeper.contents c.args.self.now.keeper) c.args.self.now.work c.args.question.now (g.K.Keeper.contents c.keep_again_in_turns.new.self.keeper)
           c.keep_again_in_turns.new.self.work c.loop-given.given c.loop-given.question so
           (g.K.Keeper.contents c.turn_with.new.self.keeper) c.turn_with.new.self.work c.turn_with.new.question c.turn_with.new.trials
-          c.args.limit _ _ is (omega (arith, c.loop-given-test.true))
+          c.args.limit _ _ is (below_most c.args.limit c.loop-given.given c.unwrap_or-most.result c.unwrap_or-most.ensures c.loop-given-test.true)
           (keeps_groups c.args.rules.now c.turn_with.result) c.turn_with.ensures.turned.gains;
       traces = stay_then (g.K.Keeper.memories c.args.self.now.keeper) (g.K.Keeper.memories c.loop-given.self.keeper)
           (g.K.Keeper.memories c.turn_with.new.self.keeper) c.loop-given.invariant.traces
@@ -106,7 +106,8 @@ returns-in-Some g c =
           (g.K.Keeper.contents c.args.self.now.keeper) c.args.self.now.work c.args.question.now (g.K.Keeper.contents c.keep_again_in_turns.new.self.keeper)
           c.keep_again_in_turns.new.self.work c.loop-given.given c.loop-given.question so
           (g.K.Keeper.contents c.turn_with.new.self.keeper) c.turn_with.new.self.work c.turn_with.new.question c.turn_with.new.trials
-          c.args.limit c.in-Some.answer (omega (arith, c.loop-given-test.true)) e;
+          c.args.limit c.in-Some.answer
+          (below_most c.args.limit c.loop-given.given c.unwrap_or-most.result c.unwrap_or-most.ensures c.loop-given-test.true) e;
       traces = stay_then (g.K.Keeper.memories c.args.self.now.keeper) (g.K.Keeper.memories c.loop-given.self.keeper)
           (g.K.Keeper.memories c.turn_with.new.self.keeper) c.loop-given.invariant.traces
           (stay_then (g.K.Keeper.memories c.loop-given.self.keeper) (g.K.Keeper.memories c.keep_again_in_turns.new.self.keeper)
@@ -119,11 +120,22 @@ returns-in-Some g c =
           c.keep_again_in_turns.ensures.made c.keep_again_in_turns.ensures.kept.alike c.turn_with.ensures.traces c.turn_with.ensures.counts;
     }
 
+pub returns-then-is_none : goal.returns-then-is_none
+returns-then-is_none g c = record {
+  turned = given_out c.args.rules.now c.args.store.now (g.K.Keeper.memories c.args.self.now.keeper) c.requires.can.answerable.basis (g.K.Keeper.contents c.args.self.now.keeper)
+      c.args.self.now.work c.args.question.now (g.K.Keeper.contents c.loop-given.self.keeper) c.loop-given.self.work c.loop-given.given c.unwrap_or-most.result
+      c.args.limit c.is_none.result c.loop-given.question c.loop-given.trials c.loop-given.invariant.so c.loop-given.self.few c.is_none.ensures c.if-is_none.true
+      c.unwrap_or-most.ensures c.loop-given.invariant.within _;
+  traces = c.loop-given.invariant.traces;
+  went = c.loop-given.invariant.went;
+}
+
 pub returns : goal.returns
 returns g c = record {
   turned = given_all c.args.rules.now c.args.store.now (g.K.Keeper.memories c.args.self.now.keeper) c.requires.can.answerable.basis (g.K.Keeper.contents c.args.self.now.keeper)
-      c.args.self.now.work c.args.question.now (g.K.Keeper.contents c.loop-given.self.keeper) c.loop-given.self.work c.loop-given.given
-      c.args.limit c.loop-given.question c.loop-given.invariant.so (omega (arith, c.loop-given-test.false, c.loop-given.invariant.within));
+      c.args.self.now.work c.args.question.now (g.K.Keeper.contents c.loop-given.self.keeper) c.loop-given.self.work c.loop-given.given c.unwrap_or-most.result
+      c.args.limit c.is_none.result c.loop-given.question c.loop-given.invariant.so c.is_none.ensures c.if-is_none.false c.unwrap_or-most.ensures
+      (omega (arith, c.loop-given-test.false, c.loop-given.invariant.within));
   traces = c.loop-given.invariant.traces;
   went = c.loop-given.invariant.went;
 }

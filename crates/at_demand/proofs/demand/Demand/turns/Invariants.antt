@@ -10,10 +10,10 @@ invariant-loop-given g l = record {
   so : HasGivenSo l.rules l.store (g.K.Keeper.memories l.initial.self.keeper) (g.K.Keeper.contents l.initial.self.keeper) (g.K.Keeper.contents l.self.keeper)
       l.initial.self.work l.self.work l.given l.initial.question l.question;
   fit : Fit l.rules l.store (g.K.Keeper.contents l.self.keeper) l.question l.trials;
-  within : l.given ≤ l.limit;
+  within : l.given ≤ l.most;
   traces : StayTraced (g.K.Keeper.memories l.initial.self.keeper) (g.K.Keeper.memories l.self.keeper);
   went : Went (g.K.Keeper.memories l.initial.self.keeper) l.initial.self.made (g.K.Keeper.memories l.self.keeper) l.self.made;
 }
 
 abbrev pub decreases-loop-given : goal.decreases-loop-given
-decreases-loop-given g l = l.limit - l.given
+decreases-loop-given g l = l.most - l.given

@@ -2,10 +2,10 @@ use Rattle.std.proofs.Common.{Option, Ok, refl, subst}
 use Rattle.std.proofs.lemmas.Result.{err_from_is_err_and}
 use Rattle.std.specs.declared.alloc.AllocError.{AllocError}
 use Rattle.at_demand.specs.declared.answer.Answer.{Answer as AnswerCode}
+use Rattle.at_demand.specs.Answered.{HasTurnedOften}
 use Rattle.at_demand.specs.Went.{begun}
 use Rattle.at_engine.specs.Engines.{rules_of}
-use Rattle.at_engine.specs.Turning.{HasTurnedUpTo}
-use Rattle.at_engine.proofs.of_turns.Trying.{begun_for, broke_off, can_answer, not_read, not_yet, ready_taken, sound_more, sparing_for, taken, told, untold, was_refused}
+use Rattle.at_engine.proofs.of_turns.Trying.{begun_for, broke_off, can_be_turned, not_read, not_yet, ready_taken, sound_more, sparing_for, taken, told, untold, was_refused}
 use Rattle.at_engine.proofs.engine.Engine.go_on.Goals as goal
 
 pub begin-requires : goal.begin-requires
@@ -40,8 +40,8 @@ returns-in-Refused-clause-attends g c =
     was_refused k m e c.args.position c.args.limit o t it c.in_ok-question.ensures.begins c.in-Refused.refusal
     c.in-Refused.is c.requires.some
 
-pub turns_up_to-requires-clause-can : goal.turns_up_to-requires-clause-can
-turns_up_to-requires-clause-can g c =
+pub turns-requires-clause-can : goal.turns-requires-clause-can
+turns-requires-clause-can g c =
     let e = c.args.self.now in
     let k = g.K.Keeper.contents in
     let m = g.K.Keeper.memories in
@@ -49,10 +49,10 @@ turns_up_to-requires-clause-can g c =
     let o = c.take-begun.result in
     let it = taken k m e c.requires.ready.sound c.args.position c.requires.ready.within o t c.take-begun.ensures in
     let b = begun_for k m e c.args.position c.args.limit o t it c.in_ok-question.ensures.begins c.in-Question.question c.in-Question.is in
-    can_answer k m e c.args.position c.args.limit o t it c.requires.ready.typed c.in-Question.question b
+    can_be_turned k m e c.args.position c.args.limit o t it c.requires.ready.typed c.in-Question.question b
 
-pub turns_up_to-requires-clause-justified : goal.turns_up_to-requires-clause-justified
-turns_up_to-requires-clause-justified g c =
+pub turns-requires-clause-justified : goal.turns-requires-clause-justified
+turns-requires-clause-justified g c =
     let e = c.args.self.now in
     let k = g.K.Keeper.contents in
     let m = g.K.Keeper.memories in
@@ -73,9 +73,9 @@ told-requires g c =
     let it = taken k m e c.requires.ready.sound i c.requires.ready.within o t c.take-begun.ensures in
     let b = begun_for k m e i c.args.limit o t it c.in_ok-question.ensures.begins q c.in-Question.is in
     let s = sparing_for k m e i c.args.limit o t it c.in_ok-question.ensures.sparing q c.in-Question.is in
-    let d = c.turns_up_to.new.demand in
-    let p = c.turns_up_to.new.question in
-    record { sound = sound_more k m e i c.args.limit o t it c.requires.ready.typed q b s d p c.turns_up_to.result c.turns_up_to.ensures.turned }
+    let d = c.turns.new.self in
+    let p = c.turns.new.question in
+    record { sound = sound_more k m e i c.args.limit o t it c.requires.ready.typed q b s d p c.turns.result c.turns.ensures.turned c.turns.ensures.traces }
 
 pub returns-in_err-turns-clause-attends : goal.returns-in_err-turns-clause-attends
 returns-in_err-turns-clause-attends g c =
@@ -89,10 +89,10 @@ returns-in_err-turns-clause-attends g c =
     let it = taken k m e c.requires.ready.sound i c.requires.ready.within o t c.take-begun.ensures in
     let b = begun_for k m e i c.args.limit o t it c.in_ok-question.ensures.begins q c.in-Question.is in
     let s = sparing_for k m e i c.args.limit o t it c.in_ok-question.ensures.sparing q c.in-Question.is in
-    let d = c.turns_up_to.new.demand in
-    let p = c.turns_up_to.new.question in
+    let d = c.turns.new.self in
+    let p = c.turns.new.question in
     let r = err_from_is_err_and c.from_residual-in_err-turns.result c.from_residual-in_err-turns.ensures.1 in
-    broke_off k m e i c.args.limit o t it c.requires.ready.typed q b s d p _ c.in_err-turns.ensures.turned c.from_residual-in_err-turns.result r.0 _ r.1 refl
+    broke_off k m e i c.args.limit o t it c.requires.ready.typed q b s d p _ c.in_err-turns.ensures.turned c.in_err-turns.ensures.traces c.from_residual-in_err-turns.result r.0 _ r.1 refl
 
 pub returns-in_err-told-in-Some-clause-attends : goal.returns-in_err-told-in-Some-clause-attends
 returns-in_err-told-in-Some-clause-attends g c =
@@ -106,13 +106,12 @@ returns-in_err-told-in-Some-clause-attends g c =
     let it = taken k m e c.requires.ready.sound i c.requires.ready.within o t c.take-begun.ensures in
     let b = begun_for k m e i c.args.limit o t it c.in_ok-question.ensures.begins q c.in-Question.is in
     let s = sparing_for k m e i c.args.limit o t it c.in_ok-question.ensures.sparing q c.in-Question.is in
-    let d = c.turns_up_to.new.demand in
-    let p = c.turns_up_to.new.question in
+    let d = c.turns.new.self in
+    let p = c.turns.new.question in
     let r = err_from_is_err_and c.from_residual-in_err-told-in-Some.result c.from_residual-in_err-told-in-Some.ensures.1 in
-    let h = subst (λ (a : Option AnswerCode). HasTurnedUpTo {E = AllocError} (rules_of e) e.store c.args.limit
-    (k e.demand.keeper) (k d.keeper)
-    (m e.demand.keeper) (m d.keeper) q p (Ok (c.in_ok-turns.turns, a))) c.in-Some.is c.in_ok-turns.ensures.turned in
-    untold k m e i c.args.limit o t it c.requires.ready.typed q b s d p c.in_ok-turns.turns c.in-Some.answer h c.from_residual-in_err-told-in-Some.result r.0 r.1
+    let h = subst (λ (a : Option AnswerCode). HasTurnedOften {E = AllocError} (rules_of e) e.store (m e.demand.keeper)
+    (k e.demand.keeper) (k d.keeper) e.demand.work d.work c.args.limit q p (Ok (c.in_ok-turns.turns, a))) c.in-Some.is c.in_ok-turns.ensures.turned in
+    untold k m e i c.args.limit o t it c.requires.ready.typed q b s d p c.in_ok-turns.turns c.in-Some.answer h c.in_ok-turns.ensures.traces c.from_residual-in_err-told-in-Some.result r.0 r.1
 
 pub returns-in_ok-told-in-Some-clause-attends : goal.returns-in_ok-told-in-Some-clause-attends
 returns-in_ok-told-in-Some-clause-attends g c =
@@ -126,12 +125,11 @@ returns-in_ok-told-in-Some-clause-attends g c =
     let it = taken k m e c.requires.ready.sound i c.requires.ready.within o t c.take-begun.ensures in
     let b = begun_for k m e i c.args.limit o t it c.in_ok-question.ensures.begins q c.in-Question.is in
     let s = sparing_for k m e i c.args.limit o t it c.in_ok-question.ensures.sparing q c.in-Question.is in
-    let d = c.turns_up_to.new.demand in
-    let p = c.turns_up_to.new.question in
-    let h = subst (λ (a : Option AnswerCode). HasTurnedUpTo {E = AllocError} (rules_of e) e.store c.args.limit
-    (k e.demand.keeper) (k d.keeper)
-    (m e.demand.keeper) (m d.keeper) q p (Ok (c.in_ok-turns.turns, a))) c.in-Some.is c.in_ok-turns.ensures.turned in
-    told k m e i c.args.limit o t it c.requires.ready.typed q b s d p c.in_ok-turns.turns c.in-Some.answer h c.in_ok-told-in-Some.field-0
+    let d = c.turns.new.self in
+    let p = c.turns.new.question in
+    let h = subst (λ (a : Option AnswerCode). HasTurnedOften {E = AllocError} (rules_of e) e.store (m e.demand.keeper)
+    (k e.demand.keeper) (k d.keeper) e.demand.work d.work c.args.limit q p (Ok (c.in_ok-turns.turns, a))) c.in-Some.is c.in_ok-turns.ensures.turned in
+    told k m e i c.args.limit o t it c.requires.ready.typed q b s d p c.in_ok-turns.turns c.in-Some.answer h c.in_ok-turns.ensures.traces c.in_ok-told-in-Some.field-0
     (λ a like. c.in_ok-told-in-Some.ensures a like)
 
 pub returns-in-None-clause-attends : goal.returns-in-None-clause-attends
@@ -146,12 +144,11 @@ returns-in-None-clause-attends g c =
     let it = taken k m e c.requires.ready.sound i c.requires.ready.within o t c.take-begun.ensures in
     let b = begun_for k m e i c.args.limit o t it c.in_ok-question.ensures.begins q c.in-Question.is in
     let s = sparing_for k m e i c.args.limit o t it c.in_ok-question.ensures.sparing q c.in-Question.is in
-    let d = c.turns_up_to.new.demand in
-    let p = c.turns_up_to.new.question in
-    let h = subst (λ (a : Option AnswerCode). HasTurnedUpTo {E = AllocError} (rules_of e) e.store c.args.limit
-    (k e.demand.keeper) (k d.keeper)
-    (m e.demand.keeper) (m d.keeper) q p (Ok (c.in_ok-turns.turns, a))) c.in-None.is c.in_ok-turns.ensures.turned in
-    not_yet k m e i c.args.limit o t it c.requires.ready.typed q b s d p c.in_ok-turns.turns h
+    let d = c.turns.new.self in
+    let p = c.turns.new.question in
+    let h = subst (λ (a : Option AnswerCode). HasTurnedOften {E = AllocError} (rules_of e) e.store (m e.demand.keeper)
+    (k e.demand.keeper) (k d.keeper) e.demand.work d.work c.args.limit q p (Ok (c.in_ok-turns.turns, a))) c.in-None.is c.in_ok-turns.ensures.turned in
+    not_yet k m e i c.args.limit o t it c.requires.ready.typed q b s d p c.in_ok-turns.turns h c.in_ok-turns.ensures.traces
     c.keep.new.self c.keep.ensures.there
 
 pub returns-in_err-question-clause-went : goal.returns-in_err-question-clause-went
@@ -161,13 +158,13 @@ pub returns-in-Refused-clause-went : goal.returns-in-Refused-clause-went
 returns-in-Refused-clause-went g c = begun
 
 pub returns-in_err-turns-clause-went : goal.returns-in_err-turns-clause-went
-returns-in_err-turns-clause-went g c = c.turns_up_to.ensures.went
+returns-in_err-turns-clause-went g c = c.turns.ensures.went
 
 pub returns-in_err-told-in-Some-clause-went : goal.returns-in_err-told-in-Some-clause-went
-returns-in_err-told-in-Some-clause-went g c = c.turns_up_to.ensures.went
+returns-in_err-told-in-Some-clause-went g c = c.turns.ensures.went
 
 pub returns-in_ok-told-in-Some-clause-went : goal.returns-in_ok-told-in-Some-clause-went
-returns-in_ok-told-in-Some-clause-went g c = c.turns_up_to.ensures.went
+returns-in_ok-told-in-Some-clause-went g c = c.turns.ensures.went
 
 pub returns-in-None-clause-went : goal.returns-in-None-clause-went
-returns-in-None-clause-went g c = c.turns_up_to.ensures.went
+returns-in-None-clause-went g c = c.turns.ensures.went
