@@ -1,8 +1,8 @@
 -- Lists of rows lose edges that tell of no entry, and gain one.
-use Rattle.std.proofs.Common.{◌≡◌, inl, inr, ℕ, zero, suc, ◌<◌, List, [], ◌∷◌, ◌++◌, nat_eq, true, false, Contains, Some, length, get_or, slice_get, slice_set, swap_remove, IsPermutation, refl, sym, ap, ◌∙◌, subst, append-nil, append_assoc, arith, eqb-true}
+use Rattle.std.proofs.Common.{◌≡◌, inl, inr, ℕ, zero, suc, ◌<◌, List, [], ◌∷◌, ◌++◌, nat_eq, true, false, Contains, Some, length, get_or, slice_get, slice_set, take, ◌+◌, swap_remove, IsPermutation, refl, sym, ap, ◌∙◌, subst, append-nil, append_assoc, arith, eqb-true}
 use Rattle.std.specs.List.{flat_map}
 use Rattle.std.proofs.lemmas.Grind.{flat_map-append}
-use Rattle.std.proofs.lemmas.List.{get_or_default}
+use Rattle.std.proofs.lemmas.List.{get_or_default, take_more}
 use Rattle.std.proofs.lemmas.List.Elements.{Contains-append_cases, Contains-append_left, Contains-append_right, Contains-push}
 use Rattle.std.proofs.lemmas.List.Sorted.{Contains-permutation, IsPermutation-swap_remove, IsPermutation-sym}
 use Rattle.slab.proofs.SlabLemmas.{Contains-cons, Contains-cons_cases}
@@ -128,3 +128,7 @@ longer_last (y ∷ rs) (suc i) d s x long longer =
 -- the last row has one edge more
 pub last_longer : (rs read : List Row) (i : ℕ) (d s : Row) (x : Edge) → length rs ≡ suc i → read ≡ rs → edges_of s ≡ edges_of (get_or read i d) ++ x ∷ [] → edges_along (slice_set rs i s) ≡ edges_along rs ++ x ∷ []
 last_longer rs read i d s x long same longer = longer_last rs i d s x long (longer ∙ ap (λ (ys : List Row). edges_of (get_or ys i d) ++ x ∷ []) same)
+
+-- one row more is gone along
+pub along_more : (rs : List Row) (i : ℕ) (d : Row) → i < length rs → edges_along (take i rs) ++ edges_of (get_or rs i d) ≡ edges_along (take (i + 1) rs)
+along_more rs i d less = sym (along_end (take i rs) (get_or rs i d)) ∙ ap edges_along (sym (take_more rs i d less))

@@ -1,13 +1,14 @@
 -- What is asked of nodes where a flush begins, all of their facets or the index alone.
-use Rattle.std.specs.Prelude.{◌≡◌, ◌&&◌, ◌⊎◌, ℕ, List, [], ◌++◌, Bool, true, false, Option, nat_eq, Contains}
+use Rattle.std.specs.Prelude.{◌≡◌, ◌&&◌, ◌⊎◌, ℕ, List, Bool, true, false, Option, nat_eq, Contains}
 use Rattle.std.specs.List.{list_any}
 use Rattle.at_model.specs.Run.{Location, Is, Tok, Slot, Up, Idx, Drawer}
+use Rattle.at_cache.specs.declared.cut.Cut.{Cut}
+use Rattle.at_cache.specs.declared.cut.Loss.TheVariants as loss
 use Rattle.at_cache.specs.declared.edge.Edge.{Edge}
 use Rattle.at_cache.specs.declared.scope.Scope.{Scope}
 use Rattle.at_cache.specs.declared.scope.Scope.TheVariants as scope
-use Rattle.at_cache.specs.Flushing.{Work}
-use Rattle.at_cache.specs.Info.{Memory}
 use Rattle.at_cache.specs.Kept.{node_at}
+use Rattle.at_cache.specs.Marking.{GoesOver}
 use Rattle.at_cache.specs.Recorded.{is_listed}
 
 abbrev pub is_index : Location ℕ → Bool
@@ -33,11 +34,10 @@ pub record Asked (says : Location ℕ → Bool → Type 0) (seen : Location ℕ 
   pub from : (x : Edge) → Contains start x → (l : Location ℕ) × says l true × Contains (lists l) x
   pub all : (l : Location ℕ) → seen l ≡ true → says l false ⊎ ((x : Edge) → Contains (lists l) x → Contains start x)
 
--- The flush goes on with what reads a location that is seen and touched.
+-- All edges of what reads a location that is seen and touched were gone over.
 abbrev pub GoesOn : (says : Location ℕ → Bool → Type 0) (seen : Location ℕ → Bool) (lists : Location ℕ → List Edge)
-    → (first : Option ℕ) (m : Memory) (later : Option ℕ) (n : Memory) → Type 0
-GoesOn says seen lists first m later n = (old : Memory) (start : List Edge) → Work old start [] first m
-    → (more : List Edge) × Work old (start ++ more) [] later n × Asked says seen lists more
+    → (first : Option ℕ) (old : Cut) (later : Option ℕ) (new : Cut) → Type 0
+GoesOn says seen lists first old later new = (edges : List Edge) × GoesOver loss.Both edges first old later new × Asked says seen lists edges
 
 -- each node of which an entry read the index is one of these
 abbrev pub AreNoted : (lists : Location ℕ → List Edge) (nodes : List ℕ) → Type 0

@@ -1,82 +1,102 @@
--- What the marks of a flush leave as it is.
-use Rattle.std.specs.Prelude.{◌≡◌, ℕ, zero, suc, List, [], ◌∷◌, length, Bool, false, Option, None, Some, option_map, if◌then◌else◌}
+-- What an edit takes away, by marks of what goes.
+use Rattle.std.specs.Prelude.{◌≡◌, ◌⊎◌, ℕ, zero, suc, List, [], ◌∷◌, ◌++◌, length, Bool, true, false, Option, None, Some, option_map, Contains, if◌then◌else◌}
 use Rattle.at_model.specs.Run.{Location}
 use Rattle.at_cache.specs.declared.cut.Cut.{Cut}
-use Rattle.at_cache.specs.declared.cut.Pass.{Pass}
-use Rattle.at_cache.specs.declared.cut.Pass.TheVariants as pass
+use Rattle.at_cache.specs.declared.cut.Loss.{Loss}
+use Rattle.at_cache.specs.declared.cut.Loss.TheVariants as loss
 use Rattle.at_cache.specs.declared.edge.Edge.{Edge}
 use Rattle.at_cache.specs.declared.mark.Mark.{Mark}
 use Rattle.at_cache.specs.declared.standing.Standing.{Standing}
-use Rattle.at_cache.specs.declared.table.Table.{Table}
 use Rattle.at_cache.specs.Info.{Info, Memory, is_going, memory_of, next_of, table_len}
 use Rattle.at_cache.specs.Flushing.{Begins, Work}
-use Rattle.at_cache.specs.Standings.{but_for, is_shown, seen, standing_of}
+use Rattle.at_cache.specs.Standings.{held, standing_of, untraced}
 
 -- an entry but for its mark
 abbrev pub unmarked : Info → Info
 unmarked e = record e { going = false; next = None }
 
--- how many entries there are, what is in the slots beside what can be marked, how entries stand, and what a pass takes away
+-- how many of these are kept
+abbrev pub held_among : List Standing → ℕ
+held_among [] = zero
+held_among (s ∷ ss) = if s.holds then suc (held_among ss) else held_among ss
+
+abbrev pub held_count : Cut → ℕ
+held_count c = held_among c.standings.items
+
+abbrev pub held_in : Cut → Memory
+held_in c k = held c.standings.items (memory_of c.entries) k
+
+-- How many entries there are, and what is in the slots beside what can be marked; how entries stand but for traces, how many can stand
+-- so, and how many are kept.
 pub record Aside : Type 0 where
   pub len : ℕ
   pub entries : ℕ → Option Info
-  pub standings : List Standing
-  pub pass : Pass
+  pub standings : ℕ → Standing
+  pub room : ℕ
+  pub count : ℕ
 
--- of entries that a pass needs nothing beside of
-abbrev pub bare : (len : ℕ) → Aside
-bare len = record { len = len; entries = λ k. None; standings = []; pass = pass.Values }
-
-abbrev pub aside_table : Table → Aside
-aside_table t = bare (table_len t)
-
--- the entries that a pass sees but for their marks, and the others as they are
-abbrev pub beside : Pass → List Standing → Memory → Memory
-beside p standings m k = elim (seen p standings m k) [ None ↦ m k | Some e ↦ option_map unmarked (m k) ]
-
-abbrev pub seen_by : Cut → Memory
-seen_by c k = seen c.pass c.standings.items (memory_of c.entries) k
+-- the entries that are kept but for their marks, and the others as they are
+abbrev pub beside : List Standing → Memory → Memory
+beside standings m k = elim (held standings m k) [ None ↦ m k | Some e ↦ option_map unmarked (m k) ]
 
 abbrev pub aside_cut : Cut → Aside
 aside_cut c = record {
   len = table_len c.entries;
-  entries = beside c.pass c.standings.items (memory_of c.entries);
-  standings = c.standings.items;
-  pass = c.pass;
+  entries = beside c.standings.items (memory_of c.entries);
+  standings = λ k. untraced (standing_of c.standings.items k);
+  room = length c.standings.items;
+  count = held_count c;
 }
 
--- what a pass doesn't see isn't going
-abbrev pub IsQuiet : Pass → List Standing → Memory → Type 0
-IsQuiet p standings m = (k : ℕ) (e : Info) → m k ≡ Some e → seen p standings m k ≡ None → e.going ≡ false
+-- what isn't kept isn't going
+abbrev pub IsQuiet : List Standing → Memory → Type 0
+IsQuiet standings m = (k : ℕ) (e : Info) → m k ≡ Some e → held standings m k ≡ None → e.going ≡ false
 
--- A pass goes on: entries are the same but for their marks, and stand as they did but for what it takes away.
-pub record Passes (p : Pass) (standings : List Standing) (m : Memory) (later : List Standing) (n : Memory) : Type 0 where
-  pub entries : (k : ℕ) → option_map unmarked (n k) ≡ option_map unmarked (m k)
-  pub stand : (k : ℕ) → but_for p (standing_of later k) ≡ but_for p (standing_of standings k)
-  pub quiet : IsQuiet p standings m → IsQuiet p later n
-  pub room : length later ≡ length standings
+-- the numbers of the entries
+abbrev pub stamps_of : Memory → ℕ → Option ℕ
+stamps_of m k = option_map (λ (e : Info). e.stamp) (m k)
 
-abbrev pub IsPast : (old new : Cut) → Type 0
-IsPast old new = (new.pass ≡ old.pass) × Passes old.pass old.standings.items (memory_of old.entries) new.standings.items (memory_of new.entries)
+-- Over entries with these numbers, none is traced any more that one of the edges tells of; each other one is as it was.
+pub record Untraces (edges : List Edge) (stamps : ℕ → Option ℕ) (old new : List Standing) : Type 0 where
+  pub fewer : (k : ℕ) → (standing_of new k).traced ≡ true → (standing_of old k).traced ≡ true
+  pub lost : (x : Edge) → Contains edges x → stamps x.slot ≡ Some x.stamp → (standing_of new x.slot).traced ≡ false
+  pub spared : (k : ℕ) → (standing_of old k).traced ≡ true
+      → ((standing_of new k).traced ≡ true) ⊎ ((x : Edge) × Contains edges x × (x.slot ≡ k) × (stamps x.slot ≡ Some x.stamp))
+
+-- by which of these edges a trace is lost, and by which a value
+abbrev pub of_trace : Loss → List Edge → List Edge
+of_trace loss.Trace xs = xs
+of_trace loss.Value xs = []
+of_trace loss.Both xs = xs
+
+abbrev pub of_value : Loss → List Edge → List Edge
+of_value loss.Trace xs = []
+of_value loss.Value xs = xs
+of_value loss.Both xs = xs
+
+-- These edges were gone over: what they tell of lost its trace, and goes where it is kept, and all else is as it was.
+pub record GoesOver (l : Loss) (edges : List Edge) (first : Option ℕ) (old : Cut) (later : Option ℕ) (new : Cut) : Type 0 where
+  pub works : (m : Memory) (start left : List Edge) → Work m start (of_value l edges ++ left) first (held_in old)
+      → Work m start left later (held_in new)
+  pub traces : Untraces (of_trace l edges) (stamps_of (memory_of old.entries)) old.standings.items new.standings.items
+  pub aside : aside_cut new ≡ aside_cut old
+
+-- A flush goes on: entries are the same but for their marks, and traced as they were.
+pub record Passes (old new : Cut) : Type 0 where
+  pub entries : (k : ℕ) → option_map unmarked (memory_of new.entries k) ≡ option_map unmarked (memory_of old.entries k)
+  pub traces : Untraces [] (stamps_of (memory_of old.entries)) old.standings.items new.standings.items
+  pub quiet : IsQuiet old.standings.items (memory_of old.entries) → IsQuiet new.standings.items (memory_of new.entries)
 
 -- the entry is there, with the mark
 abbrev pub HasMark : Option Info → Mark → Type 0
 HasMark o mark = (e : Info) × (o ≡ Some e) × (e.going ≡ is_going mark) × (e.next ≡ next_of mark)
 
--- how many of these a pass may see
-abbrev pub seen_among : Pass → List Standing → ℕ
-seen_among p [] = zero
-seen_among p (s ∷ ss) = if is_shown p s then suc (seen_among p ss) else seen_among p ss
-
-abbrev pub seen_count : Cut → ℕ
-seen_count c = seen_among c.pass c.standings.items
-
--- What a pass takes away from the entries that stand so, where no flush is under way: it begins with what reads a location with the answer
--- `true`, and comes to its end; the entries are the same, and stand as they did but for that.
-pub record TakesAway (p : Pass) (says : Location ℕ → Bool → Type 0) (lists : Location ℕ → List Edge)
+-- What an edit takes away, where no flush is under way: from what reads a location with the answer `true` its trace, and what is kept from that
+-- and from all that used it. The entries are the same.
+pub record TakesAway (says : Location ℕ → Bool → Type 0) (lists : Location ℕ → List Edge)
     (standings : List Standing) (m : Memory) (later : List Standing) (n : Memory) : Type 0 where
   pub start : List Edge
   pub begins : Begins says lists start
-  pub works : Work (seen p standings m) start [] None (seen p later n)
+  pub works : Work (held standings m) start [] None (held later n)
+  pub traces : Untraces start (stamps_of m) standings later
   pub entries : (k : ℕ) → n k ≡ m k
-  pub stand : (k : ℕ) → but_for p (standing_of later k) ≡ but_for p (standing_of standings k)

@@ -4,7 +4,6 @@ use Rattle.std.specs.Map.{lookup}
 use Rattle.at_model.specs.Run.{Instance, Location, Value}
 use Rattle.at_body.specs.Same.{same_instance}
 use Rattle.at_cache.specs.declared.cut.Cut.{Cut}
-use Rattle.at_cache.specs.declared.cut.Pass.TheVariants as pass
 use Rattle.at_cache.specs.declared.edge.Edge.{Edge}
 use Rattle.at_cache.specs.declared.keeper.Order.{Order}
 use Rattle.at_cache.specs.declared.standing.Standing.{Standing}
@@ -14,7 +13,7 @@ use Rattle.at_cache.specs.Putting.{users_at}
 use Rattle.at_cache.specs.Kept.{KeepsAll, Puts}
 use Rattle.at_cache.specs.Recorded.{IsIndexed}
 use Rattle.at_cache.specs.Shedding.{kept_cut, remembered_cut}
-use Rattle.at_cache.specs.Standings.{AreValued, IsTied, but_for, held, kept_held, remembered, standing_of}
+use Rattle.at_cache.specs.Standings.{AreValued, IsTied, held, kept_held, remembered, standing_of, untraced}
 use Rattle.at_cache.specs.Traced.{KeepsTrace, PutsTrace, SparesOthers, StayTraced}
 
 -- an edge to those that used what is in the slot tells of the entry in k
@@ -28,20 +27,10 @@ pub record IsUser (m : Memory) (slot k : ℕ) (e : Info) : Type 0 where
 abbrev pub IsAnother : Memory → (slot : ℕ) → Option (Value ℕ) → Type 0
 IsAnother m slot value = (f : Info) → m slot ≡ Some f → f.value ≡ value → ⊥
 
--- All stays as it is but that no entry is traced that an edge to those that used the one in the slot tells of.
-pub record LosesUsers (slot : ℕ) (standings : List Standing) (m : Memory) (later : List Standing) (n : Memory) : Type 0 where
-  pub entries : (k : ℕ) → n k ≡ m k
-  pub stand : (k : ℕ) → but_for pass.Traces (standing_of later k) ≡ but_for pass.Traces (standing_of standings k)
-  pub fewer : (k : ℕ) (e : Info) → m k ≡ Some e → (standing_of later k).traced ≡ true → (standing_of standings k).traced ≡ true
-  pub room : length later ≡ length standings
-  pub lost : (x : Edge) → Contains (users_at m slot) x → (e : Info) → m x.slot ≡ Some e → e.stamp ≡ x.stamp → (standing_of later x.slot).traced ≡ false
-  pub spared : (k : ℕ) (e : Info) → m k ≡ Some e → (k ≡ slot → ⊥) → (standing_of standings k).traced ≡ true
-      → ((standing_of later k).traced ≡ true) ⊎ IsUser m slot k e
-
 -- All stays as it is but that no entry is traced that used the one in the slot, if that has another value.
 pub record Compares (slot : ℕ) (value : Option (Value ℕ)) (standings : List Standing) (m : Memory) (later : List Standing) (n : Memory) : Type 0 where
   pub entries : (k : ℕ) → n k ≡ m k
-  pub stand : (k : ℕ) → but_for pass.Traces (standing_of later k) ≡ but_for pass.Traces (standing_of standings k)
+  pub stand : (k : ℕ) → untraced (standing_of later k) ≡ untraced (standing_of standings k)
   pub fewer : (k : ℕ) (e : Info) → m k ≡ Some e → (standing_of later k).traced ≡ true → (standing_of standings k).traced ≡ true
   pub room : length later ≡ length standings
   pub changed : (e : Info) → m slot ≡ Some e → (e.value ≡ value)
@@ -82,7 +71,7 @@ pub record PutsIn (slot : ℕ) (instance : Instance ℕ) (value : Option (Value 
   pub fresh : m slot ≡ None → entry.instance ≡ instance
   pub anew : (e : Info) → m slot ≡ Some e → entry.instance ≡ e.instance
   pub others : (k : ℕ) → (k ≡ slot → ⊥) → n k ≡ m k
-  pub stand : (k : ℕ) → but_for pass.Traces (standing_of later k) ≡ but_for pass.Traces (standing_of standings k)
+  pub stand : (k : ℕ) → untraced (standing_of later k) ≡ untraced (standing_of standings k)
   pub fewer : (k : ℕ) (e : Info) → m k ≡ Some e → (standing_of later k).traced ≡ true → (standing_of standings k).traced ≡ true
   pub room : length later ≡ length standings
   pub changed : (e : Info) → m slot ≡ Some e → (e.value ≡ value)

@@ -2,14 +2,13 @@
 use Rattle.std.specs.Prelude.{◌≡◌, ◌+◌, ◌/◌, ℕ, List, Bool, true, Some, nat_lt}
 use Rattle.at_model.specs.Run.{Location}
 use Rattle.at_cache.specs.declared.cut.Cut.{Cut}
-use Rattle.at_cache.specs.declared.cut.Pass.TheVariants as pass
 use Rattle.at_cache.specs.declared.edge.Edge.{Edge}
 use Rattle.at_cache.specs.declared.standing.Standing.{Standing}
 use Rattle.at_cache.specs.declared.table.Table.{Table}
 use Rattle.at_cache.specs.Info.{Info, Memory, memory_of, table_len}
-use Rattle.at_cache.specs.Marking.{seen_among}
+use Rattle.at_cache.specs.Marking.{held_among}
 use Rattle.at_cache.specs.Recorded.{IsIndexed}
-use Rattle.at_cache.specs.Standings.{but_for, held, kept_held, remembered, standing_of}
+use Rattle.at_cache.specs.Standings.{held, kept_held, remembered, standing_of, untraced}
 use Rattle.at_cache.specs.Kept.{Entries, LeavesKept}
 use Rattle.at_cache.specs.Traced.{Memories, StayTraced}
 
@@ -34,11 +33,11 @@ most_beside kept = kept + kept / 8 + 2048
 
 -- whether more are in memory: an edit lets go of what isn't kept
 abbrev pub is_crowded : Cut → Bool
-is_crowded c = nat_lt (most_beside (seen_among pass.Values c.standings.items)) (table_len c.entries)
+is_crowded c = nat_lt (most_beside (held_among c.standings.items)) (table_len c.entries)
 
 -- no entry is traced, and each stands as it did but for that
 abbrev pub LosesTraces : (old new : List Standing) → Type 0
-LosesTraces old new = (k : ℕ) → standing_of new k ≡ but_for pass.Traces (standing_of old k)
+LosesTraces old new = (k : ℕ) → standing_of new k ≡ untraced (standing_of old k)
 
 -- what is kept of entries that stay in memory, with these edges of locations, after so many numbers
 abbrev pub kept_cut : (lists : Location ℕ → List Edge) → Cut → (puts : ℕ) → Entries

@@ -7,8 +7,6 @@ use Rattle.at_model.specs.Run.{Instance, Location, Value}
 use Rattle.at_body.specs.Same.{same_instance}
 use Rattle.at_body.specs.Values.{value_view}
 use Rattle.at_cache.specs.declared.cut.Cut.{Cut}
-use Rattle.at_cache.specs.declared.cut.Pass.{Pass}
-use Rattle.at_cache.specs.declared.cut.Pass.TheVariants as pass
 use Rattle.at_cache.specs.declared.edge.Edge.{Edge}
 use Rattle.at_cache.specs.declared.entry.Entry.{Entry}
 use Rattle.at_cache.specs.declared.standing.Standing.{Standing}
@@ -26,35 +24,27 @@ nothing = record { since = 0; holds = false; traced = false }
 abbrev pub standing_of : List Standing → ℕ → Standing
 standing_of standings s = get_or standings s nothing
 
--- whether a pass sees an entry that stands so
-abbrev pub is_shown : Pass → Standing → Bool
-is_shown pass.Traces s = s.traced
-is_shown pass.Values s = s.holds
+-- how an entry stands without its trace, and where it isn't kept
+abbrev pub untraced : Standing → Standing
+untraced s = record s { traced = false }
 
--- how an entry stands but for what a pass takes away
-abbrev pub but_for : Pass → Standing → Standing
-but_for pass.Traces s = record s { traced = false }
-but_for pass.Values s = record s { holds = false }
+abbrev pub unheld : Standing → Standing
+unheld s = record s { holds = false }
 
--- what it sees of it: of one that is traced all but those that used it, and of one that is kept, since when it is
-abbrev pub shape : Pass → Standing → Info → Info
-shape pass.Traces s e = record e { users = [] }
-shape pass.Values s e = record e { since = s.since }
+-- what is in the slot stands otherwise
+abbrev pub IsChanged : (change : Standing → Standing) → (slot : ℕ) → (old new : List Standing) → Type 0
+IsChanged change slot old new = (k : ℕ) → standing_of new k ≡ (if nat_eq k slot then change (standing_of old k) else standing_of old k)
 
-abbrev pub shown : Pass → Standing → Info → Option Info
-shown p s e = if is_shown p s then Some (shape p s e) else None
+-- an entry that is kept, since when it is
+abbrev pub shape : Standing → Info → Info
+shape s e = record e { since = s.since }
 
--- what a pass takes away is taken from what is in the slot
-abbrev pub IsTaken : Pass → (slot : ℕ) → (old new : List Standing) → Type 0
-IsTaken p slot old new = (k : ℕ) → standing_of new k ≡ (if nat_eq k slot then but_for p (standing_of old k) else standing_of old k)
-
--- what it sees of all
-abbrev pub seen : Pass → List Standing → Memory → Memory
-seen p standings m k = option_and_then (shown p (standing_of standings k)) (m k)
+abbrev pub shown : Standing → Info → Option Info
+shown s e = if s.holds then Some (shape s e) else None
 
 -- what is kept
 abbrev pub held : List Standing → Memory → Memory
-held standings m k = seen pass.Values standings m k
+held standings m k = option_and_then (shown (standing_of standings k)) (m k)
 
 -- whether what stands so is kept, or can be kept again
 abbrev pub is_alive : Standing → Bool

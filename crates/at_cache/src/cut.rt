@@ -1,35 +1,37 @@
 //! Entries that stay in memory where they aren't kept.
 
-ghost use Rattle.std.specs.Prelude.{◌≡◌, ℕ, List, None, Some, false, is_some, option_copied};
+ghost use Rattle.std.specs.Prelude.{◌≡◌, ◌+◌, ℕ, List, None, Some, false, is_some, length, option_copied, true};
 ghost use Rattle.std.specs.Map.{lookup};
 ghost use Rattle.at_model.specs.Run.{Location};
 ghost use Rattle.at_body.specs.Same.{same_instance};
 ghost use Rattle.at_cache.specs.declared.edge.Edge.{Edge};
+ghost use Rattle.at_cache.specs.Flushing.{is_fresh};
 ghost use Rattle.at_cache.specs.Info.{Info, memory_of};
+ghost use Rattle.at_cache.specs.Marking.{held_among, held_in};
 ghost use Rattle.at_cache.specs.Putting.{is_current};
-ghost use Rattle.at_cache.specs.Standings.{alive_in, but_for, held_of, is_shown, remembered, standing_of};
+ghost use Rattle.at_cache.specs.Standings.{IsChanged, alive_in, held_of, remembered, standing_of, unheld, untraced};
 
 use crate::again::slot_by;
 use crate::edge::{Edge, Slot};
 use crate::entry::Entry;
-use crate::standing::{Standing, is_alive, standing_at};
+use crate::standing::{Standing, is_alive, set_standing, standing_at};
 use crate::table::Table;
 use at_body::Inst;
 
-/// Of which entries a flush takes something away, and what.
+/// What an entry loses that an edge tells of.
 #[derive(Clone, Copy)]
-pub enum Pass {
-    /// Of those that are traced the trace, and of none of those that used them.
-    Traces,
-    /// What is kept isn't any more, and so isn't what used it.
-    Values,
+pub enum Loss {
+    /// Its trace: it can't be kept again.
+    Trace,
+    /// What is kept of it, with all that used it.
+    Value,
+    Both,
 }
 
-/// Entries, how each stands, by its slot, and what a flush takes away.
+/// Entries, and how each stands, by its slot.
 pub struct Cut {
     pub entries: Table,
     pub standings: Vec<Standing>,
-    pub pass: Pass,
 }
 
 /// One call, where each exit that lets it go would else have a case for each field.
@@ -38,38 +40,7 @@ impl Drop for Cut {
         let Cut {
             entries: _,
             standings: _,
-            pass: _,
         } = self;
-    }
-}
-
-impl Pass {
-    /// Whether it sees what stands so.
-    pub fn sees(self, standing: Standing) -> bool
-        ensures { result ≡ is_shown self standing }
-    {
-        match self {
-            Pass::Traces => standing.traced,
-            Pass::Values => standing.holds,
-        }
-    }
-
-    /// How that stands from which it takes something away.
-    pub fn without(self, standing: Standing) -> Standing
-        ensures { result ≡ but_for self standing }
-    {
-        match self {
-            Pass::Traces => Standing {
-                since: standing.since,
-                holds: standing.holds,
-                traced: false,
-            },
-            Pass::Values => Standing {
-                since: standing.since,
-                holds: false,
-                traced: standing.traced,
-            },
-        }
     }
 }
 
@@ -127,10 +98,50 @@ impl Cut {
         self.entries.is_current(edge)
     }
 
-    /// Whether the pass sees what is in the slot, if anything is.
-    pub fn sees(&self, slot: Slot) -> bool
-        ensures { result ≡ is_shown self.now.pass (standing_of self.now.standings.items slot) }
+    /// Whether the entry in the slot is kept, if there is one.
+    pub fn holds(&self, slot: Slot) -> bool
+        ensures { result ≡ (standing_of self.now.standings.items slot).holds }
     {
-        self.pass.sees(standing_at(self.standings.as_slice(), slot))
+        standing_at(self.standings.as_slice(), slot).holds
+    }
+
+    /// Whether the entry that the edge tells of is kept, and isn't going yet.
+    pub fn is_fresh(&self, edge: &Edge) -> bool
+        ensures { result ≡ is_fresh edge.now (held_in self.now edge.now.slot) }
+    {
+        self.holds(edge.slot) && self.entries.is_fresh(edge)
+    }
+}
+
+/// What is in the slot can't be kept again.
+pub fn take_trace(standings: &mut Vec<Standing>, slot: Slot)
+    ensures taken { IsChanged untraced slot standings.old.items standings.new.items }
+    ensures room { length standings.new.items ≡ length standings.old.items }
+    ensures count { held_among standings.new.items ≡ held_among standings.old.items }
+{
+    let standing = standing_at(standings.as_slice(), slot);
+    if (slot as usize) < standings.len() {
+        let left = Standing {
+            since: standing.since,
+            holds: standing.holds,
+            traced: false,
+        };
+        set_standing(standings, slot, left);
+    }
+}
+
+/// What is in the slot isn't kept any more.
+pub fn take_value(standings: &mut Vec<Standing>, slot: Slot)
+    ensures taken { IsChanged unheld slot standings.old.items standings.new.items }
+    ensures fewer { (standing_of standings.old.items slot).holds ≡ true → held_among standings.new.items + 1 ≡ held_among standings.old.items }
+{
+    let standing = standing_at(standings.as_slice(), slot);
+    if (slot as usize) < standings.len() {
+        let left = Standing {
+            since: standing.since,
+            holds: false,
+            traced: standing.traced,
+        };
+        set_standing(standings, slot, left);
     }
 }

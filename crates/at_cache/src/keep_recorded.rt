@@ -8,8 +8,7 @@ ghost use Rattle.at_cache.specs.Kept.{Answers, AreNamed, KeepsAll, LeavesUntouch
 ghost use Rattle.at_cache.specs.Finding.{edges_to};
 ghost use Rattle.at_cache.specs.Recorded.{IsIndexed};
 ghost use Rattle.at_cache.specs.Shedding.{AreHeld, Shrinks, is_crowded, kept_cut, most_beside as most, remembered_cut};
-ghost use Rattle.at_cache.specs.Marking.{seen_among};
-ghost use Rattle.at_cache.specs.declared.cut.Pass.TheVariants as pass_code;
+ghost use Rattle.at_cache.specs.Marking.{held_among};
 ghost use Rattle.at_cache.specs.Standings.{AreValued, IsTied, held, kept_held, last_is, remembered};
 ghost use Rattle.at_cache.specs.Theirs.{HasSlot};
 ghost use Rattle.at_cache.specs.Traced.{FlushesTraces, SparesAtEdit, StayTraced, TracesKept, TracesNothing};
@@ -17,7 +16,7 @@ ghost use Rattle.at_cache.specs.Traced.{FlushesTraces, SparesAtEdit, StayTraced,
 use crate::again::slot_by;
 use crate::blocking::blocking;
 use crate::choosing::choose;
-use crate::cut::{Cut, Pass};
+use crate::cut::Cut;
 use crate::cutting::take_away;
 use crate::edge::{Edge, Slot};
 use crate::entry::Links;
@@ -103,7 +102,6 @@ impl KeepRecorded {
                     attributes: Vec::new(alloc),
                 },
                 standings: Vec::new(alloc),
-                pass: Pass::Values,
             },
             readers: AllReaders::new(alloc),
             index_read: Vec::new(alloc),
@@ -237,7 +235,7 @@ fn most_beside(kept: usize) -> usize
 
 // How many entries are kept.
 fn kept_among(standings: &[Standing]) -> usize
-    ensures { result ≡ seen_among pass_code.Values standings.now }
+    ensures { result ≡ held_among standings.now }
 {
     let mut kept = 0_usize;
     for standing in standings {
@@ -376,22 +374,7 @@ impl Keeper for KeepRecorded {
         self.doubtful = true;
         let readers = &self.readers;
         let index_read = self.index_read.as_slice();
-        take_away(
-            &mut self.cut,
-            Pass::Traces,
-            readers,
-            index_read,
-            places,
-            touched,
-        );
-        take_away(
-            &mut self.cut,
-            Pass::Values,
-            readers,
-            index_read,
-            places,
-            touched,
-        );
+        take_away(&mut self.cut, readers, index_read, places, touched);
     }
 
     fn fit(&mut self, most: usize) {

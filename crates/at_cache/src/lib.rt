@@ -6,14 +6,14 @@
 //! it is found (`IsIndexed`), `Placed` where entries stand, and `Attributes` of which attributes entries came. `Edges` is what a list of edges
 //! has, in `Rows`, `Readers` who read which location, `Runs` how one edge tells of many locations, and `Finding` both. `Putting` is one entry
 //! more, `Renewing` and `Theirs` a put over one, and `Slots` single writes; `Flushing` is a flush under way, `Asking` where one begins, and
-//! `Marking` a pass over what is kept, or traced; `Settling` is what is kept again, and `Blocking` what stands in its way. `Shedding` is what
+//! `Marking` what that takes away; `Settling` is what is kept again, and `Blocking` what stands in its way. `Shedding` is what
 //! leaves memory, `Folding` what becomes of entries that are folded into those that used them, `Rerunning` of edges of runs that tell of such,
 //! and `Joining` of lists that came to be the same.
 //!
 //! **Where to begin:** the trait in `keeper.rt`, then `keep_recorded.rt`: `table.rt` holds the entries, `cut.rt` and `standing.rt` how they
 //! stand, `row.rt` and `linking.rt` the edges; `run.rt` has runs, of which one edge tells of many locations: `seating.rt` makes them, and
 //! `stretch.rt` adds to them. `renewing.rt` is `put`, with `putting.rt`; `cutting.rt` is a flush, over what `forgetting.rt` and, by places,
-//! `places.rt` mark (`marked.rt`); `settling.rt` and `blocking.rt` are what a question keeps again. What isn't kept leaves memory by
+//! `places.rt` mark; `settling.rt` and `blocking.rt` are what a question keeps again. What isn't kept leaves memory by
 //! `shedding.rt`. Where that isn't enough for a bound, entries are folded (`folding.rt`) by a plan that is chosen (`choosing.rt`, by what is
 //! counted in `weighing.rt`) and tested (`checking.rt`); `lone.rt` tells which lists stay, `rewriting.rt` has their edges, `rerunning.rt` those
 //! of runs, `relinking.rt` the entries, and `joining.rt` makes one list of those of a node that came to have the same edges.
@@ -45,7 +45,6 @@ mod likely;
 mod linking;
 mod lone;
 mod mark;
-mod marked;
 mod noting;
 mod places;
 mod putting;

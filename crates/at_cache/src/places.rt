@@ -1,6 +1,6 @@
 //! A flush marks what reads a touched location, by places that name all that is touched.
 
-ghost use Rattle.std.specs.Prelude.{◌≡◌, None};
+ghost use Rattle.std.specs.Prelude.{None};
 ghost use Rattle.std.specs.List.{list_any};
 ghost use Rattle.at_model.specs.Touches.{node_of};
 ghost use Rattle.at_store.specs.Places.{is_index_among, is_node, named, names_around};
@@ -8,16 +8,16 @@ ghost use Rattle.at_cache.specs.Asking.{AreNoted, GoesOn, sees};
 ghost use Rattle.at_cache.specs.Kept.{Answers};
 ghost use Rattle.at_cache.specs.Finding.{edges_to};
 
+use crate::cut::Cut;
 use crate::edge::Slot;
 use crate::forgetting::{begin_node, count_of};
-use crate::marked::Marked;
 use crate::run::AllReaders;
 use crate::scope::Scope;
 use at_store::{Changing, Loc, Node, Places};
 
 // So does what reads one in that scope of any of the nodes.
-fn begin_nodes<W: Marked, F: Fn(Loc) -> bool>(
-    entries: &mut W,
+fn begin_nodes<F: Fn(Loc) -> bool>(
+    cut: &mut Cut,
     first: Option<Slot>,
     readers: &AllReaders,
     nodes: &[Node],
@@ -25,21 +25,19 @@ fn begin_nodes<W: Marked, F: Fn(Loc) -> bool>(
     touched: &F,
 ) -> Option<Slot>
     requires { F.IsAlwaysCallable touched.now }
-    ensures goes_on { GoesOn (Answers (F.post touched.now)) (λ l. list_any (λ n. sees scope n l) nodes.now) (edges_to readers.now) first
-        (W.memory entries.old) result (W.memory entries.new) }
-    ensures aside { W.aside entries.new ≡ W.aside entries.old }
+    ensures { GoesOn (Answers (F.post touched.now)) (λ l. list_any (λ n. sees scope n l) nodes.now) (edges_to readers.now) first cut.old result cut.new }
 {
     let mut first = first;
     for node in nodes {
-        first = begin_node(entries, first, readers, *node, scope, touched);
+        first = begin_node(cut, first, readers, *node, scope, touched);
     }
     first
 }
 
 // What reads the touched index of one of the children goes. Of those and the nodes whose index was ever read the fewer are
 // looked at.
-fn begin_children<W: Marked, F: Fn(Loc) -> bool>(
-    entries: &mut W,
+fn begin_children<F: Fn(Loc) -> bool>(
+    cut: &mut Cut,
     first: Option<Slot>,
     readers: &AllReaders,
     index_read: &[Node],
@@ -48,21 +46,19 @@ fn begin_children<W: Marked, F: Fn(Loc) -> bool>(
 ) -> Option<Slot>
     requires callable { F.IsAlwaysCallable touched.now }
     requires noted { AreNoted (edges_to readers.now) index_read.now }
-    ensures goes_on { GoesOn (Answers (F.post touched.now)) (is_index_among children.now) (edges_to readers.now) first
-        (W.memory entries.old) result (W.memory entries.new) }
-    ensures aside { W.aside entries.new ≡ W.aside entries.old }
+    ensures { GoesOn (Answers (F.post touched.now)) (is_index_among children.now) (edges_to readers.now) first cut.old result cut.new }
 {
     let fewer = if index_read.len() < children.len() {
         index_read
     } else {
         children
     };
-    begin_nodes(entries, first, readers, fewer, Scope::Index, touched)
+    begin_nodes(cut, first, readers, fewer, Scope::Index, touched)
 }
 
 // What reads a touched location of the node goes, or the touched index of one of its children there.
-fn begin_around<W: Marked, F: Fn(Loc) -> bool>(
-    entries: &mut W,
+fn begin_around<F: Fn(Loc) -> bool>(
+    cut: &mut Cut,
     first: Option<Slot>,
     readers: &AllReaders,
     index_read: &[Node],
@@ -71,41 +67,37 @@ fn begin_around<W: Marked, F: Fn(Loc) -> bool>(
 ) -> Option<Slot>
     requires callable { F.IsAlwaysCallable touched.now }
     requires noted { AreNoted (edges_to readers.now) index_read.now }
-    ensures goes_on { GoesOn (Answers (F.post touched.now)) (names_around changing.now) (edges_to readers.now) first
-        (W.memory entries.old) result (W.memory entries.new) }
-    ensures aside { W.aside entries.new ≡ W.aside entries.old }
+    ensures { GoesOn (Answers (F.post touched.now)) (names_around changing.now) (edges_to readers.now) first cut.old result cut.new }
 {
     match changing {
         Some(changing) => {
-            let at = begin_node(entries, first, readers, changing.node, Scope::All, touched);
-            begin_children(entries, at, readers, index_read, changing.children, touched)
+            let at = begin_node(cut, first, readers, changing.node, Scope::All, touched);
+            begin_children(cut, at, readers, index_read, changing.children, touched)
         }
         None => first,
     }
 }
 
 // What reads a touched location of the node goes, if there is one.
-fn begin_moved<W: Marked, F: Fn(Loc) -> bool>(
-    entries: &mut W,
+fn begin_moved<F: Fn(Loc) -> bool>(
+    cut: &mut Cut,
     first: Option<Slot>,
     readers: &AllReaders,
     moved: Option<Node>,
     touched: &F,
 ) -> Option<Slot>
     requires { F.IsAlwaysCallable touched.now }
-    ensures goes_on { GoesOn (Answers (F.post touched.now)) (λ l. is_node moved (node_of l)) (edges_to readers.now) first
-        (W.memory entries.old) result (W.memory entries.new) }
-    ensures aside { W.aside entries.new ≡ W.aside entries.old }
+    ensures { GoesOn (Answers (F.post touched.now)) (λ l. is_node moved (node_of l)) (edges_to readers.now) first cut.old result cut.new }
 {
     match moved {
-        Some(node) => begin_node(entries, first, readers, node, Scope::All, touched),
+        Some(node) => begin_node(cut, first, readers, node, Scope::All, touched),
         None => first,
     }
 }
 
 /// What reads a touched location that the places name goes: the first one that goes.
-pub fn begin_named<W: Marked, F: Fn(Loc) -> bool>(
-    entries: &mut W,
+pub fn begin_named<F: Fn(Loc) -> bool>(
+    cut: &mut Cut,
     readers: &AllReaders,
     index_read: &[Node],
     places: &Places<'_>,
@@ -113,15 +105,13 @@ pub fn begin_named<W: Marked, F: Fn(Loc) -> bool>(
 ) -> Option<Slot>
     requires callable { F.IsAlwaysCallable touched.now }
     requires noted { AreNoted (edges_to readers.now) index_read.now }
-    ensures goes_on { GoesOn (Answers (F.post touched.now)) (named places.now) (edges_to readers.now) None
-        (W.memory entries.old) result (W.memory entries.new) }
-    ensures aside { W.aside entries.new ≡ W.aside entries.old }
+    ensures { GoesOn (Answers (F.post touched.now)) (named places.now) (edges_to readers.now) None cut.old result cut.new }
 {
     if count_of(readers) == 0 {
         return None;
     }
-    let left = begin_nodes(entries, None, readers, places.leaving, Scope::All, touched);
-    let moved = begin_moved(entries, left, readers, places.moved, touched);
-    let come = begin_around(entries, moved, readers, index_read, &places.target, touched);
-    begin_around(entries, come, readers, index_read, &places.source, touched)
+    let left = begin_nodes(cut, None, readers, places.leaving, Scope::All, touched);
+    let moved = begin_moved(cut, left, readers, places.moved, touched);
+    let come = begin_around(cut, moved, readers, index_read, &places.target, touched);
+    begin_around(cut, come, readers, index_read, &places.source, touched)
 }

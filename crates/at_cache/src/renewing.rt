@@ -10,14 +10,15 @@ ghost use Rattle.at_cache.specs.Asking.{AreNoted};
 ghost use Rattle.at_cache.specs.Flushing.{IsIdle};
 ghost use Rattle.at_cache.specs.Info.{Info, info, memory_of};
 ghost use Rattle.at_cache.specs.Kept.{AreKept};
+ghost use Rattle.at_cache.specs.Marking.{held_in};
 ghost use Rattle.at_cache.specs.Putting.{fresh_entry};
 ghost use Rattle.at_cache.specs.Finding.{edges_to};
-ghost use Rattle.at_cache.specs.Renewing.{Compares, EntersHeld, IsAwaited, IsSlotFor, LosesUsers, PutsIn, StaysAwaited};
+ghost use Rattle.at_cache.specs.Renewing.{Compares, EntersHeld, IsAwaited, IsSlotFor, PutsIn, StaysAwaited};
 ghost use Rattle.at_cache.specs.Shedding.{kept_cut};
 
 use crate::again::{slot_by, slots_again};
-use crate::cut::{Cut, Pass};
-use crate::cutting::{doom_users, forget_all, take_from};
+use crate::cut::{Cut, Loss, take_trace};
+use crate::cutting::doom_users;
 use crate::edge::{Edge, Slot};
 use crate::entry::{Entry, Links};
 use crate::keeper::Order;
@@ -52,35 +53,25 @@ pub fn slot_for(entries: &Table, inst: &Inst, place: usize) -> Result<Slot, Allo
     }
 }
 
-// What used the entry in the slot has no trace any more.
-fn lose_users(cut: &mut Cut, slot: Slot)
-    requires there { IsSome (memory_of cut.old.entries slot) }
-    requires idle { IsIdle (memory_of cut.old.entries) }
-    ensures { LosesUsers slot cut.old.standings.items (memory_of cut.old.entries) cut.new.standings.items (memory_of cut.new.entries) }
-{
-    cut.pass = Pass::Traces;
-    take_from(&mut cut.standings, Pass::Traces, slot);
-    let first = doom_users(cut, slot, None);
-    forget_all(cut, first);
-}
-
 // Where the entry in the slot has another value than this one, what used it has no trace any more.
 fn compare(cut: &mut Cut, slot: Slot, value: &Option<Value>)
     requires there { IsSome (memory_of cut.old.entries slot) }
     requires idle { IsIdle (memory_of cut.old.entries) }
+    requires hidden { held_in cut.old slot ≡ None }
     ensures { Compares slot (option_map value_view value.now) cut.old.standings.items (memory_of cut.old.entries)
         cut.new.standings.items (memory_of cut.new.entries) }
 {
     if cut.entries.has_value(slot, value) {
         return;
     }
-    lose_users(cut, slot);
+    doom_users(cut, slot, None, Loss::Trace);
 }
 
 // The entry comes in place of that in its slot.
 fn renew(cut: &mut Cut, inst: &Inst, entry: Entry)
     requires there { IsSome (memory_of cut.old.entries entry.slot) }
     requires idle { IsIdle (memory_of cut.old.entries) }
+    requires hidden { held_in cut.old entry.slot ≡ None }
     ensures { PutsIn entry.slot inst.now (option_map value_view entry.value) entry.links.items entry.stamp
         cut.old.standings.items (memory_of cut.old.entries) cut.new.standings.items (memory_of cut.new.entries) }
 {
@@ -94,6 +85,7 @@ fn renew(cut: &mut Cut, inst: &Inst, entry: Entry)
 fn put_in(cut: &mut Cut, inst: Inst, entry: Entry) -> Result<(), AllocError>
     requires slot { IsSlotFor cut.old.entries inst entry.slot }
     requires idle { IsIdle (memory_of cut.old.entries) }
+    requires hidden { held_in cut.old entry.slot ≡ None }
     requires made { info (inst, entry) ≡ fresh_entry inst (option_map value_view entry.value) entry.links.items entry.stamp }
     ensures puts { OnOk result (PutsIn entry.slot inst (option_map value_view entry.value) entry.links.items entry.stamp
         cut.old.standings.items (memory_of cut.old.entries) cut.new.standings.items (memory_of cut.new.entries)) }
@@ -121,7 +113,7 @@ pub fn outdate(alloc: Global, cut: &mut Cut, puts: &mut u64, slot: Slot) -> Opti
         return None;
     }
     *puts = stamp + 1;
-    take_from(&mut cut.standings, Pass::Traces, slot);
+    take_trace(&mut cut.standings, slot);
     Some(cut.entries.outdate(slot, Links::new(alloc), stamp))
 }
 

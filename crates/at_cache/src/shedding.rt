@@ -4,8 +4,7 @@ ghost use Rattle.std.specs.Prelude.{◌≤◌, OnOk, length};
 ghost use Rattle.at_cache.specs.Info.{memory_of, table_len};
 ghost use Rattle.at_cache.specs.Shedding.{LosesTraces, Sheds, ShedsAt};
 
-use crate::cut::Pass;
-use crate::cutting::take_from;
+use crate::cut::take_trace;
 use crate::edge::Slot;
 use crate::facet::small;
 use crate::standing::{Standing, standing_at};
@@ -44,7 +43,7 @@ pub fn lose_traces(standings: &mut Vec<Standing>) -> Result<(), AllocError>
 {
     for number in 0..standings.len() {
         let slot = small(number)?;
-        take_from(standings, Pass::Traces, slot);
+        take_trace(standings, slot);
     }
     Ok(())
 }

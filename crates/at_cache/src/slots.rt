@@ -9,9 +9,10 @@ ghost use Rattle.slab.specs.Slab.{get};
 ghost use Rattle.indexmap.specs.IndexMap.{IsUnique, index_map_len};
 ghost use Rattle.at_cache.specs.Edges.{edges_in};
 ghost use Rattle.at_cache.specs.Rows.{edges_of};
+ghost use Rattle.at_cache.specs.Flushing.{doomed, is_fresh};
 ghost use Rattle.at_cache.specs.Info.{Info, info, is_going, memory_of, table_len};
 ghost use Rattle.at_cache.specs.Placed.{IsMoved, IsPlaced, at};
-ghost use Rattle.at_cache.specs.Marking.{HasMark, aside_table, unmarked};
+ghost use Rattle.at_cache.specs.Marking.{HasMark, unmarked};
 ghost use Rattle.at_cache.specs.Putting.{Enters, is_current, reused, users_at};
 ghost use Rattle.at_cache.specs.Slots.{HasWritten, renewed, outdated, with_entry, with_list, with_mark, with_number, with_rest};
 ghost use Rattle.at_cache.specs.Folding.{relinked};
@@ -21,7 +22,6 @@ use crate::edge::{Edge, Edges, Slot};
 use crate::entry::{Entry, Links};
 use crate::facet::small;
 use crate::mark::Mark;
-use crate::marked::Marked;
 use crate::row::Row;
 use crate::table::Table;
 use at_body::{Inst, Value};
@@ -244,21 +244,23 @@ impl Table {
         places.try_remove(slot);
         Err(AllocError)
     }
-}
 
-impl Marked for Table {
-    ghost memory = { memory_of };
-
-    ghost aside = { aside_table };
-
-    fn is_fresh(&self, edge: &Edge) -> bool {
+    /// Whether the entry that the edge tells of is there, and isn't going yet.
+    pub fn is_fresh(&self, edge: &Edge) -> bool
+        ensures { result ≡ is_fresh edge.now (memory_of self.now edge.now.slot) }
+    {
         match self.pair(edge.slot) {
             Some((_, entry)) => entry.is_fresh(edge),
             None => false,
         }
     }
 
-    fn set_going(&mut self, slot: Slot, first: Option<Slot>) {
+    /// The entry in the slot goes, before these.
+    pub fn set_going(&mut self, slot: Slot, first: Option<Slot>)
+        requires there { IsSome (memory_of self.old slot) }
+        ensures written { (k : ℕ) → memory_of self.new k ≡ (if nat_eq k slot then option_map (doomed first) (memory_of self.old k) else memory_of self.old k) }
+        ensures len { table_len self.new ≡ table_len self.old }
+    {
         if let Some(place) = self.places.get(slot as usize) {
             write_mark(&mut self.entries, *place, Mark::before(first));
         }

@@ -5,7 +5,6 @@ use Rattle.std.specs.Option.{option_and_then}
 use Rattle.std.proofs.lemmas.Bool.{cases_eq, eq-eqb, lt-ltb, ltb-true}
 use Rattle.std.proofs.lemmas.Option.{none-some, same_Some}
 use Rattle.at_model.specs.Run.{Location}
-use Rattle.at_cache.specs.declared.cut.Pass.TheVariants as pass
 use Rattle.at_cache.specs.declared.edge.Edge.{Edge}
 use Rattle.at_cache.specs.declared.standing.Standing.{Standing}
 use Rattle.at_cache.specs.Info.{Info, Memory}
@@ -21,13 +20,13 @@ held_as st s e = record e { since = (standing_of st s).since }
 module _ (st : List Standing) (m : Memory) (s : ℕ) where
   pub held_on : (e : Info) → m s ≡ Some e → (standing_of st s).holds ≡ true → held st m s ≡ Some (held_as st s e)
   held_on e there on =
-      ap (option_and_then (shown pass.Values (standing_of st s))) there
+      ap (option_and_then (shown (standing_of st s))) there
       ∙ ap (λ b. if b then Some (held_as st s e) else None) on
 
   pub held_off : (standing_of st s).holds ≡ false → held st m s ≡ None
   held_off off = by (m s)
     where
-      by : (o : Option Info) → option_and_then (shown pass.Values (standing_of st s)) o ≡ None
+      by : (o : Option Info) → option_and_then (shown (standing_of st s)) o ≡ None
       by None = refl
       by (Some e) = ap (λ b. if b then Some (held_as st s e) else None) off
 
@@ -41,7 +40,7 @@ module _ (st : List Standing) (m : Memory) (s : ℕ) where
       on e true is there k = (e, there, is, same_Some (held_as st s e) f k)
       on e false is there k = absurd (none-some f k)
 
-      by : (o : Option Info) → m s ≡ o → option_and_then (shown pass.Values (standing_of st s)) o ≡ Some f
+      by : (o : Option Info) → m s ≡ o → option_and_then (shown (standing_of st s)) o ≡ Some f
           → (e : Info) × (m s ≡ Some e) × ((standing_of st s).holds ≡ true) × (held_as st s e ≡ f)
       by None is k = absurd (none-some f k)
       by (Some e) is k = on e (standing_of st s).holds refl is k
@@ -96,11 +95,11 @@ module _ (lists : Location ℕ → List Edge) (m : Memory) (old new : List Stand
 
   new_here : held new m s ≡ Some came
   new_here =
-      ap (λ x. option_and_then (shown pass.Values x) (m s)) here
-      ∙ ap (option_and_then (shown pass.Values (again puts))) there
+      ap (λ x. option_and_then (shown x) (m s)) here
+      ∙ ap (option_and_then (shown (again puts))) there
 
   new_there : (k : ℕ) → (k ≡ s → ⊥) → held new m k ≡ held old m k
-  new_there k differs = ap (λ x. option_and_then (shown pass.Values x) (m k)) (others k differs)
+  new_there k differs = ap (λ x. option_and_then (shown x) (m k)) (others k differs)
 
   not_here : (k : ℕ) (f : Info) → held old m k ≡ Some f → k ≡ s → ⊥
   not_here k f is same = none-some f (sym (held_off old m s off) ∙ ap (held old m) (sym same) ∙ is)

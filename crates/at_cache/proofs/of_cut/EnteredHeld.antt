@@ -2,6 +2,7 @@
 use Rattle.std.proofs.Common.{◌≡◌, ◌<◌, ◌+◌, ℕ, List, Bool, true, false, length, slice_set, Option, None, Some, IsSome, is_some, option_map, nat_eq, if◌then◌else◌, Contains, refl, sym, ap, ◌∙◌, subst, true≢false}
 use Rattle.std.specs.List.{list_any}
 use Rattle.std.specs.Map.{lookup}
+use Rattle.std.specs.Option.{option_and_then}
 use Rattle.std.proofs.lemmas.Option.{none-some, same_Some}
 use Rattle.at_model.specs.Run.{Instance, Location, Value}
 use Rattle.at_body.specs.Same.{same_instance}
@@ -17,13 +18,14 @@ use Rattle.at_cache.specs.Info.{Info, Memory, info, memory_of}
 use Rattle.at_cache.specs.Kept.{AreKept, Puts}
 use Rattle.at_cache.specs.Putting.{AreListed, AreTaken, Reads, Uses, fresh_entry, users_at}
 use Rattle.at_cache.specs.Recorded.{IsIndexed}
-use Rattle.at_cache.specs.Renewing.{IsSlotFor, PutsIn}
-use Rattle.at_cache.specs.Standings.{AreValued, IsTied, alive, held, instances_in, kept_held, remembered, standing_of}
+use Rattle.at_cache.specs.Renewing.{IsAwaited, IsSlotFor, PutsIn}
+use Rattle.at_cache.specs.Standings.{AreValued, IsTied, alive, held, instances_in, kept_held, remembered, shown, standing_of}
 use Rattle.at_cache.specs.Theirs.{AreTheirs, HasSlot}
 use Rattle.at_cache.specs.Traced.{PutsTrace, SparesOthers}
+use Rattle.at_cache.proofs.of_cut.Again.{held_off}
 use Rattle.at_cache.proofs.of_cut.Enters.{enters_indexed, enters_puts, enters_spares, enters_tied, enters_traces, enters_valued}
 use Rattle.at_cache.proofs.of_cut.Goes.{instance_among}
-use Rattle.at_cache.proofs.of_cut.HeldSlots.{kept_none, off_slot, slot_of}
+use Rattle.at_cache.proofs.of_cut.HeldSlots.{kept_none, kept_slot, off_slot, slot_of}
 use Rattle.at_cache.proofs.of_cut.Renewed.{among_is}
 use Rattle.at_cache.proofs.of_cut.Seeing.{set_is}
 use Rattle.at_cache.proofs.Shown.{held_by}
@@ -94,6 +96,20 @@ module _ (t mid : Table) {live : Memory} {x : Edge} {links : List ℕ} (i : Inst
       by (Some z) was is (Some y) now =
           let (w, found, of_slot) = was_there y now in
           is ∙ ap (λ (v : Entry). v.slot) (same_Some z w (sym was ∙ found)) ∙ of_slot
+
+-- nor is what is in the slot kept
+pub not_held : (lists : Location ℕ → List Edge) (t : Table) (st : List Standing) (puts : ℕ) (i : Instance ℕ) (slot : ℕ) → IsAwaited lists t st puts i slot
+    → (m : Memory) (ts : List Standing) → ((k : ℕ) → standing_of ts k ≡ standing_of st k) → {live : Memory} {x : Edge} {links : List ℕ} → Uses live x links (memory_of t) m
+    → held ts m slot ≡ None
+not_held lists t st puts i slot a m ts same u = by (memory_of t slot) refl
+  where
+    off : (e : Info) → memory_of t slot ≡ Some e → (b : Bool) → (standing_of st slot).holds ≡ b → held ts m slot ≡ None
+    off e there true is = absurd (none-some _ (sym a.absent ∙ ap (kept_held lists t st puts) (sym (a.its e there)) ∙ kept_slot lists t st puts slot e there is))
+    off e there false is = held_off ts m slot (ap (λ (s : Standing). s.holds) (same slot) ∙ is)
+
+    by : (o : Option Info) → memory_of t slot ≡ o → held ts m slot ≡ None
+    by None none = ap (option_and_then (shown (standing_of ts slot))) (u.free slot none)
+    by (Some e) there = off e there (standing_of st slot).holds refl
 
 -- an entry that is to come, by what it has
 module _ (i : Instance ℕ) (e : Entry) (value : Option (Value ℕ)) (links : List ℕ) (stamp : ℕ)

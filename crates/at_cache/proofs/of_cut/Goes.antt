@@ -12,7 +12,7 @@ use Rattle.at_cache.specs.declared.settling.Counts.{Counts}
 use Rattle.at_cache.specs.declared.standing.Standing.{Standing}
 use Rattle.at_cache.specs.declared.table.Table.{Table}
 use Rattle.slab.specs.Slab.{get}
-use Rattle.at_cache.specs.Info.{Info, Memory, info, memory_of}
+use Rattle.at_cache.specs.Info.{Info, info, memory_of}
 use Rattle.at_cache.specs.Placed.{at}
 use Rattle.at_cache.specs.Kept.{value_at, PutsBy}
 use Rattle.at_cache.specs.Settling.{AreTraces, CanKeep, GoesOn, HasSettled, IsWhole}

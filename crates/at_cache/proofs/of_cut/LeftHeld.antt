@@ -7,7 +7,6 @@ use Rattle.at_model.specs.Run.{Instance, Location, Value}
 use Rattle.at_body.specs.Same.{same_instance}
 use Rattle.at_body.specs.Values.{value_view}
 use Rattle.at_cache.specs.declared.cut.Cut.{Cut}
-use Rattle.at_cache.specs.declared.cut.Pass.TheVariants as pass
 use Rattle.at_cache.specs.declared.edge.Edge.{Edge}
 use Rattle.at_cache.specs.declared.entry.Entry.{Entry}
 use Rattle.at_cache.specs.declared.keeper.Order.{Order}
@@ -31,7 +30,7 @@ use Rattle.at_cache.proofs.of_cut.Tying.{tied_still}
 -- what memories show by standings that are the same
 module _ (st ts : List Standing) (same : (k : ℕ) → standing_of ts k ≡ standing_of st k) where
   pub held_alike : (m : Memory) → held st m ≡ held ts m
-  held_alike m n k = option_and_then (shown pass.Values (sym (same k) n)) (m k)
+  held_alike m n k = option_and_then (shown (sym (same k) n)) (m k)
 
   pub kept_alike : (lists : Location ℕ → List Edge) (t : Table) (puts : ℕ) → KeepsAll (kept_held lists t st puts)
       (kept_held lists t ts puts)
@@ -39,7 +38,7 @@ module _ (st ts : List Standing) (same : (k : ℕ) → standing_of ts k ≡ stan
       option_map (λ (e : Entry). let k : Kept = record {
         value = option_map value_view e.value;
         covers = covers lists
-            (λ k. option_and_then (shown pass.Values (same k n)) (memory_of t k)) puts e.slot;
+            (λ k. option_and_then (shown (same k n)) (memory_of t k)) puts e.slot;
       } in k)
       (option_and_then (λ (e : Entry). if (same e.slot n).holds then Some e else None) (lookup
       (same_instance i) t.entries.entries))

@@ -3,7 +3,6 @@ use Rattle.std.proofs.Common.{◌≡◌, inl, inr, ℕ, ◌+◌, List, [], true,
 use Rattle.std.specs.Option.{option_and_then}
 use Rattle.std.proofs.lemmas.Option.{none-some}
 use Rattle.at_model.specs.Run.{Location}
-use Rattle.at_cache.specs.declared.cut.Pass.TheVariants as pass
 use Rattle.at_cache.specs.declared.edge.Edge.{Edge}
 use Rattle.at_cache.specs.declared.standing.Standing.{Standing}
 use Rattle.at_cache.specs.declared.table.Table.{Table}
@@ -11,11 +10,12 @@ use Rattle.at_cache.specs.Info.{Info, Memory, memory_of}
 use Rattle.at_cache.specs.Kept.{KeepsAll}
 use Rattle.at_cache.specs.Putting.{Reads, Uses, users_at, with_users}
 use Rattle.at_cache.specs.Recorded.{IsIndexed}
-use Rattle.at_cache.specs.Standings.{alive, held, is_shown, kept_held, shape, shown, standing_of}
+use Rattle.at_cache.specs.Standings.{alive, held, kept_held, shown, standing_of}
 use Rattle.at_cache.proofs.Entered.{kept_mid, stale_indexed}
+use Rattle.at_cache.proofs.of_cut.Again.{held_as, held_from, held_off, held_on}
 use Rattle.at_cache.proofs.of_cut.Alive.{alive_on, by_holding}
-use Rattle.at_cache.proofs.of_cut.Flushed.{shown_held, shown_is}
-use Rattle.at_cache.proofs.of_cut.Passing.{not_seen, not_shown, seen_is}
+use Rattle.at_cache.proofs.of_cut.Flushed.{shown_held}
+use Rattle.at_cache.proofs.of_cut.Passing.{not_shown}
 use Rattle.at_cache.proofs.Showing.{same_of}
 use Rattle.at_cache.proofs.Taking.{none_in}
 use Rattle.at_cache.proofs.Testing.{indexed_by, tested}
@@ -24,9 +24,9 @@ module _ (ss : List Standing) where
   -- the users of what is kept are its users
   held_users : (m : Memory) (k : ℕ) (e : Info) → held ss m k ≡ Some e → users_at (held ss m) k ≡ users_at m k
   held_users m k e h =
-      let (f, found, on, is) = seen_is pass.Values (standing_of ss k) (m k) e h in
+      let (f, found, on, is) = held_from ss m k e h in
       ap (λ (o : Option Info). elim o as (λ _. List Edge) [ None ↦ [] | Some e ↦ e.users ]) h
-      ∙ ap (λ (x : Info). x.users) is
+      ∙ ap (λ (x : Info). x.users) (sym is)
       ∙ sym (ap (λ (o : Option Info). elim o as (λ _. List Edge) [ None ↦ [] | Some e ↦ e.users ]) found)
 
   -- what has users is kept
@@ -41,25 +41,25 @@ module _ (ss : List Standing) where
     pub reads_held : {reads : List (Location ℕ)} {lists later : Location ℕ → List Edge} → Reads (alive ss m) x reads lists later → Reads (held ss m) x reads lists later
     reads_held r = record {
       keeps = λ l y c e there same.
-          let (f, found, on, is) = seen_is pass.Values (standing_of ss y.slot) (m y.slot) e there in
-          r.keeps l y c f (alive_on ss m y.slot f found (by_holding (standing_of ss y.slot) on)) (sym (ap (λ (z : Info). z.stamp) is) ∙ same);
+          let (f, found, on, is) = held_from ss m y.slot e there in
+          r.keeps l y c f (alive_on ss m y.slot f found (by_holding (standing_of ss y.slot) on)) (ap (λ (z : Info). z.stamp) is ∙ same);
       only = r.only;
     }
 
   module _ {m n : Memory} {x : Edge} where
     pub uses_held : {slots : List ℕ} → Uses (alive ss m) x slots m n → Uses (held ss m) x slots (held ss m) (held ss n)
     uses_held {slots} u = record {
-      there = λ k e h. let (f, found, on, is) = seen_is pass.Values (standing_of ss k) (m k) e h in come k e f found on is;
+      there = λ k e h. let (f, found, on, is) = held_from ss m k e h in come k e f found on is;
       free = λ k none. free k none (m k) refl;
       users = record {
         keeps = λ l y c e there same.
             let (p, p_there) = has_users m l y c in
-            let (f, found, on, is) = seen_is pass.Values (standing_of ss y.slot) (m y.slot) e there in
-            let (g, g_found, g_on, g_is) = seen_is pass.Values (standing_of ss l) (m l) p p_there in
+            let (f, found, on, is) = held_from ss m y.slot e there in
+            let (g, g_found, g_on, g_is) = held_from ss m l p p_there in
             let (q, q_there, alike) = come l p g g_found g_on g_is in
             subst (λ (es : List Edge). Contains es y) (sym (held_users n l q q_there)) (u.users.keeps l y
             (subst (λ (es : List Edge). Contains es y) (held_users m l p p_there) c) f (alive_on ss m y.slot f found (by_holding (standing_of ss y.slot) on))
-            (sym (ap (λ (z : Info). z.stamp) is) ∙ same));
+            (ap (λ (z : Info). z.stamp) is ∙ same));
         only = λ l y c.
             let (q, q_there) = has_users n l y c in
             elim (u.users.only l y (subst (λ (es : List Edge). Contains es y) (held_users n l q q_there) c)) [
@@ -69,18 +69,18 @@ module _ (ss : List Standing) where
       };
     }
       where
-        come : (k : ℕ) (e f : Info) → m k ≡ Some f → is_shown pass.Values (standing_of ss k) ≡ true → e ≡ shape pass.Values (standing_of ss k) f
+        come : (k : ℕ) (e f : Info) → m k ≡ Some f → (standing_of ss k).holds ≡ true → held_as ss k f ≡ e
             → (g : Info) × (held ss n k ≡ Some g) × (g ≡ with_users g.users e)
         come k e f found on is =
             let (g, now, alike) = u.there k f found in (
-              shape pass.Values (standing_of ss k) g,
-              ap (option_and_then (shown pass.Values (standing_of ss k))) now ∙ shown_is pass.Values (standing_of ss k) g on,
-              ap (shape pass.Values (standing_of ss k)) alike ∙ ap (with_users g.users) (sym is),
+              held_as ss k g,
+              held_on ss n k g now on,
+              ap (held_as ss k) alike ∙ ap (with_users g.users) is,
             )
 
         free : (k : ℕ) → held ss m k ≡ None → (o : Option Info) → m k ≡ o → held ss n k ≡ None
-        free k none None absent = ap (option_and_then (shown pass.Values (standing_of ss k))) (u.free k absent)
-        free k none (Some f) there = not_seen pass.Values (standing_of ss k) (n k) (not_shown pass.Values (standing_of ss k) (m k) (subst IsSome (sym there) refl) none)
+        free k none None absent = ap (option_and_then (shown (standing_of ss k))) (u.free k absent)
+        free k none (Some f) there = held_off ss n k (not_shown (standing_of ss k) (m k) (subst IsSome (sym there) refl) none)
 
         was : (l : ℕ) (y : Edge) (q : Info) → held ss n l ≡ Some q → Contains (users_at m l) y → (o : Option Info) → held ss m l ≡ o → Contains (users_at (held ss m) l) y
         was l y q q_there d (Some e) h = subst (λ (es : List Edge). Contains es y) (sym (held_users m l e h)) d

@@ -7,7 +7,6 @@ use Rattle.std.proofs.lemmas.Bool.{cases_eq, eq-eqb, ne_eqb}
 use Rattle.std.proofs.lemmas.Option.{none-some, same_Some}
 use Rattle.at_model.specs.Run.{Instance, Location, Value}
 use Rattle.at_body.specs.Same.{same_instance}
-use Rattle.at_cache.specs.declared.cut.Pass.TheVariants as pass
 use Rattle.at_cache.specs.declared.edge.Edge.{Edge}
 use Rattle.at_cache.specs.declared.entry.Entry.{Entry}
 use Rattle.at_cache.specs.declared.keeper.Order.{Order}
@@ -18,7 +17,7 @@ use Rattle.at_cache.specs.Kept.{KeepsAll}
 use Rattle.at_cache.specs.Recorded.{IsIndexed, edge_to, is_listed}
 use Rattle.at_cache.specs.Renewing.{IsAwaited, IsSlotFor, StaysAwaited}
 use Rattle.at_cache.specs.Slots.{outdated}
-use Rattle.at_cache.specs.Standings.{IsTaken, IsTied, but_for, held, instances_in, is_alive, is_tied, kept_held, last_of, remembered, shown, standing_of, trace_of}
+use Rattle.at_cache.specs.Standings.{IsChanged, IsTied, held, instances_in, is_alive, is_tied, kept_held, last_of, remembered, shown, standing_of, trace_of, untraced}
 use Rattle.at_cache.specs.Traced.{KeepsTrace, Memories, PutsTrace, StayTraced, Trace}
 use Rattle.at_cache.proofs.Index.{kept_at}
 use Rattle.at_cache.proofs.of_cut.Again.{held_off, tied_there}
@@ -77,7 +76,7 @@ module _ (lists : Location ℕ → List Edge) (told tnew : Table) (st ts : List 
     (a : IsAwaited lists told st puts inst slot) (e : Info) (there : memory_of told slot ≡ Some e)
     (written : (k : ℕ) → memory_of tnew k ≡ (if nat_eq k slot then option_map (outdated links puts) (memory_of told k)
     else memory_of told k))
-    (taken : IsTaken pass.Traces slot st ts) where
+    (taken : IsChanged untraced slot st ts) where
   abbrev it : Info
   it = outdated links puts e
 
@@ -94,15 +93,15 @@ module _ (lists : Location ℕ → List Edge) (told tnew : Table) (st ts : List 
       ∙ ap (λ b. if b then option_map (outdated links puts) (memory_of told k) else memory_of told k)
       (ne_eqb k slot differs)
 
-  stands_here : standing_of ts slot ≡ but_for pass.Traces (standing_of st slot)
+  stands_here : standing_of ts slot ≡ untraced (standing_of st slot)
   stands_here =
       taken slot
-      ∙ ap (λ b. if b then but_for pass.Traces (standing_of st slot) else standing_of st slot) (eq-eqb slot slot refl)
+      ∙ ap (λ b. if b then untraced (standing_of st slot) else standing_of st slot) (eq-eqb slot slot refl)
 
   stands : (k : ℕ) → (k ≡ slot → ⊥) → standing_of ts k ≡ standing_of st k
   stands k differs =
       taken k
-      ∙ ap (λ b. if b then but_for pass.Traces (standing_of st k) else standing_of st k) (ne_eqb k slot differs)
+      ∙ ap (λ b. if b then untraced (standing_of st k) else standing_of st k) (ne_eqb k slot differs)
 
   -- what is in the slot is that entry, and in each other one what was
   came : (k : ℕ) (f : Info) → memory_of tnew k ≡ Some f → ((k ≡ slot) × (it ≡ f))
@@ -152,8 +151,8 @@ module _ (lists : Location ℕ → List Edge) (told tnew : Table) (st ts : List 
         ∙ sym (held_off st (memory_of told) slot off)
         ∙ ap (held st (memory_of told)) (sym same)
     | inr differs ↦
-        ap (λ (z : Standing). option_and_then (shown pass.Values z) (memory_of tnew k)) (stands k differs)
-        ∙ ap (option_and_then (shown pass.Values (standing_of st k))) (other k differs)
+        ap (λ (z : Standing). option_and_then (shown z) (memory_of tnew k)) (stands k differs)
+        ∙ ap (option_and_then (shown (standing_of st k))) (other k differs)
   ]
 
   all_same : held st (memory_of told) ≡ held ts (memory_of tnew)

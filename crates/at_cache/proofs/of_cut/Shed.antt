@@ -6,7 +6,6 @@ use Rattle.std.proofs.lemmas.Bool.{cases_eq, cases_lt, eq-eqb, ne_eqb}
 use Rattle.std.proofs.lemmas.Option.{none-some}
 use Rattle.at_model.specs.Run.{Instance, Location}
 use Rattle.at_cache.specs.declared.cut.Cut.{Cut}
-use Rattle.at_cache.specs.declared.cut.Pass.TheVariants as pass
 use Rattle.at_cache.specs.declared.edge.Edge.{Edge}
 use Rattle.at_cache.specs.declared.standing.Standing.{Standing}
 use Rattle.at_cache.specs.declared.table.Table.{Table}
@@ -14,7 +13,7 @@ use Rattle.at_cache.specs.Info.{Info, Memory, memory_of}
 use Rattle.at_cache.specs.Kept.{KeepsAll}
 use Rattle.at_cache.specs.Recorded.{IsIndexed, edge_to, is_listed}
 use Rattle.at_cache.specs.Shedding.{AreHeld, LosesTraces, Sheds, ShedsAt, Shrinks}
-use Rattle.at_cache.specs.Standings.{AreValued, IsTaken, IsTied, but_for, held, instances_in, is_tied, kept_held, nothing, remembered, shown, standing_of, trace_of}
+use Rattle.at_cache.specs.Standings.{AreValued, IsChanged, IsTied, held, instances_in, is_tied, kept_held, nothing, remembered, shown, standing_of, trace_of, untraced}
 use Rattle.at_cache.specs.Traced.{FlushesTraces, IsStill, Memories, StayTraced, Trace}
 use Rattle.at_cache.proofs.Ending.{on_right}
 use Rattle.at_cache.proofs.Index.{kept_at}
@@ -112,7 +111,7 @@ module _ (lists : Location ℕ → List Edge) (t u : Table) (st : List Standing)
   same_held k = by (standing_of st k).holds refl
     where
       by : (b : Bool) → (standing_of st k).holds ≡ b → held st (memory_of u) k ≡ held st (memory_of t) k
-      by true on = ap (option_and_then (shown pass.Values (standing_of st k))) (s.stays k on)
+      by true on = ap (option_and_then (shown (standing_of st k))) (s.stays k on)
       by false off = held_off st (memory_of u) k off ∙ sym (held_off st (memory_of t) k off)
 
   all_held : held st (memory_of u) ≡ held st (memory_of t)
@@ -165,23 +164,23 @@ module _ (lists : Location ℕ → List Edge) (t u : Table) (st : List Standing)
 
 -- The first slots have lost their traces.
 pub record LosesBelow (n : ℕ) (old new : List Standing) : Type 0 where
-  pub done : (k : ℕ) → k < n → standing_of new k ≡ but_for pass.Traces (standing_of old k)
+  pub done : (k : ℕ) → k < n → standing_of new k ≡ untraced (standing_of old k)
   pub rest : (k : ℕ) → n ≤ k → standing_of new k ≡ standing_of old k
 
 pub loses_start : (ss : List Standing) → LosesBelow 0 ss ss
 loses_start ss = record { done = λ k less. absurd (omega (arith, less)); rest = λ k over. refl }
 
-pub loses_more : (n : ℕ) (ss mid new : List Standing) → LosesBelow n ss mid → IsTaken pass.Traces n mid new → LosesBelow (n + 1) ss new
+pub loses_more : (n : ℕ) (ss mid new : List Standing) → LosesBelow n ss mid → IsChanged untraced n mid new → LosesBelow (n + 1) ss new
 loses_more n ss mid new a t = record {
   done = λ k less. elim (cases_eq k n) [
-    | inl same ↦ written k true (eq-eqb k n same) ∙ ap (but_for pass.Traces) (a.rest k (omega (arith, same)))
+    | inl same ↦ written k true (eq-eqb k n same) ∙ ap untraced (a.rest k (omega (arith, same)))
     | inr differs ↦ written k false (ne_eqb k n differs) ∙ a.done k (below k less differs)
   ];
   rest = λ k over. written k false (ne_eqb k n (λ same. absurd (omega (arith, over, same)))) ∙ a.rest k (omega (arith, over));
 }
   where
-    written : (k : ℕ) (b : Bool) → nat_eq k n ≡ b → standing_of new k ≡ (if b then but_for pass.Traces (standing_of mid k) else standing_of mid k)
-    written k b is = t k ∙ ap (λ c. if c then but_for pass.Traces (standing_of mid k) else standing_of mid k) is
+    written : (k : ℕ) (b : Bool) → nat_eq k n ≡ b → standing_of new k ≡ (if b then untraced (standing_of mid k) else standing_of mid k)
+    written k b is = t k ∙ ap (λ c. if c then untraced (standing_of mid k) else standing_of mid k) is
 
     below : (k : ℕ) → k < n + 1 → (k ≡ n → ⊥) → k < n
     below k less differs = elim (cases_lt k n) [ inl is ↦ is | inr over ↦ absurd (differs (omega (arith, less, over))) ]
@@ -191,7 +190,7 @@ loses_end n old new all a k = elim (cases_lt k n) [
   | inl less ↦ a.done k less
   | inr over ↦
       let none : standing_of old k ≡ nothing = past_nothing old k (omega (arith, over, all)) in
-      a.rest k over ∙ none ∙ ap (but_for pass.Traces) (sym none)
+      a.rest k over ∙ none ∙ ap untraced (sym none)
 ]
 
 -- Where no entry is traced any more, what is kept is what it was.
@@ -199,7 +198,7 @@ module _ (lists : Location ℕ → List Edge) (t : Table) (ss ts : List Standing
   still_held : (k : ℕ) → held ts (memory_of t) k ≡ held ss (memory_of t) k
   still_held k = by (memory_of t k)
     where
-      by : (o : Option Info) → option_and_then (shown pass.Values (standing_of ts k)) o ≡ option_and_then (shown pass.Values (standing_of ss k)) o
+      by : (o : Option Info) → option_and_then (shown (standing_of ts k)) o ≡ option_and_then (shown (standing_of ss k)) o
       by None = refl
       by (Some e) = ap (λ (x : Standing). if x.holds then Some (let f : Info = record e { since = x.since } in f) else None) (lost k)
 
@@ -215,17 +214,17 @@ module _ (lists : Location ℕ → List Edge) (t : Table) (ss ts : List Standing
   pub indexed_untraced : IsIndexed lists puts (held ss (memory_of t)) → IsIndexed lists puts (held ts (memory_of t))
   indexed_untraced = subst (IsIndexed lists puts) (sym still)
 
-  untraced : (k : ℕ) → (standing_of ts k).traced ≡ true → ⊥
-  untraced k on = true≢false (sym on ∙ ap (λ (x : Standing). x.traced) (lost k))
+  none_traced : (k : ℕ) → (standing_of ts k).traced ≡ true → ⊥
+  none_traced k on = true≢false (sym on ∙ ap (λ (x : Standing). x.traced) (lost k))
 
   pub valued_untraced : AreValued ts (memory_of t)
-  valued_untraced k e there on = absurd (untraced k on)
+  valued_untraced k e there on = absurd (none_traced k on)
 
   pub stay_untraced : (m : Memories) → StayTraced m (remembered lists t ts)
   stay_untraced m j trace traced =
       let (k, f, there, named) = traced_in lists t ts j trace traced in
       let (v, on, value, it) = trace_is lists t ts k f there trace (ap (remembered lists t ts).traced named ∙ traced) in
-      absurd (untraced k on)
+      absurd (none_traced k on)
 
 -- one after the other
 still_then : (a b c : Memories) (i : Instance ℕ) (t : Trace) → StayTraced a b → IsStill b c i t → IsStill a c i t

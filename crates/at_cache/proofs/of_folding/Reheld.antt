@@ -3,7 +3,6 @@ use Rattle.std.proofs.Common.{◌≡◌, ◌⊎◌, ℕ, List, Bool, true, false
 use Rattle.std.specs.Option.{option_and_then}
 use Rattle.std.proofs.lemmas.Option.{none-some, same_Some}
 use Rattle.at_model.specs.Run.{Location}
-use Rattle.at_cache.specs.declared.cut.Pass.TheVariants as pass
 use Rattle.at_cache.specs.declared.edge.Edge.{Edge}
 use Rattle.at_cache.specs.declared.standing.Standing.{Standing}
 use Rattle.at_cache.specs.declared.table.Table.{Table}
@@ -31,7 +30,7 @@ module _ (st : List Standing) where
   held_at m on k = by (m k) refl
     where
       by : (o : Option Info) → m k ≡ o → held st m k ≡ renumbered m k
-      by None none = ap (option_and_then (shown pass.Values (standing_of st k))) none ∙ sym (ap (option_map (held_as st k)) none)
+      by None none = ap (option_and_then (shown (standing_of st k))) none ∙ sym (ap (option_map (held_as st k)) none)
       by (Some e) there = held_on st m k e there (on k e there) ∙ sym (ap (option_map (held_as st k)) there)
 
   as_held : (m : Memory) → AreHeld st m → held st m ≡ renumbered m

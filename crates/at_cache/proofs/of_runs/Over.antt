@@ -1,9 +1,11 @@
 -- A flush goes over the seats of nodes, beside their own facets.
-use Rattle.std.proofs.Common.{◌≡◌, ◌⊎◌, inl, inr, ℕ, ◌+◌, ◌≤◌, List, [], ◌∷◌, ◌++◌, append-nil, ◌&&◌, Bool, true, false, true≢false, not, cond, Option, None, Some, Contains, slice_get, length, nat_eq, if◌then◌else◌, refl, sym, ap, ◌∙◌, subst, append_assoc, arith, eqb-true}
+use Rattle.std.proofs.Common.{◌≡◌, ◌⊎◌, inl, inr, ℕ, ◌+◌, ◌≤◌, List, [], ◌∷◌, ◌++◌, append-nil, ◌&&◌, Bool, true, false, true≢false, not, cond, Option, None, Some, Contains, slice_get, length, nat_eq, if◌then◌else◌, refl, sym, ap, ◌∙◌, subst, arith, eqb-true}
 use Rattle.std.proofs.lemmas.Bool.{cases_Bool}
 use Rattle.std.proofs.lemmas.Option.{slice_get_past}
 use Rattle.at_model.specs.Run.{Location, Idx}
 use Rattle.smallvec.specs.SmallVec.{SmallVec}
+use Rattle.at_cache.specs.declared.cut.Cut.{Cut}
+use Rattle.at_cache.specs.declared.cut.Loss.TheVariants as loss
 use Rattle.at_cache.specs.declared.edge.Edge.{Edge}
 use Rattle.at_cache.specs.declared.facet.Readers.{Readers}
 use Rattle.at_cache.specs.declared.run.AllReaders.{AllReaders}
@@ -12,8 +14,6 @@ use Rattle.at_cache.specs.declared.run.Run.{Run}
 use Rattle.at_cache.specs.declared.run.Seat.{Seat}
 use Rattle.at_cache.specs.declared.scope.Scope.{Scope}
 use Rattle.at_cache.specs.Asking.{AreNoted, Asked, GoesOn, is_index, looks_at, sees}
-use Rattle.at_cache.specs.Flushing.{Work}
-use Rattle.at_cache.specs.Info.{Memory}
 use Rattle.at_cache.specs.Kept.{node_at}
 use Rattle.at_cache.specs.Recorded.{is_listed}
 use Rattle.at_cache.specs.Readers.{edges_at, is_of_index, stands_for}
@@ -26,6 +26,7 @@ use Rattle.at_cache.proofs.Listed.{no_edges}
 use Rattle.at_cache.proofs.Locations.{stands_at, stands_index}
 use Rattle.at_cache.proofs.of_runs.Reaching.{on_are}
 use Rattle.at_cache.proofs.Naming.{goes_nowhere}
+use Rattle.at_cache.proofs.of_cut.Passing.{over_then}
 use Rattle.at_cache.proofs.Taking.{none_in}
 
 seen_node : (node : ℕ) (s : Scope) (l : Location ℕ) → sees s node l ≡ true → node_at l ≡ node
@@ -129,8 +130,8 @@ not_seen n seat l index at = by (is_index l) (stands_for (node_at l) seat.facet 
 -- a node that sits nowhere, or whose index is looked at there, has no edge that is seen
 pub goes_past_seat : {says : Location ℕ → Bool → Type 0} (s : Scope) (seats : List Seat) (runs : List Run) (node : ℕ)
     → ((seat : Seat) → slice_get seats node ≡ Some seat → (seat.place ≡ 0) ⊎ (is_of_index seat.facet ≡ true))
-    → (first : Option ℕ) (m : Memory) → GoesOn says (sees s node) (edges_over seats runs) first m first m
-goes_past_seat s seats runs node none first m = goes_nowhere first m (λ l h x c.
+    → (first : Option ℕ) (c : Cut) → GoesOn says (sees s node) (edges_over seats runs) first c first c
+goes_past_seat s seats runs node none first c = goes_nowhere first c (λ l h x c.
     let at = seen_node node s l h in none_in x (subst (λ es. Contains es x) (by l at (slice_get seats node) refl) c))
   where
     by : (l : Location ℕ) → node_at l ≡ node → (o : Option Seat) → slice_get seats node ≡ o → edges_over seats runs l ≡ []
@@ -141,12 +142,9 @@ goes_past_seat s seats runs node none first m = goes_nowhere first m (λ l h x c
     ]
 
 -- one list after the other, of the same locations
-pub goes_both : {says : Location ℕ → Bool → Type 0} {seen : Location ℕ → Bool} {lists more all : Location ℕ → List Edge} {first mid later : Option ℕ} {m n o : Memory}
-    → ((l : Location ℕ) → all l ≡ lists l ++ more l) → GoesOn says seen lists first m mid n → GoesOn says seen more mid n later o → GoesOn says seen all first m later o
-goes_both {later = later} {o = o} is a b old start w =
-    let (edges, done, asked) = a old start w in
-    let (rest, ended, then_asked) = b old (start ++ edges) done in
-    (edges ++ rest, subst (λ es. Work old es [] later o) (append_assoc start edges rest) ended, asked_both is asked then_asked)
+pub goes_both : {says : Location ℕ → Bool → Type 0} {seen : Location ℕ → Bool} {lists more all : Location ℕ → List Edge} {first mid later : Option ℕ} {a b c : Cut}
+    → ((l : Location ℕ) → all l ≡ lists l ++ more l) → GoesOn says seen lists first a mid b → GoesOn says seen more mid b later c → GoesOn says seen all first a later c
+goes_both is (edges, done, asked) (rest, ended, then_asked) = (edges ++ rest, over_then loss.Both done ended, asked_both is asked then_asked)
 
 -- there is no edge of a node past all that were looked at
 beyond : (rs : AllReaders) (number : ℕ) → length rs.own.items ≤ number → length rs.seats.items ≤ number → (l : Location ℕ) → number ≤ node_at l
@@ -160,7 +158,7 @@ beyond rs number own seats l more =
 module _ {says : Location ℕ → Bool → Type 0} (rs : AllReaders) where
   -- no node was ever looked at
   pub goes_unread : (count : ℕ) → length rs.own.items ≤ count → length rs.seats.items ≤ count → count ≡ 0
-      → {seen : Location ℕ → Bool} (first : Option ℕ) (m : Memory) → GoesOn says seen (edges_to rs) first m first m
-  goes_unread count own seats none first m = goes_nowhere first m (λ l h x c.
+      → {seen : Location ℕ → Bool} (first : Option ℕ) (c : Cut) → GoesOn says seen (edges_to rs) first c first c
+  goes_unread count own seats none first c = goes_nowhere first c (λ l h x c.
       let all : count ≤ node_at l = omega (arith, none) in
       none_in x (subst (λ es. Contains es x) (beyond rs count own seats l all) c))

@@ -1,11 +1,8 @@
-use Rattle.std.proofs.Common.{◌≡◌, take}
+use Rattle.std.proofs.Common.{take}
 use Rattle.at_cache.specs.Kept.{Answers}
 use Rattle.at_cache.specs.Asking.{GoesOn, looks_at}
 use Rattle.at_cache.specs.Readers.{edges_among}
 use Rattle.at_cache.proofs.forgetting.begin_at.Given as goal
 
 abbrev pub invariant-loop-reader : goal.invariant-loop-reader
-invariant-loop-reader g l = record {
-  goes_on : GoesOn (Answers (goal.F-post g l.touched)) (looks_at l.scope) (edges_among l.node (take l.reader-index l.readers)) l.initial.first (g.W.Marked.memory l.initial.entries) l.first (g.W.Marked.memory l.entries);
-  aside : g.W.Marked.aside l.entries ≡ g.W.Marked.aside l.initial.entries;
-}
+invariant-loop-reader g l = GoesOn (Answers (goal.F-post g l.touched)) (looks_at l.scope) (edges_among l.node (take l.reader-index l.readers)) l.initial.first l.initial.cut l.first l.cut

@@ -1,9 +1,6 @@
-use Rattle.std.proofs.Common.{◌∙◌, refl}
+use Rattle.std.proofs.Common.{refl}
 use Rattle.at_cache.proofs.of_runs.Over.{goes_both}
 use Rattle.at_cache.proofs.forgetting.begin_node.Goals as goal
 
 pub returns : goal.returns
-returns g c = record {
-  goes_on = goes_both (λ l. refl) ((rw c.as_slice.ensures.value at c.begin_own-own.ensures.goes_on)) c.begin_over.ensures.goes_on;
-  aside = c.begin_over.ensures.aside ∙ c.begin_own-own.ensures.aside;
-}
+returns g c = goes_both (λ l. refl) (rw c.as_slice.ensures.value at c.begin_own-own.ensures) c.begin_over.ensures

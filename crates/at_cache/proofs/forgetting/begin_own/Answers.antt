@@ -1,10 +1,10 @@
 use Rattle.at_cache.proofs.Naming.{goes_at, goes_past, node_past, node_there}
 use Rattle.at_cache.proofs.forgetting.begin_own.Goals as goal
 
-pub returns-in-Some-clause-goes_on : goal.returns-in-Some-clause-goes_on
-returns-in-Some-clause-goes_on g c =
+pub returns-in-Some : goal.returns-in-Some
+returns-in-Some g c =
     let at = c.in-Some.ensures.lookup in
-    goes_at c.args.readers.now c.args.node c.args.scope c.in-Some.list.now (node_there c.args.readers.now c.index.result c.args.node c.in-Some.list.now c.index.ensures at.0 at.1) (rw c.as_slice.ensures at c.begin_at.ensures.goes_on)
+    goes_at c.args.readers.now c.args.node c.args.scope c.in-Some.list.now (node_there c.args.readers.now c.index.result c.args.node c.in-Some.list.now c.index.ensures at.0 at.1) (rw c.as_slice.ensures at c.begin_at.ensures)
 
-pub returns-in-None-clause-goes_on : goal.returns-in-None-clause-goes_on
-returns-in-None-clause-goes_on g c = goes_past c.args.readers.now c.args.node c.args.scope (node_past c.args.readers.now c.index.result c.args.node c.index.ensures c.in-None.ensures.lookup.0) c.args.first _
+pub returns-in-None : goal.returns-in-None
+returns-in-None g c = goes_past c.args.readers.now c.args.node c.args.scope (node_past c.args.readers.now c.index.result c.args.node c.index.ensures c.in-None.ensures.lookup.0) c.args.first _

@@ -1,11 +1,11 @@
-use Rattle.std.proofs.Common.{[], append-nil}
+use Rattle.at_cache.proofs.of_cut.Passing.{over_none}
 use Rattle.at_cache.proofs.forgetting.doom_listed.Goals as goal
 
-pub returns-in-Empty-clause-works : goal.returns-in-Empty-clause-works
-returns-in-Empty-clause-works g c old start w = rw c.in-Empty.is at w
+pub returns-in-Empty : goal.returns-in-Empty
+returns-in-Empty c = rw c.in-Empty.is (over_none c.args.loss c.args.first c.args.cut.now)
 
-pub returns-in-Few-clause-works : goal.returns-in-Few-clause-works
-returns-in-Few-clause-works g c old start w = c.doom_row.ensures.works old start [] (rw (append-nil _, c.few.ensures) (rw c.in-Few.is at w))
+pub returns-in-Few : goal.returns-in-Few
+returns-in-Few c = rw c.in-Few.is (rw c.few.ensures at c.doom_row.ensures)
 
-pub returns-in-More-clause-works : goal.returns-in-More-clause-works
-returns-in-More-clause-works g c old start w = c.doom_all.ensures.works old start (rw (c.as_slice.ensures, c.deref.ensures) (rw c.in-More.is at w))
+pub returns-in-More : goal.returns-in-More
+returns-in-More c = rw c.in-More.is (rw (c.as_slice.ensures, c.deref.ensures) at c.doom_all.ensures)

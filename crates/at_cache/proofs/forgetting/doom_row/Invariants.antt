@@ -1,16 +1,12 @@
 use Rattle.std.proofs.Common.{◌≡◌, ◌++◌, List, length}
 use Rattle.at_cache.specs.declared.edge.Edge.{Edge}
-use Rattle.at_cache.specs.Info.{Memory}
-use Rattle.at_cache.specs.Flushing.{Work}
+use Rattle.at_cache.specs.Marking.{GoesOver}
 use Rattle.at_cache.specs.Rows.{edges_of}
 use Rattle.at_cache.proofs.forgetting.doom_row.Given as goal
 
+-- those before the rest were gone over
 abbrev pub invariant-loop-edge : goal.invariant-loop-edge
-invariant-loop-edge g l = record {
-  works : (old : Memory) (start left : List Edge) → Work old start (edges_of l.row ++ left) l.initial.first (g.W.Marked.memory l.initial.entries)
-      → Work old start (edges_of l.rest ++ left) l.first (g.W.Marked.memory l.entries);
-  aside : g.W.Marked.aside l.entries ≡ g.W.Marked.aside l.initial.entries;
-}
+invariant-loop-edge l = (done : List Edge) × (edges_of l.row ≡ done ++ edges_of l.rest) × GoesOver l.loss done l.initial.first l.initial.cut l.first l.cut
 
 abbrev pub decreases-loop-edge : goal.decreases-loop-edge
-decreases-loop-edge g l = length (edges_of l.rest)
+decreases-loop-edge l = length (edges_of l.rest)

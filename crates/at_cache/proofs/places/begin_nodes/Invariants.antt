@@ -1,4 +1,4 @@
-use Rattle.std.proofs.Common.{◌≡◌, take}
+use Rattle.std.proofs.Common.{take}
 use Rattle.std.specs.List.{list_any}
 use Rattle.at_cache.specs.Kept.{Answers}
 use Rattle.at_cache.specs.Asking.{GoesOn, sees}
@@ -6,7 +6,4 @@ use Rattle.at_cache.specs.Finding.{edges_to}
 use Rattle.at_cache.proofs.places.begin_nodes.Given as goal
 
 abbrev pub invariant-loop-node : goal.invariant-loop-node
-invariant-loop-node g l = record {
-  goes_on : GoesOn (Answers (goal.F-post g l.touched)) (λ k. list_any (λ n. sees l.scope n k) (take l.node-index l.nodes)) (edges_to l.readers) l.initial.first (g.W.Marked.memory l.initial.entries) l.first (g.W.Marked.memory l.entries);
-  aside : g.W.Marked.aside l.entries ≡ g.W.Marked.aside l.initial.entries;
-}
+invariant-loop-node g l = GoesOn (Answers (goal.F-post g l.touched)) (λ k. list_any (λ n. sees l.scope n k) (take l.node-index l.nodes)) (edges_to l.readers) l.initial.first l.initial.cut l.first l.cut

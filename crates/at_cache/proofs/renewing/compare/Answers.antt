@@ -8,4 +8,5 @@ pub returns-then-has_value : goal.returns-then-has_value
 returns-then-has_value c = compared_same c.args.slot (option_map value_view c.args.value.now) c.args.cut.now.standings.items (memory_of c.args.cut.now.entries) (c.has_value.ensures.same c.if-has_value.true)
 
 pub returns : goal.returns
-returns c = compared_other c.args.slot (option_map value_view c.args.value.now) c.args.cut.now.standings.items c.lose_users.new.cut.standings.items (memory_of c.args.cut.now.entries) (memory_of c.lose_users.new.cut.entries) c.lose_users.ensures (λ f there. c.has_value.ensures.other c.if-has_value.false f there)
+returns c = compared_other c.args.slot (option_map value_view c.args.value.now) c.args.cut.now c.doom_users.new.cut c.doom_users.result c.requires.idle c.doom_users.ensures
+    (λ f there. c.has_value.ensures.other c.if-has_value.false f there)

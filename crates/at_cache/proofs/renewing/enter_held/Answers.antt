@@ -1,14 +1,15 @@
-use Rattle.std.proofs.Common.{◌<◌, ◌∙◌, List, true, ap, length, map, option_map, refl, rules, subst, sym}
+use Rattle.std.proofs.Common.{◌≡◌, ◌<◌, ◌∙◌, List, None, true, ap, length, map, option_map, refl, rules, subst, sym}
 use Rattle.at_body.specs.Values.{value_view}
 use Rattle.at_store.specs.Located.{loc_view}
 use Rattle.at_cache.specs.declared.standing.Standing.{Standing}
 use Rattle.at_cache.specs.Info.{memory_of}
+use Rattle.at_cache.specs.Marking.{held_in}
 use Rattle.at_cache.specs.Putting.{AreTaken}
 use Rattle.at_cache.specs.Finding.{edges_to}
 use Rattle.at_cache.specs.Renewing.{IsSlotFor}
 use Rattle.at_cache.specs.Standings.{standing_of}
 use Rattle.at_cache.proofs.of_cut.Alive.{reads_stand, uses_stand}
-use Rattle.at_cache.proofs.of_cut.EnteredHeld.{has_entered, made_so, puts_so, slot_still}
+use Rattle.at_cache.proofs.of_cut.EnteredHeld.{has_entered, made_so, not_held, puts_so, slot_still}
 use Rattle.at_cache.proofs.of_cut.Goes.{has_shown}
 use Rattle.at_cache.proofs.of_cut.LeftHeld.{enters_none, left, left_alone, uses_alike}
 use Rattle.at_cache.proofs.Listing.{uses_none}
@@ -63,6 +64,12 @@ pub put_in-requires-clause-slot : goal.put_in-requires-clause-slot
 put_in-requires-clause-slot c = subst (λ s. IsSlotFor c.add_users.new.cut.entries c.args.inst s) (sym c.fresh.ensures.slot)
     (slot_still c.args.cut.now.entries c.add_users.new.cut.entries c.args.inst c.args.edge.slot c.add_users.ensures.uses
     c.add_users.ensures.key c.requires.awaited.place)
+
+pub put_in-requires-clause-hidden : goal.put_in-requires-clause-hidden
+put_in-requires-clause-hidden c = subst (λ s. held_in c.add_users.new.cut s ≡ None) (sym c.fresh.ensures.slot)
+    (not_held (edges_to c.args.readers.now) c.args.cut.now.entries c.args.cut.now.standings.items c.args.edge.stamp c.args.inst c.args.edge.slot c.requires.awaited
+    (memory_of c.add_users.new.cut.entries) c.add_users.new.cut.standings.items
+    (λ k. ap (λ (ss : List Standing). standing_of ss k) c.add_users.ensures.standings ∙ c.make_standing.ensures.same k) c.add_users.ensures.uses)
 
 pub put_in-requires-clause-made : goal.put_in-requires-clause-made
 put_in-requires-clause-made c = made_so c.args.inst c.fresh.result

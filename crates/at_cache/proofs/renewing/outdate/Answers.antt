@@ -20,5 +20,5 @@ returns c lists i a =
     let (e, there) = from_kept (memory_of c.args.cut.now.entries) c.args.slot
     (sym c.is_taken.ensures ∙ c.if-not-is_taken.false) in
     stays_awaited lists c.args.cut.now.entries c.outdate.new.self c.args.cut.now.standings.items
-    c.take_from.new.standings.items c.args.puts.now c.args.slot i c.new.result.items c.new.ensures.items a e there
-    c.outdate.ensures c.take_from.ensures.taken
+    c.take_trace.new.standings.items c.args.puts.now c.args.slot i c.new.result.items c.new.ensures.items a e there
+    c.outdate.ensures c.take_trace.ensures.taken

@@ -7,6 +7,9 @@ use Rattle.at_cache.proofs.renewing.renew.Goals as goal
 pub compare-requires-clause-there : goal.compare-requires-clause-there
 compare-requires-clause-there c = rw c.into_put-slot.ensures c.requires.there
 
+pub compare-requires-clause-hidden : goal.compare-requires-clause-hidden
+compare-requires-clause-hidden c = rw c.into_put-slot.ensures c.requires.hidden
+
 pub renew-requires : goal.renew-requires
 renew-requires c = record { there = subst IsSome (sym (c.compare.ensures.entries _)) (rw c.into_put-slot.ensures c.requires.there) }
 

@@ -1,6 +1,5 @@
 use Rattle.std.proofs.Common.{arith, subst}
-use Rattle.at_cache.specs.declared.cut.Pass.TheVariants as pass
-use Rattle.at_cache.specs.Standings.{IsTaken}
+use Rattle.at_cache.specs.Standings.{IsChanged, untraced}
 use Rattle.at_cache.proofs.of_cut.Shed.{loses_end, loses_more, loses_start}
 use Rattle.at_cache.proofs.shedding.lose_traces.Goals as goal
 
@@ -10,7 +9,7 @@ loop-number-init c = loses_start _
 pub loop-number-preserved : goal.loop-number-preserved
 loop-number-preserved c =
     loses_more c.loop-number.number _ _ _ c.loop-number.invariant
-    (subst (λ s. IsTaken pass.Traces s c.loop-number.standings.items c.take_from.new.standings.items) c.in_ok-slot.ensures c.take_from.ensures.taken)
+    (subst (λ s. IsChanged untraced s c.loop-number.standings.items c.take_trace.new.standings.items) c.in_ok-slot.ensures c.take_trace.ensures.taken)
 
 pub returns : goal.returns
 returns c =

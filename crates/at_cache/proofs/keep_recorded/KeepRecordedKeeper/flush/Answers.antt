@@ -13,11 +13,10 @@ invariant_of-self g c =
     let k = c.let_go.new.self in
     let lists = edges_to k.readers in
     let t = c.take_away.ensures.takes in
-    let v = c.take_away-2.ensures.takes in
     record {
-      indexed = held_after says lists k.puts k.cut c.take_away.new.cut c.take_away-2.new.cut t v k.indexed;
-      tied = tied_after says lists k.puts k.cut c.take_away.new.cut c.take_away-2.new.cut t v k.tied;
-      valued = valued_after says lists k.puts k.cut c.take_away.new.cut c.take_away-2.new.cut t v k.valued;
+      indexed = held_after says lists k.puts k.cut c.take_away.new.cut t k.indexed;
+      tied = tied_after says lists k.puts k.cut c.take_away.new.cut t k.tied;
+      valued = valued_after says lists k.puts k.cut c.take_away.new.cut t k.valued;
       noted = k.noted;
       sure = λ off. absurd (true≢false off);
     }
@@ -25,25 +24,23 @@ invariant_of-self g c =
 pub returns-clause-leaves : goal.returns-clause-leaves
 returns-clause-leaves g c =
     leaves_then (Answers (goal.F-post g c.args.touched.now)) c.let_go.ensures.kept
-    (leaves_held (Answers (goal.F-post g c.args.touched.now)) (edges_to c.let_go.new.self.readers) c.let_go.new.self.puts c.let_go.new.self.cut c.take_away.new.cut c.take_away-2.new.cut
-    c.take_away.ensures.takes c.take_away-2.ensures.takes c.let_go.new.self.indexed)
+    (leaves_held (Answers (goal.F-post g c.args.touched.now)) (edges_to c.let_go.new.self.readers) c.let_go.new.self.puts c.let_go.new.self.cut c.take_away.new.cut c.take_away.ensures.takes c.let_go.new.self.indexed)
 
 pub returns-clause-loses : goal.returns-clause-loses
 returns-clause-loses g c =
     loses_then (Answers (goal.F-post g c.args.touched.now)) c.let_go.ensures.kept
-    (loses_held (Answers (goal.F-post g c.args.touched.now)) (edges_to c.let_go.new.self.readers) c.let_go.new.self.puts c.let_go.new.self.cut c.take_away.new.cut c.take_away-2.new.cut
-    c.take_away.ensures.takes c.take_away-2.ensures.takes c.let_go.new.self.indexed)
+    (loses_held (Answers (goal.F-post g c.args.touched.now)) (edges_to c.let_go.new.self.readers) c.let_go.new.self.puts c.let_go.new.self.cut c.take_away.new.cut c.take_away.ensures.takes c.let_go.new.self.indexed)
 
 pub returns-clause-traces : goal.returns-clause-traces
 returns-clause-traces g c =
     flushes_then (Answers (goal.F-post g c.args.touched.now)) _ _ _ c.let_go.ensures.stay
-    (flushes_traces (Answers (goal.F-post g c.args.touched.now)) (edges_to c.let_go.new.self.readers) c.let_go.new.self.puts c.let_go.new.self.cut c.take_away.new.cut c.take_away-2.new.cut c.take_away.ensures.takes c.take_away-2.ensures.takes)
+    (flushes_traces (Answers (goal.F-post g c.args.touched.now)) (edges_to c.let_go.new.self.readers) c.let_go.new.self.puts c.let_go.new.self.cut c.take_away.new.cut c.take_away.ensures.takes)
 
 pub returns-clause-spares : goal.returns-clause-spares
 returns-clause-spares g c =
     spares_then (Answers (goal.F-post g c.args.touched.now)) (is_crowded c.args.self.now.cut) _ _ _ c.let_go.ensures.stay c.let_go.ensures.spares
-    (flushes_traces (Answers (goal.F-post g c.args.touched.now)) (edges_to c.let_go.new.self.readers) c.let_go.new.self.puts c.let_go.new.self.cut c.take_away.new.cut c.take_away-2.new.cut c.take_away.ensures.takes c.take_away-2.ensures.takes)
-    (spares_edit (Answers (goal.F-post g c.args.touched.now)) (edges_to c.let_go.new.self.readers) c.let_go.new.self.puts c.let_go.new.self.cut c.take_away.new.cut c.take_away-2.new.cut c.take_away.ensures.takes c.take_away-2.ensures.takes)
+    (flushes_traces (Answers (goal.F-post g c.args.touched.now)) (edges_to c.let_go.new.self.readers) c.let_go.new.self.puts c.let_go.new.self.cut c.take_away.new.cut c.take_away.ensures.takes)
+    (spares_edit (Answers (goal.F-post g c.args.touched.now)) (edges_to c.let_go.new.self.readers) c.let_go.new.self.puts c.let_go.new.self.cut c.take_away.new.cut c.take_away.ensures.takes)
 
 pub returns-clause-fewer : goal.returns-clause-fewer
-returns-clause-fewer g c = omega (arith, c.take_away-2.ensures.len, c.take_away.ensures.len, c.let_go.ensures.fewer)
+returns-clause-fewer g c = omega (arith, c.take_away.ensures.len, c.let_go.ensures.fewer)

@@ -1,6 +1,6 @@
 use Rattle.std.proofs.Common.{◌∙◌}
 use Rattle.at_cache.proofs.Telling.{fresh_none, fresh_some}
-use Rattle.at_cache.proofs.slots.TableMarked.is_fresh.Goals as goal
+use Rattle.at_cache.proofs.table.Table.is_fresh.Goals as goal
 
 pub returns-in-Some : goal.returns-in-Some
 returns-in-Some c = c.is_fresh.ensures ∙ fresh_some c.args.edge.now _ _ c.in-Some.ensures

@@ -1,11 +1,10 @@
-use Rattle.std.proofs.Common.{ap, sym, refl}
+use Rattle.std.proofs.Common.{sym, refl}
 use Rattle.slab.specs.Slab.{get}
 use Rattle.at_cache.specs.Slots.{with_mark}
 use Rattle.at_cache.specs.Flushing.{doomed}
-use Rattle.at_cache.specs.Marking.{bare}
 use Rattle.at_cache.proofs.Came.{come_on}
 use Rattle.at_cache.proofs.Changing.{absent_changed, length_changed, marked, memory_changed, place_within, placed_changed, taken_slot}
-use Rattle.at_cache.proofs.slots.TableMarked.set_going.Goals as goal
+use Rattle.at_cache.proofs.table.Table.set_going.Goals as goal
 
 pub write_mark-requires : goal.write_mark-requires
 write_mark-requires c = place_within c.args.self.now.entries.entries (get c.args.self.now.places) c.args.slot _ c.args.self.now.placed (sym c.in-Some.ensures)
@@ -22,8 +21,8 @@ invariant_of-self c =
 pub returns-in-Some-clause-written : goal.returns-in-Some-clause-written
 returns-in-Some-clause-written c = memory_changed c.args.self.now.entries.entries (get c.args.self.now.places) c.args.slot _ c.args.self.now.placed (sym c.in-Some.ensures) _ (with_mark c.before-in-Some.result) (λ e. refl) c.write_mark.ensures (doomed c.args.first) (marked c.before-in-Some.result c.args.first c.before-in-Some.ensures.going c.before-in-Some.ensures.next)
 
-pub returns-in-Some-clause-aside : goal.returns-in-Some-clause-aside
-returns-in-Some-clause-aside c = ap bare (length_changed c.args.self.now.entries.entries (get c.args.self.now.places) c.args.slot _ c.args.self.now.placed (sym c.in-Some.ensures) _ (with_mark c.before-in-Some.result) (λ e. refl) c.write_mark.ensures)
+pub returns-in-Some-clause-len : goal.returns-in-Some-clause-len
+returns-in-Some-clause-len c = length_changed c.args.self.now.entries.entries (get c.args.self.now.places) c.args.slot _ c.args.self.now.placed (sym c.in-Some.ensures) _ (with_mark c.before-in-Some.result) (λ e. refl) c.write_mark.ensures
 
 pub returns-in_default-clause-written : goal.returns-in_default-clause-written
 returns-in_default-clause-written c = absurd (taken_slot c.args.self.now.entries.entries (get c.args.self.now.places) c.args.slot c.requires.there (sym c.in_default.ensures))
