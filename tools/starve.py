@@ -3,7 +3,7 @@
 
     tools/starve.py [-k PART].. STARVE
 
-In each session below, over the calculator or over rooms with circular attributes, with each keeper, by the program `starve`; with -k in those alone of whose names,
+In each session below, over the calculator or over rooms, with circular attributes or as for JastAdd, with each keeper, by the program `starve`; with -k in those alone of whose names,
 SESSION/KEEPER, it is a part. What each took is told. A round may end for want of memory before the session's first line, or have one
 line or question answered `memory`, which the run reports. Its other lines are answered right, as a server tells that is given these
 alone, and so is each question, as where it is asked at once. The requests in front of the first line are the same in each session over
@@ -24,6 +24,7 @@ from typing import Dict, NamedTuple, Optional, Sequence, Tuple
 CRATES = Path(__file__).resolve().parent.parent / "crates"
 CALCULATOR = tuple(str(CRATES / "attrd/data" / it) for it in ("calc.ast", "tree.txt", "calc.jrag"))
 ROOMS = tuple(str(CRATES / "starve/data" / it) for it in ("rooms.ast", "rooms.txt", "rooms.jrag"))
+JAVA = (*ROOMS[:2], str(CRATES / "starve/data/java.jrag"))
 # How values are kept, as `starve` names it: without a bound, few of them over an edit, and none.
 KEEPERS = ("verified", "few-verified", "until-edit", "cut-off", "few-cut-off", "until-edit-cut-off")
 
@@ -156,7 +157,20 @@ GROUPS = """0 ask /Room:2 dark()
 0 ok 5
 0 = true
 """
-SESSIONS = {"edits": Session(*EDITS), "moves": Session(*MOVES), "turns": Session(*TURNS), "groups": Session(*GROUPS, ROOMS, ("--forms", "circular"))}
+# Aspects as users of JastAdd write them, of which the reading is what matters here.
+READ = """0 ask / weight()
+0 token /Room:3 On true
+0 ask / weight()
+0 ask /Room:0 lit()
+0 ask / named("d")
+""", """0 = -1
+0 ok 1
+0 = 42
+0 = false
+0 = /Room:3
+"""
+SESSIONS = {"edits": Session(*EDITS), "moves": Session(*MOVES), "turns": Session(*TURNS), "groups": Session(*GROUPS, ROOMS, ("--forms", "circular")),
+            "read": Session(*READ, JAVA, ("--forms", "jastadd"))}
 DONE = re.compile(r"(\d+) done (\d+) (\d+) (.*)")
 # Whether a request was refused, and how many lines and questions were answered `memory`.
 TOLD = re.compile(r"(refused\n)?memory (\d+)\nwork \d+\n")

@@ -94,6 +94,16 @@ class Nesting(ProgramTest):
                 first = f"getItem({items - 1}).c()"
                 self.assertEqual(self.told(items, "", first), f"0 circular /Item:{items - 1}.c\n".encode() * 2)
 
+    def test_the_deepest_body_is_read_and_answered(self) -> None:
+        """A body of as many forms as may be, each of whose choices stands in the one before."""
+        body = "if (false) return 1; " * 1_365 + "return 2;"
+        aspect = f"aspect C {{ syn lazy int Item.c() {{ {body} }} }}\n"
+        lines = "0 ask /Item:0 c()\n0 token /Item:0 ID \"m\"\n0 post /Item:0 c()\n0 wait 1\n"
+        wanted = b"0 = 2\n0 ok 1\n0 open 1\n0 done 1 1 = 2\n0 refused 15 question\n"
+        for options in (), ("--cut-off",):
+            with self.subTest(options=options):
+                self.assertEqual(self.answered(1, aspect, lines, "--forms", "jastadd", *options), wanted)
+
     def test_what_a_deep_chain_looks_through_is_not_held(self) -> None:
         items = ",".join(f'Item("n{k}","{f"n{k - 1}" if k else ""}")' for k in range(CHAIN))
         for name, text in {"names.ast": LINKED, "names.jrag": LOOKED_UP, "names.txt": f"Names([{items}])\n"}.items():

@@ -21,11 +21,13 @@ REFUSED = [
     (["--nodes=", *THREE], ["for '--nodes <N>'"]),
     (["--nodes=7", "--nodes=7", *THREE], ["cannot be used multiple times"]),
     (["--nodes"], ["a value is required for '--nodes <N>'"]),
-    (["--forms", "nta", *THREE], ["invalid value 'nta' for '--forms <WORDS>'", "[possible values: circular]"]),
+    (["--forms", "nta", *THREE], ["invalid value 'nta' for '--forms <WORDS>'", "[possible values: circular, jastadd]"]),
     (["--forms=circular,nta", *THREE], ["invalid value 'nta' for '--forms <WORDS>'"]),
     (["--forms=circular,", *THREE], ["invalid value '' for '--forms <WORDS>'"]),
     (["--forms=Circular", *THREE], ["invalid value 'Circular' for '--forms <WORDS>'"]),
     (["--forms= circular", *THREE], ["invalid value ' circular' for '--forms <WORDS>'"]),
+    (["--forms=JastAdd", *THREE], ["invalid value 'JastAdd' for '--forms <WORDS>'"]),
+    (["--forms=jastadd,nta", *THREE], ["invalid value 'nta' for '--forms <WORDS>'"]),
     (["--forms=", *THREE], ["a value is required for '--forms <WORDS>'"]),
     (["--forms"], ["a value is required for '--forms <WORDS>'"]),
     (["--forms=nta"], ["<ASPECT>"]),
@@ -39,8 +41,8 @@ REFUSED = [
     (["--port", *THREE], ["unexpected argument '--port'"]),
     (["--socket=", *THREE], ["a value is required for '--socket <PATH>'"]),
 ]
-HELP = ["--socket <PATH>", "--connections <N>", "--slice <N>", "--keep <N>", "--nodes <N>", "[default: 65536]", "--forms <WORDS>", "[possible values: circular]", "--cut-off", "--gather", "--work",
-        "--version", "<GRAMMAR>", "<TREE>", "<ASPECT>", "$ attrd calc.ast", "ask PLACE", "move PLACE", "version ", "wait NUMBER"]
+HELP = ["--socket <PATH>", "--connections <N>", "--slice <N>", "--keep <N>", "--nodes <N>", "[default: 65536]", "--forms <WORDS>",
+        "[possible values: circular, jastadd]", "--cut-off", "--gather", "--work", "--version", "<GRAMMAR>", "<TREE>", "<ASPECT>", "$ attrd calc.ast", "ask PLACE", "move PLACE", "version ", "wait NUMBER"]
 
 # Two values are kept when an edit comes that touches the first one, and then the second is asked for anew.
 KEPT_BY_TURNS = b"0 ask /Left twice()\n0 ask /Right twice()\n0 token /Left Value 5\n0 ask /Right twice()\n"

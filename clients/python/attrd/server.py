@@ -22,7 +22,8 @@ from .versions import VersionWarning, misfit
 # How many values a program that runs long keeps, by `--keep`: six for each node of the largest tree that it takes without `--nodes`.
 KEPT, KEPT_A_NODE = 400_000, 6
 HELP_SECONDS = 30.0
-FORMS_HELP = "which forms of aspects are read that are left out else, as `circular`, with commas between them"
+FORMS_HELP = "which forms of aspects are read that are left out else, with commas between them: `circular`, or `jastadd` for all that is read of "\
+             "JastAdd's own language"
 _VERSION = re.compile(r"attrd (\S+)\s*\Z")
 _OPTION = re.compile(r"--[a-z]+(?:-[a-z]+)*")
 # Programs of before 0.34 refuse one of these beside the other: the help of those up to 0.37 says where they don't, and that of later ones is another.
@@ -107,7 +108,7 @@ def known_options(program: Union[str, "os.PathLike[str]"]) -> FrozenSet[str]:
 
 
 def program_version(program: Union[str, "os.PathLike[str]"]) -> str:
-    """The version that the program tells, as 0.39. Raises AttrdError where it can't be started or tells none."""
+    """The version that the program tells, as 0.40. Raises AttrdError where it can't be started or tells none."""
     name = _path(program)
     found = _VERSION.match(_told(name, "--version"))
     if not found:
@@ -150,8 +151,8 @@ def sizing_options(known: FrozenSet[str], nodes: int = MOST_NODES) -> List[str]:
 
 
 def forms_options(forms: str) -> List[str]:
-    """The option by which these forms of aspects are read, which are left out else: words with commas between them, as `circular`; none
-    where there are none."""
+    """The option by which these forms of aspects are read, which are left out else: words with commas between them, as `circular` or
+    `jastadd`; none where there are none."""
     return ["--forms", forms] if forms else []
 
 

@@ -228,11 +228,11 @@ class Page(unittest.TestCase):
     def test_the_program_and_check_agree(self):
         """The fault that the program tells of a row is among those that are found, with its code and its place."""
         count = 0
-        for found, told in self.rows("REFUSALS.md"):
+        for found, told in (*self.rows("REFUSALS.md"), *self.rows("JASTADD.md")):
             places = [f"{it.code} {it.name} at {it.line}:{it.column}" for it in found]
             self.assertIn(told, places or ["accepted"])
             count += 1
-        self.assertGreater(count, 200)
+        self.assertGreater(count, 300)
 
     def rows(self, page):
         """For each refused row of a page what is found, and what the program itself says of it."""

@@ -1,6 +1,6 @@
 //! The calculator sample, and the files of samples.
 
-use at_start::{Files, Forms, Source, USUAL_NODES};
+use at_start::{Files, Forms, Language, Source, USUAL_NODES};
 use std::alloc::Global;
 use std::process::Abort;
 
@@ -85,7 +85,7 @@ pub fn files(rt: &impl Abort, alloc: Global, sample: &Sample) -> Files {
         tree: source(rt, alloc, "tree", sample.tree),
         aspects,
         nodes: USUAL_NODES,
-        forms: Forms::NONE,
+        language: Language::Profile(Forms::NONE),
     }
 }
 

@@ -3,6 +3,10 @@ mod Declaring
 mod TermFiles
 mod Ruled
 mod Started
+mod JavaGiven
+mod JavaNumbers
+mod JavaMeanings
+mod JavaFits
 mod RulesTyped
 pub mod WholeLemmas
 mod OneMeaning

@@ -1,5 +1,5 @@
 -- Files give one grammar, one set of rules and one tree.
-use Rattle.std.proofs.Common.{◌≡◌, ℕ, List, [], ◌∷◌, refl, sym, ap, ap₂, ◌∙◌, subst, Option, Some}
+use Rattle.std.proofs.Common.{◌≡◌, ℕ, List, [], ◌∷◌, refl, sym, ap, ap₂, ◌∙◌, subst, Some}
 use Rattle.at_model.specs.Classes.{AreNamedApart, Classes}
 use Rattle.at_model.specs.Declarations.{Declarations, classes_of}
 use Rattle.at_model.specs.Rules.{Rules}
@@ -7,21 +7,24 @@ use Rattle.at_model.specs.Terms.{term_of}
 use Rattle.at_model.specs.Trees.{Tree}
 use Rattle.at_model.specs.Shaping.{shaped}
 use Rattle.at_model.proofs.of_texts.Shaped.{conforms_shaped}
-use Rattle.at_text.specs.Symbols.{PlacedToken, symbols, words_keep}
+use Rattle.at_text.specs.Symbols.{symbols, words_keep}
 use Rattle.at_text.specs.Rows.{Row}
 use Rattle.at_text.proofs.TextTokens.{one_row}
 use Rattle.at_grammar.proofs.Unique.{file_unique}
 use Rattle.at_jrag.specs.Syntax.{Aspect}
 use Rattle.at_jrag.specs.Grammar.{File}
 use Rattle.at_jrag.proofs.Unambiguous.{one_file}
-use Rattle.at_jrag.specs.declared.Forms.{Forms}
 use Rattle.at_class.proofs.Order.{none_broken}
 use Rattle.at_class.proofs.Sound.{classes_apart}
 use Rattle.at_tree.proofs.TextLaws.{one_term_each}
 use Rattle.at_typing.specs.Building.{rules_of}
 use Rattle.at_typing.specs.Located.{located}
 use Rattle.at_start.specs.GrammarFiles.{Declares, GivesClasses, declared}
-use Rattle.at_start.specs.AspectFiles.{AllHold, GivesRules, Holds}
+use Rattle.at_java.specs.Files.{aspects_in}
+use Rattle.at_java.specs.Read.{got}
+use Rattle.at_start.specs.AspectFiles.{AllHold, GivesRules, IsWritten}
+use Rattle.at_start.specs.declared.language.Language.{Language}
+use Rattle.at_start.specs.declared.language.Language.TheVariants.{Profile, JastAdd}
 use Rattle.at_start.specs.TreeFiles.{GivesTree}
 use Rattle.at_start.proofs.TermFiles.{inner_term, without_newline}
 
@@ -41,27 +44,33 @@ named_apart bytes cs h = subst AreNamedApart (sym h.built) (classes_apart h.decl
 
 -- ---- the aspects
 
-held_once : (forms : Forms) (bytes : List ℕ) (as' bs : List Aspect) → Holds forms bytes as' → Holds forms bytes bs
-    → as' ≡ bs
-held_once forms bytes as' bs h k =
-    let rows = one_row bytes h.tokens k.tokens h.cut k.cut in
+got_once : (as' bs : List Aspect) (rest : Row) → got as' rest ≡ got bs rest → as' ≡ bs
+got_once as' bs rest e = cc
+
+written_once : (language : Language) (text : List ℕ) (as' bs : List Aspect) → IsWritten language text as'
+    → IsWritten language text bs → as' ≡ bs
+written_once (Profile forms) text as' bs h k =
+    let rows = one_row text h.tokens k.tokens h.cut k.cut in
     one_file forms as' bs k.tokens (subst (λ (row : Row). File forms as' row []) rows h.spells) k.spells
+written_once JastAdd text as' bs h k =
+    let rows = one_row text h.tokens k.tokens h.cut k.cut in
+    got_once as' bs [] (sym h.is ∙ ap aspects_in rows ∙ k.is)
 
-all_held_once : (forms : Forms) (files : List (List ℕ)) (as' bs : List (List Aspect)) → AllHold forms files as'
-    → AllHold forms files bs → as' ≡ bs
-all_held_once forms [] [] [] h k = refl
-all_held_once forms [] [] (b ∷ bs) h k = absurd k
-all_held_once forms [] (a ∷ as') bs h k = absurd h
-all_held_once forms (f ∷ fs) [] bs h k = absurd h
-all_held_once forms (f ∷ fs) (a ∷ as') [] h k = absurd k
-all_held_once forms (f ∷ fs) (a ∷ as') (b ∷ bs) h k =
-    ap₂ (λ x xs. x ∷ xs) (held_once forms f a b h.0 k.0) (all_held_once forms fs as' bs h.1 k.1)
+all_held_once : (language : Language) (files : List (List ℕ)) (as' bs : List (List Aspect)) → AllHold language files as'
+    → AllHold language files bs → as' ≡ bs
+all_held_once language [] [] [] h k = refl
+all_held_once language [] [] (b ∷ bs) h k = absurd k
+all_held_once language [] (a ∷ as') bs h k = absurd h
+all_held_once language (f ∷ fs) [] bs h k = absurd h
+all_held_once language (f ∷ fs) (a ∷ as') [] h k = absurd k
+all_held_once language (f ∷ fs) (a ∷ as') (b ∷ bs) h k =
+    ap₂ (λ x xs. x ∷ xs) (written_once language f a b h.0.written k.0.written) (all_held_once language fs as' bs h.1 k.1)
 
-pub rules_once : (forms : Forms) (cs ds : Classes) (files : List (List ℕ)) (rules others : Rules) → cs ≡ ds
-    → GivesRules forms cs files rules → GivesRules forms ds files others → rules ≡ others
-rules_once forms cs ds files rules others same h k =
+pub rules_once : (language : Language) (cs ds : Classes) (files : List (List ℕ)) (rules others : Rules) → cs ≡ ds
+    → GivesRules language cs files rules → GivesRules language ds files others → rules ≡ others
+rules_once language cs ds files rules others same h k =
     h.built.1 ∙ ap₂ (λ c as'. rules_of c (located 1 as')) same
-    (all_held_once forms files h.aspects k.aspects h.hold k.hold) ∙ sym k.built.1
+    (all_held_once language files h.aspects k.aspects h.hold k.hold) ∙ sym k.built.1
 
 -- ---- the tree
 

@@ -27,7 +27,7 @@ pub one_output : (files : Files) (slice other_slice : ℕ) (input one other : Li
     (b : MeansOutput files other_slice input other) → PostNothing input → IsWithinMemory a.told → IsWithinMemory b.told → one ≡ other
 one_output files slice other_slice input one other a b no_post within within' =
     let classes = classes_once files.grammar.bytes.items a.classes b.classes a.grammar b.grammar in
-    let rules = rules_once files.forms a.classes b.classes (aspect_bytes files.aspects.items) a.rules b.rules classes
+    let rules = rules_once files.language a.classes b.classes (aspect_bytes files.aspects.items) a.rules b.rules classes
     a.aspects b.aspects in
     let given = subst (λ (c : Classes). GivesTree c files.nodes files.tree.bytes.items b.opened) (sym classes) b.tree in
     let apart = named_apart files.grammar.bytes.items a.classes a.grammar in

@@ -7,13 +7,13 @@ use Rattle.at_model.specs.Classes.{Classes}
 use Rattle.at_model.specs.Rules.{Rules}
 use Rattle.at_text.specs.declared.place.Place.{Place}
 use Rattle.at_jrag.specs.Syntax.{Aspect}
-use Rattle.at_jrag.specs.declared.Forms.{Forms}
 use Rattle.at_typing.specs.Building.{Builds}
 use Rattle.at_typing.specs.Located.{declarations_in, located}
 use Rattle.at_jrag.specs.View.{aspect_view}
 use Rattle.at_jrag.specs.declared.syntax.Aspect.{Aspect as AspectValue}
 use Rattle.at_start.specs.AspectFiles.{GivesRules, Holds, AllHold, IsReadingFaultOf, IsUnread, IsAspectFault, IsRuleFault, rule_code, no_file, breaks}
 use Rattle.at_start.specs.declared.code.Code.{Code}
+use Rattle.at_start.specs.declared.language.Language.{Language}
 use Rattle.at_start.specs.Starts.{aspect_bytes}
 use Rattle.at_start.specs.StartFaults.{of_file}
 use Rattle.at_start.specs.declared.files.Source.{Source}
@@ -23,12 +23,12 @@ use Rattle.at_start.specs.declared.fault.StartFault.{StartFault}
 use Rattle.at_start.specs.declared.fault.StartFault.TheVariants.{Refused, Memory}
 
 -- one more file
-hold_more : (forms : Forms) (fs : List (List ℕ)) (as' : List (List Aspect)) (f : List ℕ) (a : List Aspect)
-    → AllHold forms fs as' → Holds forms f a → AllHold forms (fs ++ f ∷ []) (as' ++ a ∷ [])
-hold_more forms [] [] f a h k = (k, tt)
-hold_more forms [] (b ∷ bs) f a h k = absurd h
-hold_more forms (g ∷ gs) [] f a h k = absurd h
-hold_more forms (g ∷ gs) (b ∷ bs) f a h k = (h.0, hold_more forms gs bs f a h.1 k)
+hold_more : (language : Language) (fs : List (List ℕ)) (as' : List (List Aspect)) (f : List ℕ) (a : List Aspect)
+    → AllHold language fs as' → Holds language f a → AllHold language (fs ++ f ∷ []) (as' ++ a ∷ [])
+hold_more language [] [] f a h k = (k, tt)
+hold_more language [] (b ∷ bs) f a h k = absurd h
+hold_more language (g ∷ gs) [] f a h k = absurd h
+hold_more language (g ∷ gs) (b ∷ bs) f a h k = (h.0, hold_more language gs bs f a h.1 k)
 
 front_more : {X : Type 0} (xs : List X) (i : ℕ) (x : X) → i < length xs → x ≡ get_or xs i x → take (i + 1) xs ≡ take i xs ++ x ∷ []
 front_more xs i x within is = take_more xs i x within ∙ ap (λ y. take i xs ++ y ∷ []) (sym is)
@@ -40,22 +40,22 @@ abbrev pub aspects_of : Vec AspectValue Global → List Aspect
 aspects_of v = map aspect_view v.items
 
 -- one more file was read
-pub one_more_read : (forms : Forms) (sources : List Source) (i : ℕ) (x : Source) (all : List (Vec AspectValue Global))
+pub one_more_read : (language : Language) (sources : List Source) (i : ℕ) (x : Source) (all : List (Vec AspectValue Global))
     (v : Vec AspectValue Global) → i < length sources → x ≡ get_or sources i x
-    → AllHold forms (aspect_bytes (take i sources)) (map aspects_of all) → Holds forms x.bytes.items (aspects_of v)
-    → AllHold forms (aspect_bytes (take (i + 1) sources)) (map aspects_of (all ++ v ∷ []))
-one_more_read forms sources i x all v within is h k =
+    → AllHold language (aspect_bytes (take i sources)) (map aspects_of all) → Holds language x.bytes.items (aspects_of v)
+    → AllHold language (aspect_bytes (take (i + 1) sources)) (map aspects_of (all ++ v ∷ []))
+one_more_read language sources i x all v within is h k =
     let files : aspect_bytes (take (i + 1) sources) ≡ aspect_bytes (take i sources) ++ x.bytes.items ∷ [] = ap aspect_bytes (front_more sources i x within is) ∙ map-append (λ (s : Source). s.bytes.items) (take i sources) (x ∷ []) in
     let read : map aspects_of (all ++ v ∷ []) ≡ map aspects_of all ++ aspects_of v ∷ [] = map-append aspects_of all (v ∷ []) in
-    rw (files, read) (hold_more forms (aspect_bytes (take i sources)) (map aspects_of all) x.bytes.items
+    rw (files, read) (hold_more language (aspect_bytes (take i sources)) (map aspects_of all) x.bytes.items
     (aspects_of v) h k)
 
 -- the file at that position is the first that could not be read
-pub unread_at : (forms : Forms) (sources : List Source) (i : ℕ) (x : Source) (aspects : List (List Aspect))
+pub unread_at : (language : Language) (sources : List Source) (i : ℕ) (x : Source) (aspects : List (List Aspect))
     (f : Fault Code) → i < length sources → x ≡ get_or sources i x
-    → AllHold forms (aspect_bytes (take i sources)) aspects → IsReadingFaultOf forms x.bytes.items f
-    → IsUnread forms (aspect_bytes sources) (of_file (i + 1) f)
-unread_at forms sources i x aspects (fault.Refused c at) within is h k = record {
+    → AllHold language (aspect_bytes (take i sources)) aspects → IsReadingFaultOf language x.bytes.items f
+    → IsUnread language (aspect_bytes sources) (of_file (i + 1) f)
+unread_at language sources i x aspects (fault.Refused c at) within is h k = record {
   front = aspect_bytes (take i sources);
   rest = aspect_bytes (drop (i + 1) sources);
   bytes = x.bytes.items;
@@ -65,38 +65,38 @@ unread_at forms sources i x aspects (fault.Refused c at) within is h k = record 
   refuses = k;
   number = ap (λ n. n + 1) (sym (length-map (take i sources) (λ (s : Source). s.bytes.items) ∙ length-take-le i sources (omega (arith, within))));
 }
-unread_at forms sources i x aspects fault.Memory within is h k = tt
+unread_at language sources i x aspects fault.Memory within is h k = tt
 
-pub unread_refuses : (forms : Forms) (classes : Classes) (files : List (List ℕ)) (e : StartFault)
-    → IsUnread forms files e
-    → IsAspectFault forms classes files e
-unread_refuses forms classes files (Refused file c (Some at)) h = no_file file c at h
-unread_refuses forms classes files (Refused file c None) h = h
-unread_refuses forms classes files Memory h = h
+pub unread_refuses : (language : Language) (classes : Classes) (files : List (List ℕ)) (e : StartFault)
+    → IsUnread language files e
+    → IsAspectFault language classes files e
+unread_refuses language classes files (Refused file c (Some at)) h = no_file file c at h
+unread_refuses language classes files (Refused file c None) h = h
+unread_refuses language classes files Memory h = h
 
 -- the rules are those of files that were read
-pub given_by : (forms : Forms) (classes : Classes) (files : List (List ℕ)) (read : List (Vec AspectValue Global))
+pub given_by : (language : Language) (classes : Classes) (files : List (List ℕ)) (read : List (Vec AspectValue Global))
     (result : Result Rules StartFault)
-    → AllHold forms files (map aspects_of read)
+    → AllHold language files (map aspects_of read)
     → IfOk result (λ r. Builds classes (declarations_in read) (Ok r))
-    → IfOk result (λ r. GivesRules forms classes files r)
-given_by forms classes files read (Ok r) h built = record { aspects = map aspects_of read; hold = h; built = built }
-given_by forms classes files read (Err e) h built = built
+    → IfOk result (λ r. GivesRules language classes files r)
+given_by language classes files read (Ok r) h built = record { aspects = map aspects_of read; hold = h; built = built }
+given_by language classes files read (Err e) h built = built
 
-rule_refuses : (forms : Forms) (classes : Classes) (files : List (List ℕ)) (aspects : List (List Aspect))
+rule_refuses : (language : Language) (classes : Classes) (files : List (List ℕ)) (aspects : List (List Aspect))
     (e : StartFault)
-    → AllHold forms files aspects → IsRuleFault classes (located 1 aspects) e → IsAspectFault forms classes files e
-rule_refuses forms classes files aspects (Refused n c at) h (f, first, of_number, of_code, of_place) =
-    let placed = subst (λ (o : Option Place). IsAspectFault forms classes files (Refused f.file (rule_code f.code) o))
+    → AllHold language files aspects → IsRuleFault classes (located 1 aspects) e → IsAspectFault language classes files e
+rule_refuses language classes files aspects (Refused n c at) h (f, first, of_number, of_code, of_place) =
+    let placed = subst (λ (o : Option Place). IsAspectFault language classes files (Refused f.file (rule_code f.code) o))
     (sym of_place) (breaks aspects f h first) in
-    let coded = subst (λ (k : Code). IsAspectFault forms classes files (Refused f.file k at)) (sym of_code) placed in
-    subst (λ (m : ℕ). IsAspectFault forms classes files (Refused m c at)) (sym of_number) coded
-rule_refuses forms classes files aspects Memory h says = tt
+    let coded = subst (λ (k : Code). IsAspectFault language classes files (Refused f.file k at)) (sym of_code) placed in
+    subst (λ (m : ℕ). IsAspectFault language classes files (Refused m c at)) (sym of_number) coded
+rule_refuses language classes files aspects Memory h says = tt
 
 -- a rule's fault is one of files that were read
-pub refused_by : (forms : Forms) (classes : Classes) (files : List (List ℕ)) (read : List (Vec AspectValue Global))
+pub refused_by : (language : Language) (classes : Classes) (files : List (List ℕ)) (read : List (Vec AspectValue Global))
     (result : Result Rules StartFault)
-    → AllHold forms files (map aspects_of read)
-    → IfErr result (IsRuleFault classes (declarations_in read)) → IfErr result (IsAspectFault forms classes files)
-refused_by forms classes files read (Ok r) h says = says
-refused_by forms classes files read (Err e) h says = rule_refuses forms classes files (map aspects_of read) e h says
+    → AllHold language files (map aspects_of read)
+    → IfErr result (IsRuleFault classes (declarations_in read)) → IfErr result (IsAspectFault language classes files)
+refused_by language classes files read (Ok r) h says = says
+refused_by language classes files read (Err e) h says = rule_refuses language classes files (map aspects_of read) e h says

@@ -1,6 +1,6 @@
 -- The rules that aspect files give are well formed; their circular attributes are lazy and boolean, and there are
 -- none where that form isn't read.
-use Rattle.std.proofs.Common.{◌≡◌, ◌∙◌, ℕ, ◌+◌, false, List, [], ◌∷◌, Some, Result, Ok, Err, refl, sym}
+use Rattle.std.proofs.Common.{◌≡◌, ◌∙◌, ℕ, ◌+◌, true, false, List, [], ◌∷◌, Some, Result, Ok, Err, refl, sym, true≢false}
 use Rattle.std.specs.Result.{IfOk}
 use Rattle.std.specs.List.{AllByRecursion, slice_get}
 use Rattle.at_model.specs.Classes.{Classes}
@@ -13,32 +13,38 @@ use Rattle.at_model.proofs.Everywhere.{all_both, found}
 use Rattle.at_rules.specs.Circular.{AreCircularLazy, HasNoneCircular}
 use Rattle.at_typing.specs.Declaring.{IsNotCircular}
 use Rattle.at_typing.specs.Located.{IsSpelled, from_file, located}
-use Rattle.at_typing.proofs.BuiltWellFormed.{built_well_formed, built_plain}
+use Rattle.at_typing.proofs.BuiltWellFormed.{built_well_formed, built_plain, declared_well_formed}
 use Rattle.at_typing.proofs.Starting.{file_plain}
 use Rattle.at_demand.specs.Meant.{AreCircularWell}
-use Rattle.at_start.specs.AspectFiles.{GivesRules, AllHold}
+use Rattle.at_start.specs.AspectFiles.{GivesRules, AllHold, reads_circular}
+use Rattle.at_start.specs.declared.language.Language.{Language}
+use Rattle.at_start.specs.declared.language.Language.TheVariants.{Profile, JastAdd}
 use Rattle.at_start.specs.declared.fault.StartFault.{StartFault}
+use Rattle.at_start.proofs.JavaFits.{hold_booleans, hold_ints}
 
--- each file that holds aspects spells them
-hold_spelled : (forms : Forms) (files : List (List ℕ)) (aspects : List (List Aspect)) → AllHold forms files aspects
+-- each file of the profile that holds aspects spells them
+hold_spelled : (forms : Forms) (files : List (List ℕ)) (aspects : List (List Aspect)) → AllHold (Profile forms) files aspects
     → AllByRecursion IsSpelled aspects
 hold_spelled forms [] [] hold = tt
 hold_spelled forms [] (a ∷ as') hold = absurd hold
 hold_spelled forms (f ∷ fs) [] hold = absurd hold
-hold_spelled forms (f ∷ fs) (a ∷ as') hold = ((forms, hold.0.tokens, hold.0.spells), hold_spelled forms fs as' hold.1)
+hold_spelled forms (f ∷ fs) (a ∷ as') hold = ((forms, hold.0.written.tokens, hold.0.written.spells), hold_spelled forms fs as' hold.1)
 
-pub given_well_formed : (forms : Forms) (classes : Classes) (files : List (List ℕ)) (rules : Rules)
+pub given_well_formed : (language : Language) (classes : Classes) (files : List (List ℕ)) (rules : Rules)
     → IsHierarchy classes
-    → GivesRules forms classes files rules → AreWellFormed rules
-given_well_formed forms classes files rules hierarchy gives =
+    → GivesRules language classes files rules → AreWellFormed rules
+given_well_formed (Profile forms) classes files rules hierarchy gives =
     built_well_formed classes gives.aspects rules hierarchy (hold_spelled forms files gives.aspects gives.hold)
     gives.built
+given_well_formed JastAdd classes files rules hierarchy gives =
+    declared_well_formed classes (located 1 gives.aspects) rules hierarchy (hold_ints 1 files gives.aspects gives.hold)
+    (hold_booleans 1 files gives.aspects gives.hold) gives.built
 
-pub well_formed_by : (forms : Forms) (classes : Classes) (files : List (List ℕ)) (result : Result Rules StartFault)
-    → IsHierarchy classes → IfOk result (λ r. GivesRules forms classes files r) → IfOk result AreWellFormed
-well_formed_by forms classes files (Ok rules) hierarchy gives =
-    given_well_formed forms classes files rules hierarchy gives
-well_formed_by forms classes files (Err e) hierarchy gives = tt
+pub well_formed_by : (language : Language) (classes : Classes) (files : List (List ℕ)) (result : Result Rules StartFault)
+    → IsHierarchy classes → IfOk result (λ r. GivesRules language classes files r) → IfOk result AreWellFormed
+well_formed_by language classes files (Ok rules) hierarchy gives =
+    given_well_formed language classes files rules hierarchy gives
+well_formed_by language classes files (Err e) hierarchy gives = tt
 
 -- ---- circular ones
 
@@ -62,17 +68,18 @@ circular_by (Err e) lazy formed = tt
 
 -- each file that holds aspects declares none where the form isn't read
 hold_plain : (forms : Forms) → forms.circular ≡ false → (n : ℕ) (files : List (List ℕ)) (aspects : List (List Aspect))
-    → AllHold forms files aspects → AllByRecursion IsNotCircular (located n aspects)
+    → AllHold (Profile forms) files aspects → AllByRecursion IsNotCircular (located n aspects)
 hold_plain forms off n [] [] hold = tt
 hold_plain forms off n [] (a ∷ as') hold = absurd hold
 hold_plain forms off n (f ∷ fs) [] hold = absurd hold
 hold_plain forms off n (f ∷ fs) (a ∷ as') hold =
     all_both IsNotCircular (from_file n a) (located (n + 1) as')
-    (file_plain forms off n a hold.0.tokens [] hold.0.spells)
+    (file_plain forms off n a hold.0.written.tokens [] hold.0.written.spells)
     (hold_plain forms off (n + 1) fs as' hold.1)
 
-pub given_plain : (forms : Forms) → forms.circular ≡ false → (classes : Classes) (files : List (List ℕ)) (rules : Rules)
-    → GivesRules forms classes files rules → HasNoneCircular rules
-given_plain forms off classes files rules gives =
+pub given_plain : (language : Language) → reads_circular language ≡ false → (classes : Classes) (files : List (List ℕ)) (rules : Rules)
+    → GivesRules language classes files rules → HasNoneCircular rules
+given_plain (Profile forms) off classes files rules gives =
     built_plain classes (located 1 gives.aspects) rules (hold_plain forms off 1 files gives.aspects gives.hold)
     gives.built
+given_plain JastAdd off classes files rules gives = absurd (true≢false off)

@@ -22,14 +22,14 @@ grammar_refuses files fault.Memory h = tt
 
 pub aspects_refuse : (files : Files) (classes : Classes) (e : StartFault)
     → GivesClasses files.grammar.bytes.items classes
-    → IsAspectFault files.forms classes (aspect_bytes files.aspects.items) e → IsStartFault files e
+    → IsAspectFault files.language classes (aspect_bytes files.aspects.items) e → IsStartFault files e
 aspects_refuse files classes (Refused n c (Some at)) g h = by_aspects classes n c at g h
 aspects_refuse files classes (Refused n c None) g h = absurd h
 aspects_refuse files classes Memory g h = tt
 
 pub tree_refuses : (files : Files) (classes : Classes) (rules : Rules) (f : Failure Code)
     → GivesClasses files.grammar.bytes.items classes
-    → GivesRules files.forms classes (aspect_bytes files.aspects.items) rules
+    → GivesRules files.language classes (aspect_bytes files.aspects.items) rules
     → IsTreeFault classes files.nodes files.tree.bytes.items f → IsStartFault files (of_tree (length files.aspects.items + 1) f)
 tree_refuses files classes rules (failure.For c) g r h = by_tree classes rules c g r h
 tree_refuses files classes rules failure.Memory g r h = tt

@@ -34,7 +34,7 @@ IsReady e = IsSound recorded_by remembered_by e
 pub record Starts (files : Files) (rules : Rules) (state : State) : Type 0 where
   pub classes : Classes
   pub grammar : GivesClasses files.grammar.bytes.items classes
-  pub aspects : GivesRules files.forms classes (aspect_bytes files.aspects.items) rules
+  pub aspects : GivesRules files.language classes (aspect_bytes files.aspects.items) rules
   pub opened : Tree
   pub tree : GivesTree classes files.nodes files.tree.bytes.items opened
   pub state_is : state ≡ opening files.nodes opened
@@ -43,15 +43,15 @@ pub record Starts (files : Files) (rules : Rules) (state : State) : Type 0 where
 pub data Refuses (files : Files) : (file : ℕ) → Code → Option Place → Type 0 where
   by_grammar : (c : Code) (at : Place) → RefusesGrammar files.grammar.bytes.items c at → Refuses files 0 c (Some at)
   by_aspects : (classes : Classes) (file : ℕ) (c : Code) (at : Place) → GivesClasses files.grammar.bytes.items classes
-      → RefusesAspects files.forms classes (aspect_bytes files.aspects.items) file c at → Refuses files file c (Some at)
+      → RefusesAspects files.language classes (aspect_bytes files.aspects.items) file c at → Refuses files file c (Some at)
   by_tree : (classes : Classes) (rules : Rules) (c : Code) → GivesClasses files.grammar.bytes.items classes
-      → GivesRules files.forms classes (aspect_bytes files.aspects.items) rules
+      → GivesRules files.language classes (aspect_bytes files.aspects.items) rules
       → RefusesTree classes files.nodes files.tree.bytes.items c → Refuses files (length files.aspects.items + 1) c None
 
 -- all but the bytes of the tree is as it was, and so each name
 abbrev pub AreSameButTree : (before later : Files) → Type 0
 AreSameButTree before later = (later.grammar ≡ before.grammar) × (later.aspects ≡ before.aspects) × (later.tree.name ≡ before.tree.name)
-    × (later.nodes ≡ before.nodes) × (later.forms ≡ before.forms)
+    × (later.nodes ≡ before.nodes) × (later.language ≡ before.language)
 
 -- the fault is the first one of the files; of want of memory nothing is said
 abbrev pub IsStartFault : Files → StartFault → Type 0

@@ -57,7 +57,7 @@ pub record MeansOutput (files : Files) (slice : ℕ) (input output : List ℕ) :
   pub classes : Classes
   pub grammar : GivesClasses files.grammar.bytes.items classes
   pub rules : Rules
-  pub aspects : GivesRules files.forms classes (aspect_bytes files.aspects.items) rules
+  pub aspects : GivesRules files.language classes (aspect_bytes files.aspects.items) rules
   pub opened : Tree
   pub tree : GivesTree classes files.nodes files.tree.bytes.items opened
   pub told : List (Bool × Reply)

@@ -7,13 +7,17 @@ ghost use Rattle.at_rules.specs.Circular.{AreCircularLazy};
 ghost use Rattle.at_demand.specs.Meant.{AreCircularWell};
 ghost use Rattle.at_typing.specs.Building.{Builds};
 ghost use Rattle.at_typing.specs.Located.{declarations_in};
-ghost use Rattle.at_start.specs.AspectFiles.{Holds, AllHold, GivesRules, IsReadingFaultOf, IsAspectFault, IsUnread, IsRuleFault, jrag_code, rule_code};
+ghost use Rattle.at_start.specs.AspectFiles.{Holds, AllHold, GivesRules, IsReadingFaultOf, IsAspectFault, IsUnread, IsRuleFault, java_code, jrag_code, rule_code};
+ghost use Rattle.at_start.specs.Files.{IsText, max_file};
+ghost use Rattle.at_start.specs.declared.language.Language.TheVariants.{Profile, JastAdd};
 ghost use Rattle.at_start.specs.Starts.{aspect_bytes};
 
 use super::fault::{StartFault, of_file};
 use super::files::{MAX_FILE, Source, text_of};
 use crate::code::Code;
+use crate::language::Language;
 use at_class::ClassTable;
+use at_java::{JavaCode, parse_java};
 use at_jrag::{Aspect, Forms, JragCode, parse_jrag};
 use at_kinds::RuleCode;
 use at_rules::Rules;
@@ -21,7 +25,7 @@ use at_text::fault::{Failure, Fault};
 use at_text::place::Place;
 use std::alloc::Global;
 
-/// The rules of the aspect files over the classes, where these forms are read.
+/// The rules of the aspect files over the classes. The files are written in this language.
 ///
 /// # Errors
 ///
@@ -29,27 +33,31 @@ use std::alloc::Global;
 pub fn rules_of(
     alloc: Global,
     classes: ClassTable,
-    forms: Forms,
+    language: Language,
     aspects: &[Source],
 ) -> Result<Rules, StartFault>
     ensures classes { IfOk result (λ r. r.classes ≡ classes) }
-    ensures given { IfOk result (λ r. GivesRules forms classes (aspect_bytes aspects.now) r) }
+    ensures given { IfOk result (λ r. GivesRules language classes (aspect_bytes aspects.now) r) }
     ensures well_formed { IsHierarchy classes → IfOk result AreWellFormed }
     ensures circular { IsHierarchy classes → IfOk result AreCircularWell }
-    ensures refused { IfErr result (IsAspectFault forms classes (aspect_bytes aspects.now)) }
+    ensures refused { IfErr result (IsAspectFault language classes (aspect_bytes aspects.now)) }
 {
-    let aspects = read_all(alloc, forms, aspects)?;
+    let aspects = read_all(alloc, language, aspects)?;
     build(alloc, classes, &aspects)
 }
 
 /// The aspects of each file, in order.
-fn read_all(alloc: Global, forms: Forms, aspects: &[Source]) -> Result<Vec<Vec<Aspect>>, StartFault>
-    ensures hold { IfOk result (λ v. AllHold forms (aspect_bytes aspects.now) (map (λ f. map aspect_view f.items) v.items)) }
-    ensures refused { IfErr result (IsUnread forms (aspect_bytes aspects.now)) }
+fn read_all(
+    alloc: Global,
+    language: Language,
+    aspects: &[Source],
+) -> Result<Vec<Vec<Aspect>>, StartFault>
+    ensures hold { IfOk result (λ v. AllHold language (aspect_bytes aspects.now) (map (λ f. map aspect_view f.items) v.items)) }
+    ensures refused { IfErr result (IsUnread language (aspect_bytes aspects.now)) }
 {
     let mut all = Vec::new(alloc);
     for (i, source) in aspects.iter().enumerate() {
-        match read(alloc, forms, &source.bytes) {
+        match read(alloc, language, &source.bytes) {
             Ok(aspects) => all.push(aspects)?,
             Err(fault) => return Err(of_file(i + 1, fault)),
         }
@@ -58,9 +66,9 @@ fn read_all(alloc: Global, forms: Forms, aspects: &[Source]) -> Result<Vec<Vec<A
 }
 
 /// The aspects of a file.
-fn read(alloc: Global, forms: Forms, bytes: &[u8]) -> Result<Vec<Aspect>, Fault<Code>>
-    ensures hold { IfOk result (λ v. Holds forms bytes.now (map aspect_view v.items)) }
-    ensures refused { IfErr result (IsReadingFaultOf forms bytes.now) }
+fn read(alloc: Global, language: Language, bytes: &[u8]) -> Result<Vec<Aspect>, Fault<Code>>
+    ensures hold { IfOk result (λ v. Holds language bytes.now (map aspect_view v.items)) }
+    ensures refused { IfErr result (IsReadingFaultOf language bytes.now) }
 {
     let text = match text_of(bytes, MAX_FILE, Code::AspectLimit, Code::AspectSyntax) {
         Ok(text) => text,
@@ -71,9 +79,33 @@ fn read(alloc: Global, forms: Forms, bytes: &[u8]) -> Result<Vec<Aspect>, Fault<
             });
         }
     };
+    match language {
+        Language::Profile(forms) => read_profile(alloc, text, forms),
+        Language::JastAdd => read_java(alloc, text),
+    }
+}
+
+/// The aspects of a text of the profile, where these forms are read.
+fn read_profile(alloc: Global, text: &str, forms: Forms) -> Result<Vec<Aspect>, Fault<Code>>
+    requires { IsText max_file text.now }
+    ensures hold { IfOk result (λ v. Holds (Profile forms) text.now (map aspect_view v.items)) }
+    ensures refused { IfErr result (IsReadingFaultOf (Profile forms) text.now) }
+{
     match parse_jrag(alloc, text, forms) {
         Ok(aspects) => Ok(aspects),
         Err(fault) => Err(fault.map_code(jrag_code)),
+    }
+}
+
+/// The aspects of a text as users of JastAdd write them.
+fn read_java(alloc: Global, text: &str) -> Result<Vec<Aspect>, Fault<Code>>
+    requires { IsText max_file text.now }
+    ensures hold { IfOk result (λ v. Holds JastAdd text.now (map aspect_view v.items)) }
+    ensures refused { IfErr result (IsReadingFaultOf JastAdd text.now) }
+{
+    match parse_java(alloc, text) {
+        Ok(aspects) => Ok(aspects),
+        Err(fault) => Err(fault.map_code(java_code)),
     }
 }
 
@@ -84,6 +116,17 @@ fn jrag_code(code: JragCode) -> Code
         JragCode::Syntax => Code::AspectSyntax,
         JragCode::LeftOut => Code::AspectFormLeftOut,
         JragCode::Nesting => Code::AspectLimit,
+    }
+}
+
+fn java_code(code: JavaCode) -> Code
+    ensures { result ≡ java_code code }
+{
+    match code {
+        JavaCode::Syntax => Code::AspectSyntax,
+        JavaCode::LeftOut => Code::AspectFormLeftOut,
+        JavaCode::Limit => Code::AspectLimit,
+        JavaCode::NoValue => Code::Kind,
     }
 }
 

@@ -4,7 +4,7 @@ ghost use Rattle.std.specs.Prelude.{◌≡◌, MatchResult};
 ghost use Rattle.at_start.specs.Files.{IsTextOf, IsNoText, tree_bytes};
 
 use crate::code::Code;
-use at_jrag::Forms;
+use crate::language::Language;
 
 /// How many bytes a file may have, but for that of a large tree.
 pub const MAX_FILE: usize = 4_194_304;
@@ -32,8 +32,8 @@ pub struct Files {
     pub aspects: Vec<Source>,
     /// How many nodes the tree may have.
     pub nodes: u32,
-    /// Which forms of aspects are read that are left out where they aren't named.
-    pub forms: Forms,
+    /// The language that the aspects are written in.
+    pub language: Language,
 }
 
 /// The text of a file that may have so many bytes, or the code for a file that is too long, or for one that is no UTF-8.

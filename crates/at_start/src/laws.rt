@@ -6,6 +6,7 @@ ghost use Rattle.at_model.specs.Machine.{State};
 ghost use Rattle.at_model.specs.Rules.{Rules};
 ghost use Rattle.at_rules.specs.Circular.{HasNoneCircular};
 ghost use Rattle.at_engine.specs.declared.stream.desk.Report.{Report};
+ghost use Rattle.at_start.specs.AspectFiles.{reads_circular};
 ghost use Rattle.at_start.specs.Starts.{Starts};
 ghost use Rattle.at_start.specs.Whole.{Answers, IsWithinMemory, MeansOutput};
 ghost use Rattle.at_start.specs.declared.files.Files.{Files};
@@ -20,9 +21,9 @@ pub fn whole()
         × (report.memory ≡ 0 → IsWithinMemory m.told) }
 {}
 
-/// Where the form isn't read no attribute of the rules that files give is circular.
+/// Where the form isn't read in the language no attribute of the rules that files give is circular.
 pub fn none_circular()
-    ensures { (files : Files) (rules : Rules) (state : State) → files.forms.circular ≡ false → Starts files rules state
+    ensures { (files : Files) (rules : Rules) (state : State) → reads_circular files.language ≡ false → Starts files rules state
         → HasNoneCircular rules }
 {}
 

@@ -9,7 +9,7 @@
 //! and `tree.rt` have what each kind of file gives, `fault.rt` why there is no engine.
 //!
 //! **What it keeps true:** an engine that is made is sound, keeps nothing yet, and has just the classes, rules and
-//! tree of the files, as they are read with the forms that these name.
+//! tree of the files, as they are read in the language that these name.
 #![tactic(auto)]
 
 ghost use Rattle.std.specs.Prelude.{◌≡◌, IfOk, IfErr};
@@ -23,6 +23,7 @@ mod code;
 mod fault;
 mod files;
 mod grammar;
+mod language;
 pub mod laws;
 mod serving;
 mod tree;
@@ -39,6 +40,7 @@ pub use fault::StartFault;
 use fault::{of_file, of_tree};
 pub use files::{Files, MAX_FILE, Source, tree_bytes};
 use grammar::classes_of;
+pub use language::Language;
 pub use serving::{Answered, answer};
 use std::alloc::Global;
 use tree::tree_of;
@@ -84,7 +86,7 @@ pub fn start_with<K: Keeper>(
         Ok(classes) => classes,
         Err(fault) => return Err(of_file(0, fault)),
     };
-    let rules = rules_of(alloc, classes, files.forms, &files.aspects)?;
+    let rules = rules_of(alloc, classes, files.language, &files.aspects)?;
     let file = files.aspects.len() + 1;
     let tree = match tree_of(alloc, rules.classes(), files.nodes, &files.tree.bytes) {
         Ok(tree) => tree,

@@ -17,7 +17,7 @@ use Rattle.at_typing.proofs.EquationsOfKinds.{circular_kept, none_circular, well
 use Rattle.at_typing.proofs.Literals.{AreIntsIn, located_ints}
 use Rattle.at_typing.proofs.Starting.{IsBooleanIn, located_booleans}
 
-declared_well_formed : (classes : Classes) (ds : List Located) (rules : Rules) → IsHierarchy classes
+pub declared_well_formed : (classes : Classes) (ds : List Located) (rules : Rules) → IsHierarchy classes
     → AllByRecursion AreIntsIn ds
     → AllByRecursion IsBooleanIn ds → Builds classes ds (Ok rules) → AreWellFormed rules
 declared_well_formed classes ds rules hierarchy ints booleans (fault, is) = by (first_fault classes ds) refl fault

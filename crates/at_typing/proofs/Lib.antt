@@ -22,7 +22,7 @@ mod InOrder
 mod Built
 mod Spelled
 pub mod Starting
-mod Literals
+pub mod Literals
 mod KindsJudged
 mod KindsOfBodies
 mod Singles

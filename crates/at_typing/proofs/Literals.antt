@@ -44,7 +44,7 @@ AreIntsIn d = IfSome (body_in d.decl.form) (λ b. AreInts b.expr)
 -- what is spelled -------------------------------------------------------------------------------------------------------
 
 -- a number has as many digits as 32 bits hold
-neg_fits : (m : ℕ) → m ≤ 2147483648 → IsInt32 (neg_ℤ (pos m))
+pub neg_fits : (m : ℕ) → m ≤ 2147483648 → IsInt32 (neg_ℤ (pos m))
 neg_fits zero less = omega arith
 neg_fits (suc k) less = omega (arith, less)
 

@@ -40,6 +40,10 @@ forms_named : are_taken (codes "--forms" ∷ codes "circular" ∷ files) ≡ tru
 unfolding clap_on_literals
 forms_named = refl
 
+language_named : are_taken (codes "--forms" ∷ codes "jastadd,circular" ∷ files) ≡ true
+unfolding clap_on_literals
+language_named = refl
+
 no_such_form : are_taken (codes "--forms=circular,nta" ∷ files) ≡ false
 unfolding clap_on_literals
 no_such_form = refl

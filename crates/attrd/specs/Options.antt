@@ -10,7 +10,7 @@ use Rattle.clap.specs.Words.{Row, Text, all_of, first_of, found_of, matches_of, 
 use Rattle.clap.specs.Words.{takes}
 use Rattle.clap.specs.declared.parser.matches.ArgMatches.{ArgMatches}
 use Rattle.attrd.specs.CommandLine.{command_line}
-use Rattle.attrd.specs.Forms.{forms_in, name_forms}
+use Rattle.attrd.specs.Forms.{language_in, name_forms}
 use Rattle.attrd.specs.declared.options.Options.{Options}
 
 -- the most connections that can be asked for
@@ -63,7 +63,7 @@ pub record HasValues (rows : List Row) (o : Options) : Type 0 where
   pub slice : o.slice ≡ number_asked (one_of (codes "slice") rows)
   pub keep : o.keep ≡ option_map number (one_of (codes "keep") rows)
   pub nodes : o.nodes ≡ option_map number (one_of (codes "nodes") rows)
-  pub forms : o.forms ≡ forms_in (first_of (codes "forms") rows)
+  pub language : o.language ≡ language_in (first_of (codes "forms") rows)
   pub cut_off : o.cut_off ≡ is_set (one_of (codes "cut-off") rows)
   pub gather : o.gather ≡ is_set (one_of (codes "gather") rows)
   pub work : o.work ≡ is_set (one_of (codes "work") rows)

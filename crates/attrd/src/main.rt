@@ -1,7 +1,7 @@
 //! attrd: an attribute tree server in the JastAdd profile. It reads a grammar, a tree and aspects, and answers
 //! lines of standard input on standard output, or those of the connections of a socket.
 //!
-//! **Its specs:** `CommandLine` is which words are taken, `Forms` which forms they name, `Options` what they ask for, `Seen` what is known of those who connect,
+//! **Its specs:** `CommandLine` is which words are taken, `Forms` which language they name, `Options` what they ask for, `Seen` what is known of those who connect,
 //! `Doors` what is done with their connections, `Connections` how these ended, `Statuses` with which status the program ends,
 //! `Failures` what it says then, and `Reasons` the system's reasons.
 //!
@@ -362,7 +362,7 @@ fn nodes_asked(options: &Options) -> u32
 /// The files that are asked for, read in the order grammar, aspects, tree.
 fn read_files(rt: &HostRuntime, options: &Options) -> Result<Files, Failure>
     ensures nodes { IfOk result (λ files. files.nodes ≡ unwrap_or options.now.nodes usual_nodes) }
-    ensures forms { IfOk result (λ files. files.forms ≡ options.now.forms) }
+    ensures language { IfOk result (λ files. files.language ≡ options.now.language) }
 {
     let grammar = read_file(rt, &options.grammar, MAX_FILE)?;
     let mut aspects = Vec::new(rt.alloc());
@@ -376,7 +376,7 @@ fn read_files(rt: &HostRuntime, options: &Options) -> Result<Files, Failure>
         tree,
         aspects,
         nodes,
-        forms: options.forms,
+        language: options.language,
     })
 }
 

@@ -5,7 +5,7 @@ ghost use Rattle.attrd.specs.declared.options.WordsFault.TheVariants.{Memory};
 mod forms;
 mod words;
 
-use at_start::Forms;
+use at_start::Language;
 use std::alloc::{AllocError, AllocFailed};
 use thiserror::Error;
 pub use words::options;
@@ -23,8 +23,8 @@ pub struct Options {
     pub keep: Option<u32>,
     /// How many nodes the tree may have: 1 to 16,777,216.
     pub nodes: Option<u32>,
-    /// Which forms of aspects are read that are left out else.
-    pub forms: Forms,
+    /// The language that the aspects are written in.
+    pub language: Language,
     /// Whether values are verified before each turn of a posted question, too.
     pub cut_off: bool,
     /// Whether replies to lines that come together are sent on together.

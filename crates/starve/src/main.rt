@@ -9,7 +9,7 @@ ghost use Rattle.at_engine.specs.Engines.{KeepsNothing};
 
 use at_cache::{KeepInTurns, KeepRecorded, Keeper};
 use at_engine::{RunFault, Watched};
-use at_start::{Files, Forms, MAX_FILE, Source, StartFault, USUAL_NODES, answer};
+use at_start::{Files, Forms, Language, MAX_FILE, Source, StartFault, USUAL_NODES, answer};
 use std::alloc::{AllocError, AllocFailed};
 use std::fs::File;
 use std::io::{ErrorKind, Read};
@@ -45,7 +45,7 @@ impl<T: Drop> From<AllocFailed<T>> for Stop {
     }
 }
 
-/// Answers lines of standard input on standard output, by the words `[--forms circular] KEEPER SLICE GRAMMAR TREE ASPECT..`. Ends
+/// Answers lines of standard input on standard output, by the words `[--forms WORD] KEEPER SLICE GRAMMAR TREE ASPECT..`. Ends
 /// with status 0; 2 where words, a file or a stream are at fault, 4 for want of memory outside of the lines.
 fn main(rt: HostRuntime) -> ExitCode {
     match serve(&rt) {
@@ -64,7 +64,7 @@ fn serve(rt: &HostRuntime) -> Result<(), Stop> {
         return Err(Stop::Memory);
     };
     let words: Vec<String> = words.skip(1).collect(rt.alloc())?;
-    let (forms, words) = forms_of(words.as_slice());
+    let (language, words) = language_of(words.as_slice());
     let [word, slice, grammar, tree, aspects @ ..] = words else {
         return Err(Stop::Fault);
     };
@@ -74,7 +74,7 @@ fn serve(rt: &HostRuntime) -> Result<(), Stop> {
     let Ok(slice) = slice.parse::<u32>() else {
         return Err(Stop::Fault);
     };
-    let mut files = read_files(rt, forms, grammar, tree, aspects)?;
+    let mut files = read_files(rt, language, grammar, tree, aspects)?;
     let keeper = KeepRecorded::new(rt.alloc());
     if way.in_turns {
         return serve_with(rt, slice, way.most, &mut files, KeepInTurns { keeper });
@@ -97,15 +97,24 @@ fn way_of(word: &str) -> Option<Way> {
     Some(Way { most, in_turns })
 }
 
-/// The forms of aspects that the words name in front, and the words behind these.
-fn forms_of(words: &[String]) -> (Forms, &[String]) {
+/// The language of aspects that the words name in front, and the words behind these.
+fn language_of(words: &[String]) -> (Language, &[String]) {
     if let [option, name, rest @ ..] = words
         && option.as_str() == "--forms"
-        && name.as_str() == "circular"
+        && let Some(language) = language_named(name)
     {
-        return (Forms { circular: true }, rest);
+        return (language, rest);
     }
-    (Forms::NONE, words)
+    (Language::Profile(Forms::NONE), words)
+}
+
+/// The language of that name.
+fn language_named(name: &str) -> Option<Language> {
+    match name {
+        "circular" => Some(Language::Profile(Forms { circular: true })),
+        "jastadd" => Some(Language::JastAdd),
+        _ => None,
+    }
 }
 
 /// Answers the lines over an empty keeper, with so many turns behind each, and that bound. On standard error it tells how many lines
@@ -148,7 +157,7 @@ fn serve_with<K: Keeper>(
 /// The files of these names.
 fn read_files(
     rt: &HostRuntime,
-    forms: Forms,
+    language: Language,
     grammar: &str,
     tree: &str,
     aspects: &[String],
@@ -162,7 +171,7 @@ fn read_files(
         tree: read_file(rt, tree)?,
         aspects: sources,
         nodes: USUAL_NODES,
-        forms,
+        language,
     })
 }
 

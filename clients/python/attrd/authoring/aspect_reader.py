@@ -15,12 +15,18 @@ ROWS: Tuple[Tuple[str, ...], ...] = (("||",), ("&&",), ("==", "!="), ("<", "<=",
 BEHIND_CAST = (("sign", "("), ("reserved", "this"), ("reserved", "null"), *(("reserved", it) for it in FOLDS))
 
 
+def words_of(forms: str) -> List[str]:
+    """The words of a list of forms; all of JastAdd's language takes in circular attributes."""
+    words = forms.split(",")
+    return [*words, "circular"] if "jastadd" in words else words
+
+
 class AspectReader(JavaReader):
     """Reads the declarations of a file; with the forms that are read, which are left out else, as `circular`, with commas between them."""
 
     def __init__(self, text: str, forms: str = "") -> None:
         super().__init__(Scan(text, is_lenient=True))
-        self.forms = forms.split(",")
+        self.forms = words_of(forms)
         self.bound: Tuple[Binding, ...] = ()
         self.made: List[Expression] = []
         self.pieces: List[Piece] = []
@@ -39,7 +45,7 @@ class AspectReader(JavaReader):
     def declaration(self) -> Declaration:
         """The next declaration. What isn't whole ends where it ends in JastAdd2, or before the next word with which one may begin."""
         first, begun = self.next, self.at
-        declared = Declaration(first.text if first.text in BEGINNINGS and first.kind == "reserved" else "other", first.at)
+        declared = Declaration(self.form(), first.at)
         self.bound, self.made, self.pieces = (), declared.made, declared.pieces
         declared.sort = self.sort() if declared.form == "other" else ""
         try:
@@ -51,6 +57,10 @@ class AspectReader(JavaReader):
             self.at = max(self.end_of(begun, declared.sort == "contributes"), begun + 1)
         declared.end = self.words[self.at - 1].end
         return declared
+
+    def form(self) -> str:
+        """Whether a declaration of syn, inh or eq is next, or another one."""
+        return self.next.text if self.next.text in BEGINNINGS and self.next.kind == "reserved" else "other"
 
     def _read(self, declared: Declaration) -> None:
         if declared.form == "other":
@@ -170,13 +180,17 @@ class AspectReader(JavaReader):
         while not self.take("sign", ")"):
             if declared.parameters:
                 self.want("sign", ",")
-            word = self.next
-            if self.take("name", "final"):
-                self.left_out(word, "modifier")
+            self.final()
             kind = self.kind("parameter kind")
             declared.parameters.append(Binding(self.want("name"), kind))
         declared.parameters_end = self.words[self.at - 1].end
         self.bound += tuple(declared.parameters)
+
+    def final(self) -> None:
+        """Passes over `final`, which isn't taken."""
+        word = self.next
+        if self.take("name", "final"):
+            self.left_out(word, "modifier")
 
     def kind(self, sort: str) -> Word:
         """A kind: int, boolean, String or the name of a class. A type of Java isn't taken. Raises GrammarFault where none stands here."""
@@ -337,8 +351,3 @@ class AspectReader(JavaReader):
         self.bound = outer
         self.want("sign", "}")
         return self.make(Form.FOLD, word.at, word, [among, body])
-
-
-def read_aspects(text: str, forms: str = "") -> List[Declaration]:
-    """The declarations of an aspect file, as far as they can be read, where these forms are."""
-    return AspectReader(text, forms).file()

@@ -3,6 +3,7 @@ from __future__ import annotations
 
 from typing import Dict, List, NamedTuple, Sequence, Set
 
+from .aspect_reader import words_of
 from .aspect_tree import Declaration, Form
 from .specification import Placed, Source, Specification
 from .ways import section
@@ -57,7 +58,7 @@ class _Asked:
 def circles(grammar: Source, aspects: Sequence[Source], forms: str = "") -> List[Note]:
     """A note for each attribute that isn't declared circular, asks one that is, and may be asked by it in its turn, in the order of the
     texts; none where the form isn't read."""
-    if "circular" not in forms.split(","):
+    if "circular" not in words_of(forms):
         return []
     specification = Specification(grammar, aspects, forms)
     asked = _Asked(specification)

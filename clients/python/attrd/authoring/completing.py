@@ -4,8 +4,8 @@ from __future__ import annotations
 import re
 from typing import Dict, List, Optional, Tuple
 
-from .aspect_reader import read_aspects
 from .aspect_tree import Declaration, Expression, Form
+from .jastadd_reader import read_aspects
 from .java_reader import KINDS
 from .specification import Source, Specification
 
@@ -41,9 +41,9 @@ class Completing:
     def _here(self) -> Optional[Tuple[Declaration, Expression]]:
         """The call that stands at the place when a name is put there, and its declaration; None where no expression can stand."""
         others = [it for it in self.specification.aspects if it.name != self.file]
-        text = f"{self.front}{HERE}(){self.behind}"
-        whole = Specification(self.specification.grammar_file, [*others, Source(self.file, text)])
-        for declaration in read_aspects(text):
+        text, forms = f"{self.front}{HERE}(){self.behind}", ",".join(self.specification.forms)
+        whole = Specification(self.specification.grammar_file, [*others, Source(self.file, text)], forms)
+        for declaration in read_aspects(text, forms):
             call = next((it for it in declaration.made if it.form is Form.CALL and it.word.text == HERE), None)
             if call is not None:
                 self.specification = whole

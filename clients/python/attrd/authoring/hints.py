@@ -9,8 +9,8 @@ from ..grammar import Shape
 from .aspect_tree import Declaration, Expression, Form, Piece
 from .mending import Refused
 from .specification import NODES, Placed, Specification, is_java_kind
-from .ways import (COMPUTED, FORMS, JAVA_TYPES, NAMES, NUMBERS, OF_JAVA, OF_SETS, OTHERWISE, OVERLOADED, OVERRIDDEN, TOO_MANY, TWO_FORMS,
-                   TWO_TYPES, Way, way_of_body)
+from .ways import (COMPUTED, FORMS, JAVA_TYPES, NAMES, NO_VALUE, NUMBERS, OF_JAVA, OF_SETS, OTHERWISE, OVERLOADED, OVERRIDDEN, TOO_MANY,
+                   TWO_FORMS, TWO_TYPES, Way, way_of_body)
 
 _SEVERAL = re.compile(r"get(\w+)s")
 _OPTIONAL = re.compile(r"get(\w+)Opt")
@@ -41,6 +41,8 @@ class Hints:
         found = {"J2": self._of_twice, "J12": self._of_name}.get(refused.code)
         if found is not None:
             return found(it) or otherwise
+        if refused.code == "J4" and word == "}":
+            return NO_VALUE
         if refused.code in ("J3", "J4", "J5"):
             made = refused.expression or self._smallest(refused, it)
             return (self._of_head(refused, it, word) if made is None else self._of_expression(refused.code, made, it)) or otherwise
@@ -60,7 +62,7 @@ class Hints:
     def _of_form(self, refused: Refused, text: str) -> Optional[Way]:
         sort, it, piece = refused.sort, refused.declaration, self.piece(refused)
         if piece is not None:
-            body = way_of_body(sort, text[piece.start:piece.end])
+            body = way_of_body(sort, text[piece.start:piece.end], "jastadd" in self.specification.forms)
             if body is not None:
                 return body
         if sort == "method" and it is not None and it.kind is not None and it.kind.text == "void":

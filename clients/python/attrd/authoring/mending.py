@@ -206,7 +206,10 @@ class Mending:
     def _put_body(self, file: int, it: Declaration, start: Optional[int] = None) -> None:
         """Puts a plain body in the place of a declaration's, or of what stands from an offset on."""
         self._bodies.add(id(it))
-        body = ";" if it.form == "inh" else f" = {self._dummy(it) or 'null'};"
+        value = self._dummy(it) or "null"
+        # the body of a method is a block
+        plain = f"{{ return {value}; }}" if "jastadd" in self.specification.forms else f"= {value};"
+        body = ";" if it.form == "inh" else f" {plain}"
         self.patched[file].put(it.parameters_end if start is None else start, it.end, body)
 
     def _put_plain(self, refusal: Refusal, it: Declaration) -> None:

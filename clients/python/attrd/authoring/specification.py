@@ -6,9 +6,10 @@ from typing import Dict, Iterator, List, NamedTuple, Optional, Sequence, Set, Tu
 
 from ..grammar import ClassOf, Grammar, Part, Shape
 from ..grammar_reader import Declared
-from .aspect_reader import FOLDS, read_aspects
+from .aspect_reader import FOLDS, words_of
 from .aspect_tree import Binding, Declaration, Expression, Form
 from .grammar_faults import WholeGrammar
+from .jastadd_reader import read_aspects
 from .java_reader import KINDS
 
 # Classes of JastAdd2 that no grammar declares, and of which there are no nodes here.
@@ -45,7 +46,7 @@ class Specification:
 
     def __init__(self, grammar: Source, aspects: Sequence[Source], forms: str = "") -> None:
         self.grammar_file, self.aspects = grammar, list(aspects)
-        self.forms = forms.split(",")
+        self.forms = words_of(forms)
         self.whole = WholeGrammar(grammar.text)
         self.grammar: Grammar = self.whole.grammar or WholeGrammar("Nothing;").grammar  # type: ignore[assignment]
         self.classes: Dict[str, Declared] = {}

@@ -101,6 +101,11 @@ COMPUTED = Way("A String argument is a token, a parameter or a text that is writ
 OF_JAVA = Way("Java can't be called: what takes a library is computed by the client, which puts the result into the tree as a token.", 1)
 OF_SETS = Way("A set is the question whether something is in it: have the attribute take the element as its argument, and answer a "
               "boolean.", 1)
+NO_VALUE = Way("The end of the body can be reached: have each way through it end in a `return`.", 5)
+# What helps where bodies of statements are read.
+IN_JASTADD: Dict[str, Way] = {
+    "for": Way("A loop is read that looks for an element: `for (S s : getSList()) if (c) return e;`. Count by `sum (s : getSList()) { e }`.", 5),
+    "statement": Way("Nothing is changed in a body: what is assigned or added becomes the value of an attribute.", 5)}
 # Loops and choices that stand further on in a body.
 _STATEMENT = re.compile(r"\b(if|for|while|switch)\b")
 
@@ -110,10 +115,13 @@ def section(number: int) -> str:
     return f"{number}. {SECTIONS[number]}" if number else ""
 
 
-def way_of_body(sort: str, text: str) -> Optional[Way]:
-    """What helps where a body of statements begins with one of this sort, and goes on with others; None where it is no statement."""
+def way_of_body(sort: str, text: str, is_java: bool = False) -> Optional[Way]:
+    """What helps where a body of statements begins with one of this sort, and goes on with others; None where it is no statement. Of
+    JastAdd's own language it is what helps with the first one that isn't read."""
     if sort not in ("if", "return", "for", "while", "local", "statement", "empty"):
         return None
+    if is_java:
+        return IN_JASTADD.get(sort, FORMS[sort])
     further = ["if" if it == "switch" else it for it in _STATEMENT.findall(text)]
     hints: List[str] = list(dict.fromkeys(FORMS[it].hint for it in (sort, *further)))
     return Way(" ".join(hints), FORMS[sort].section)

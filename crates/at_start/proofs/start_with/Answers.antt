@@ -28,7 +28,7 @@ pub returns-in_err-rules-clause-refused : goal.returns-in_err-rules-clause-refus
 returns-in_err-rules-clause-refused g c =
     let p = err_from_is_err_and c.from_residual.result c.from_residual.ensures.1 in
     let given = subst (λ (b : List ℕ). GivesClasses b c.in-Ok.classes) c.deref.ensures.value c.in-Ok.ensures.given in
-    let fault = subst (λ (s : List Source). IsAspectFault c.args.files.now.forms c.in-Ok.classes (aspect_bytes s)
+    let fault = subst (λ (s : List Source). IsAspectFault c.args.files.now.language c.in-Ok.classes (aspect_bytes s)
     c.in_err-rules.field-0.0) c.deref-2.ensures.value c.in_err-rules.ensures.refused in
     rw (p.1, p.2) (aspects_refuse c.args.files.now c.in-Ok.classes c.in_err-rules.field-0.0 given fault)
 
@@ -36,7 +36,7 @@ pub returns-in-Err-tree_of-clause-refused : goal.returns-in-Err-tree_of-clause-r
 returns-in-Err-tree_of-clause-refused g c =
     let files = c.args.files.now in
     let given = subst (λ (b : List ℕ). GivesClasses b c.in-Ok.classes) c.deref.ensures.value c.in-Ok.ensures.given in
-    let rules = subst (λ (s : List Source). GivesRules files.forms c.in-Ok.classes (aspect_bytes s)
+    let rules = subst (λ (s : List Source). GivesRules files.language c.in-Ok.classes (aspect_bytes s)
     c.in_ok-rules.rules) c.deref-2.ensures.value c.in_ok-rules.ensures.given in
     let there = subst (λ (k : Classes). IsTreeFault k files.nodes c.deref-3.result.now c.in-Err-tree_of.fault) (c.classes.ensures ∙ c.in_ok-rules.ensures.classes) c.in-Err-tree_of.ensures.refused in
     let fault = subst (λ (b : List ℕ). IsTreeFault c.in-Ok.classes files.nodes b c.in-Err-tree_of.fault) c.deref-3.ensures.value there in
@@ -50,7 +50,7 @@ returns-in-Err-Limit-clause-refused g c =
     let bytes = files.tree.bytes.items in
     let same = c.classes.ensures ∙ c.in_ok-rules.ensures.classes in
     let given = subst (λ (b : List ℕ). GivesClasses b c.in-Ok.classes) c.deref.ensures.value c.in-Ok.ensures.given in
-    let rules = subst (λ (s : List Source). GivesRules files.forms c.in-Ok.classes (aspect_bytes s)
+    let rules = subst (λ (s : List Source). GivesRules files.language c.in-Ok.classes (aspect_bytes s)
     c.in_ok-rules.rules) c.deref-2.ensures.value c.in_ok-rules.ensures.given in
     let load = subst (λ (f : LoadFault). IsNotLoaded c.in_ok-rules.rules.classes files.nodes t f) c.in-Err-Limit.field-0-is c.in-Err-Limit.ensures.refused in
     let text = subst (IsText (tree_bytes files.nodes)) c.deref-3.ensures.value c.in-Ok-tree_of.ensures.text in
@@ -73,9 +73,9 @@ returns-in-Ok-new-clause-started g c =
     let bytes = files.tree.bytes.items in
     let same = c.classes.ensures ∙ c.in_ok-rules.ensures.classes in
     let given = subst (λ (b : List ℕ). GivesClasses b c.in-Ok.classes) c.deref.ensures.value c.in-Ok.ensures.given in
-    let read = subst (λ (s : List Source). GivesRules files.forms c.in-Ok.classes (aspect_bytes s)
+    let read = subst (λ (s : List Source). GivesRules files.language c.in-Ok.classes (aspect_bytes s)
     c.in_ok-rules.rules) c.deref-2.ensures.value c.in_ok-rules.ensures.given in
-    let rules = subst (λ (r : Rules). GivesRules files.forms c.in-Ok.classes (aspect_bytes files.aspects.items) r)
+    let rules = subst (λ (r : Rules). GivesRules files.language c.in-Ok.classes (aspect_bytes files.aspects.items) r)
     (sym c.in-Ok-new.ensures.rules) read in
     let text = subst (IsText (tree_bytes files.nodes)) c.deref-3.ensures.value c.in-Ok-tree_of.ensures.text in
     let there = subst (λ (b : List ℕ). IsTermFile b (term_of c.classes.result.now t)) c.deref-3.ensures.value c.in-Ok-tree_of.ensures.written in

@@ -5,14 +5,14 @@ ghost use Rattle.clap.specs.Walk.{texts};
 ghost use Rattle.clap.specs.Words.{all_of, app_of, first_of, kind_of, matches_of, one_of, rule_of, takes};
 ghost use Rattle.clap.specs.declared.error.ErrorKind.TheVariants.{OutOfMemory};
 ghost use Rattle.attrd.specs.CommandLine.{command_line, rule, with_words};
-ghost use Rattle.attrd.specs.Forms.{forms_in};
+ghost use Rattle.attrd.specs.Forms.{language_in};
 ghost use Rattle.attrd.specs.Options.{are_taken, Asks, HasValues, IsFlag, IsSized, IsUsable, IsWhole, SpellsUpTo};
 ghost use Rattle.attrd.specs.Options.{is_set, max_connections, max_keep, max_nodes_asked, max_slice, number, number_asked, rows_found};
 ghost use Rattle.attrd.specs.declared.options.WordsFault.TheVariants.{Memory};
 
-use super::forms::forms_of;
+use super::forms::language_of;
 use super::{Options, WordsFault};
-use at_start::Forms;
+use at_start::Language;
 use clap::builder::ValueParser;
 use clap::error::ErrorKind;
 use clap::{Arg, ArgMatches, Command, Error};
@@ -37,7 +37,7 @@ const MAX_KEEP: u32 = 1_000_000_000;
 const MAX_NODES: u32 = 16_777_216;
 
 /// The program's version, which the file `VERSION` holds, too.
-const VERSION: &str = "0.39";
+const VERSION: &str = "0.40";
 
 /// What stands below the words in the help: a session, and the commands.
 const HELP: &str = "A session:
@@ -125,7 +125,7 @@ const WORDS: &[Word] = &[
         most: 1,
         value: "WORDS",
         parser: ValueParser::NonEmptyString,
-        help: "Which forms of aspects are read that are left out else, between commas [possible values: circular]",
+        help: "Which forms of aspects are read that are left out else, between commas [possible values: circular, jastadd]",
     },
     Word {
         name: "cut-off",
@@ -194,8 +194,8 @@ pub fn options<'a>(alloc: Global, words: &'a [&'a str]) -> Result<Options, Words
         Ok(matches) => matches,
         Err(error) => return Err(fault_of(alloc, &error)),
     };
-    let forms = forms_of(alloc, matches.get_str("forms"))?;
-    Ok(options_of(alloc, &matches, forms)?)
+    let language = language_of(alloc, matches.get_str("forms"))?;
+    Ok(options_of(alloc, &matches, language)?)
 }
 
 /// The words as they are matched. Each file that is needed is among them, so what follows looks for none in vain.
@@ -251,10 +251,14 @@ fn argument<'a>(alloc: Global, word: &Word) -> Arg<'a>
     }
 }
 
-/// What the words ask for, as they were matched, with the forms that they name.
-fn options_of(alloc: Global, matches: &ArgMatches<'_>, forms: Forms) -> Result<Options, AllocError>
+/// What the words ask for, as they were matched, with the language that they name.
+fn options_of(
+    alloc: Global,
+    matches: &ArgMatches<'_>,
+    language: Language,
+) -> Result<Options, AllocError>
     requires whole { IsWhole (rows_found matches.now) }
-    requires forms { forms ≡ forms_in (first_of (codes "forms") (rows_found matches.now)) }
+    requires language { language ≡ language_in (first_of (codes "forms") (rows_found matches.now)) }
     ensures { IfOk result (HasValues (rows_found matches.now)) }
 {
     Ok(Options {
@@ -263,7 +267,7 @@ fn options_of(alloc: Global, matches: &ArgMatches<'_>, forms: Forms) -> Result<O
         slice: slice_of(matches),
         keep: keep_of(matches),
         nodes: nodes_of(matches),
-        forms,
+        language,
         cut_off: has_flag(matches, "cut-off"),
         gather: has_flag(matches, "gather"),
         work: has_flag(matches, "work"),

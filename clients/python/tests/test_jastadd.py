@@ -1,0 +1,128 @@
+"""Aspects as users of JastAdd write them, where `--forms jastadd` has the program read them: what the client reads of them."""
+import unittest
+
+from attrd.authoring import Source, Specification, check, completions
+from attrd.authoring.aspect_tree import Form
+from attrd.authoring.jastadd_reader import read_aspects
+from support import PROGRAM
+
+GRAMMAR = Source("g.ast", "A ::= <On:boolean> B*; B ::= <Name>;")
+# A body, and the expression that it means; nothing where a statement isn't read, or its end can be reached.
+BODIES = [
+    ("return 1;", "1"),
+    ("return 1; return 2;", "1"),
+    (";; { return 1; }", "1"),
+    ("if (a()) return 1; return 2;", "a() ? 1 : 2"),
+    ("if (a()) return 1; else if (b()) { return 2; } return 3;", "a() ? 1 : b() ? 2 : 3"),
+    ("if (a()) { if (b()) return 1; } return 2;", "a() ? b() ? 1 : 2 : 2"),
+    ("for (B x : getBList()) if (x.c()) return true; return d();", "exists (x : getBList()) { x.c() } || d()"),
+    ("for (final B x : getBList()) { if (x.c()) { return false; } } return true;", "!exists (x : getBList()) { x.c() } && true"),
+    ("for (B x : getBList()) if (x.c()) return x; return null;", "first (x : getBList()) { x.c() }"),
+    ("for (B x : getBList()) if (x.c()) return x; return y();", "exists (x : getBList()) { x.c() } ? first (x : getBList()) { x.c() } : y()"),
+    ("for (B x : getBList()) if (x.c()) return x.d(1) + 2; return 3;",
+     "exists (x : getBList()) { x.c() } ? first (x : getBList()) { x.c() }.d(1) + 2 : 3"),
+    ("if (a()) return 1;", None),
+    ("for (B x : getBList()) if (x.c()) return 1;", None),
+    ("int n = 0; return n;", None),
+    ("while (a()) return 1; return 2;", None),
+    ("for (int i = 0; i < 3; i = i + 1) return 1; return 2;", None),
+    ("for (B x : getBList()) n = n + 1; return 2;", None),
+    ("for (B x : getBList()) if (x.c()) return sum (y : getBList()) { 1 }; return 2;", None),
+]
+# Declarations, and what is read of each: form, kind, class and name.
+DECLARATIONS = [
+    ("public int A.m() { return 1; }", ("syn", "int", "A", "m")),
+    ("int A.m(final String n) { return 1; }", ("syn", "int", "A", "m")),
+    ("private syn lazy final B A.b() = getB(0);", ("syn", "B", "A", "b")),
+    ("protected inh boolean B.on() circular [true];", ("inh", "boolean", "B", "on")),
+    ("public eq A.getB().on() { return true; }", ("eq", None, "A", "on")),
+    ("public void A.v() { }", ("other", None, None, None)),
+    ("static int A.s() { return 1; }", ("other", None, None, None)),
+    ("private int A.count = 0;", ("other", None, None, None)),
+    ("coll Set<B> A.bs() [new HashSet<B>()];", ("other", None, None, None)),
+]
+# Each line has the faults that are named at its end, with the section of the page, and no other.
+FAULTS = """import java.util.*;
+aspect A {
+  public int A.a() { if (getNumB() > 1) return 1; } //: J4/5
+  public int A.b() { int n = 0; for (B b : getBList()) n++; return n; } //: J10/5
+  public int A.c() { for (B b : getBList()) n++; return 2; } //: J10/5
+  public void A.d() { System.out.println(1); } //: J10/4
+  syn boolean A.e() { for (B b : getBs()) if (b.f()) return true; return false; } //: J3/15
+  public boolean B.f() { return g(); } //: J3/0
+  syn boolean A.h() { while (true) return true; return false; } //: J10/5
+  syn boolean A.i() { for (B b : getBList()) if (b.f()) return 1; return false; } //: J4/0
+  coll Set<B> A.bs() [new HashSet<B>()]; //: J10/13 J10/1
+  public int A.j() { return 1; }
+}
+"""
+
+
+def spelled(it):
+    """An expression as a text."""
+    parts = [spelled(part) for part in it.parts]
+    word = it.word.text
+    if it.form is Form.CALL:
+        front = f"{parts.pop(0)}." if it.has_receiver else ""
+        return f"{front}{word}({', '.join(parts)})"
+    if it.form is Form.FOLD:
+        return f"{word} ({it.parts[1].bound[-1].name.text} : {parts[0]}) {{ {parts[1]} }}"
+    if it.form is Form.CHOICE:
+        return f"{parts[0]} ? {parts[1]} : {parts[2]}"
+    if it.form is Form.BINARY:
+        return f"{parts[0]} {word} {parts[1]}"
+    return word + "".join(parts)
+
+
+def only(text):
+    found = read_aspects(f"aspect X {{ {text} }}", "jastadd")
+    assert len(found) == 1, text
+    return found[0]
+
+
+class Reading(unittest.TestCase):
+
+    def test_bodies_mean_expressions(self):
+        for body, wanted in BODIES:
+            with self.subTest(body):
+                it = only(f"int A.m() {{ {body} }}")
+                self.assertEqual(None if it.body is None else spelled(it.body), wanted)
+                self.assertTrue(it.is_whole)
+
+    def test_what_is_not_read_of_a_body_is_a_piece(self):
+        text = "aspect X { int A.m() { int n = 0; return n; } int A.n() { return 1; } }"
+        first, second = read_aspects(text, "jastadd")
+        self.assertEqual([(it.sort, text[it.start:it.end]) for it in first.pieces], [("local", "{ int n = 0; return n; }")])
+        self.assertEqual((second.name.text, second.pieces), ("n", []))
+
+    def test_a_body_stands_where_it_is_written(self):
+        for body, wanted in ("{ return f(1); }", "f(1)"), ("{ if (a()) return 1; return 2; }", "{ if (a()) return 1; return 2; }"):
+            text = f"aspect X {{ int A.m() {body} }}"
+            it = read_aspects(text, "jastadd")[0].body
+            self.assertEqual(text[it.start:it.end], wanted)
+
+    def test_declarations(self):
+        for text, wanted in DECLARATIONS:
+            with self.subTest(text):
+                it = only(text)
+                heads = (it.kind, it.of, it.name) if it.form != "other" else (None, None, None)
+                self.assertEqual((it.form, *(None if word is None else word.text for word in heads)), wanted)
+                self.assertTrue(it.form == "other" or (it.is_whole and not it.pieces))
+
+    def test_without_the_word_a_method_is_none(self):
+        self.assertEqual([it.form for it in read_aspects("aspect X { int A.m() { return 1; } }")], ["other"])
+
+    def test_all_faults_are_found_in_one_run(self):
+        findings = check(GRAMMAR, [Source("x.jrag", FAULTS)], PROGRAM, "jastadd").findings
+        wanted = [(line, fault) for line, text in enumerate(FAULTS.splitlines(), 1) for fault in text.partition("//: ")[2].split()]
+        self.assertEqual([(it.line, f"{it.code}/{it.section.partition('.')[0] or 0}") for it in findings], wanted)
+
+    def test_names_in_a_loop_are_completed(self):
+        text = "aspect X { boolean A.m(String n) { for (B x : getBList()) if (x.getName().equals(n)) return true; return false; } }"
+        specification = Specification(GRAMMAR, [Source("x.jrag", text)], "jastadd")
+        self.assertIn("getName", completions(specification, "x.jrag", text.index("getName")))
+        self.assertLessEqual({"x", "n", "m", "getOn"}, set(completions(specification, "x.jrag", text.index("x.getName"))))
+
+
+if __name__ == "__main__":
+    unittest.main()

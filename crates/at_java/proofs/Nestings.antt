@@ -1,0 +1,20 @@
+-- Statements nest so deep at most.
+use Rattle.std.proofs.Common.{◌≡◌, ℕ, zero, suc, ◌-◌, ◌<◌, refl, ap, ◌∙◌, arith}
+use Rattle.at_text.specs.Rows.{Row}
+use Rattle.at_java.specs.declared.JavaCode.TheVariants.{Limit}
+use Rattle.at_java.specs.Read.{fails, here}
+use Rattle.at_java.specs.Statements.{formed, statement}
+
+none : (row : Row) → statement zero row ≡ fails (here Limit row)
+unfolding statement
+none row = refl
+
+one : (n : ℕ) (row : Row) → statement (suc n) row ≡ formed (statement n) row
+unfolding statement
+one n row = refl
+
+pub none_nest : (n : ℕ) (row : Row) → n ≡ 0 → statement n row ≡ fails (here Limit row)
+none_nest n row z = ap (λ k. statement k row) z ∙ none row
+
+pub one_nests : (n : ℕ) (row : Row) → 0 < n → statement n row ≡ formed (statement (n - 1)) row
+one_nests n row h = let e : n ≡ suc (n - 1) = omega (arith, h) in ap (λ k. statement k row) e ∙ one (n - 1) row

@@ -1,0 +1,128 @@
+//! Aspects as users of JastAdd write them (JastAdd2 reference manual, Java Language Specification 14 and 15): methods, bodies with
+//! `if`, `return` and loops, modifiers and imports are read, and rewritten to the aspects of `at_jrag`.
+//!
+//! **Its specs:** `Read` is what a reader takes of a row of tokens, and `Tokens`, `Next` and `Items` what several forms share;
+//! `Operands`, `Operators` and `Expressions`, `Kinds`, `Statements` and `Declarations` say of each form what is read, by recursive
+//! descent; `Written` is a body as it is written, and `Rewriting` the expression that it means; `Files` is the whole: the aspects of
+//! a text, or its fault. `View` and `Seen` are what the program's values stand for.
+//!
+//! **Where to begin:** `parse_java`, below, and `reader.rt`.
+//!
+//! **What it keeps true:** what is read is what the definition reads, and each fault is its fault, by its code and place.
+#![tactic(auto)]
+
+ghost use Rattle.std.specs.Prelude.{◌≡◌, ◌⊎◌, List, [], map, IfOk, IfErr, MatchResult};
+ghost use Rattle.at_text.specs.Symbols.{PlacedToken, HasTokens, next_place};
+ghost use Rattle.at_text.specs.Rows.{left};
+ghost use Rattle.at_text.specs.Faults as scanning;
+ghost use Rattle.at_text.specs.declared.scan.ScanFault.{ScanFault};
+ghost use Rattle.at_text.specs.declared.place.Place.{Place};
+ghost use Rattle.at_text.specs.declared.fault.Failure.TheVariants.{For};
+ghost use Rattle.at_text.specs.declared.fault.Fault.TheVariants.{Refused, Memory};
+ghost use Rattle.at_jrag.specs.Syntax as syntax;
+ghost use Rattle.at_jrag.specs.View.{aspect_view};
+ghost use Rattle.at_java.specs.Read.{Read, got, Fails};
+ghost use Rattle.at_java.specs.Files.{aspects_in, uncut, IsUncutAt, IsFaultOf, Holds, IsFault};
+ghost use Rattle.at_java.specs.declared.JavaCode.TheVariants.{Syntax};
+
+pub mod laws;
+mod reader;
+mod rewriting;
+mod written;
+
+use at_jrag::Aspect;
+use at_text::cursor::Cursor;
+use at_text::fault::{Failure, Fault};
+use at_text::place::Place;
+use at_text::placed::place_all;
+use at_text::scan::{ScanFault, lexemes};
+use reader::{Breach, Reader};
+use std::alloc::Global;
+
+/// What is wrong with a text that holds no aspects as JastAdd has them.
+#[derive(Clone, Copy, PartialEq, Eq, Debug)]
+pub enum JavaCode {
+    /// No form goes on with this token, or more was needed at the end of the text; where the text can't be cut into tokens, that is
+    /// met here.
+    Syntax,
+    /// A form of JastAdd or of Java begins at this token that this profile leaves out.
+    LeftOut,
+    /// In the declaration that begins here forms nest deeper than 64, there are more parts of a kind than may stand in one form, or the
+    /// body means an expression of more than 4,096 forms; or a declaration or an aspect begins here that is one of more than 65,536.
+    Limit,
+    /// The end of a body, which is here, can be reached, so that it gives no value.
+    NoValue,
+}
+
+/// Why a text holds no aspects: its code and its place, or want of memory.
+pub type JavaFault = Fault<JavaCode>;
+
+/// The fault of a text that can't be cut into tokens.
+fn scan_fault(text: &str, fault: ScanFault) -> JavaFault
+    requires within { scanning.IsWithin text.now fault }
+    ensures { result ≡ uncut text.now fault }
+{
+    match fault {
+        ScanFault::Memory => Fault::Memory,
+        ScanFault::Bad { at } | ScanFault::OpenText { at } | ScanFault::OpenComment { at } => {
+            Fault::Refused {
+                code: JavaCode::Syntax,
+                at: Place::of(text, at),
+            }
+        }
+    }
+}
+
+/// The place of the token before which the cursor stands, or of the end of the text.
+fn place_next(text: &str, cursor: &Cursor<'_>) -> Place
+    ensures { result ≡ next_place text.now (left cursor.now.rest.now) }
+{
+    match cursor.peek() {
+        Some(token) => token.at,
+        None => Place::of(text, text.len()),
+    }
+}
+
+/// The fault of a text where its reader met this one.
+fn breached(text: &str, cursor: &Cursor<'_>, breach: Breach) -> JavaFault
+    ensures { (read : Read (List syntax.Aspect)) → Fails (For breach) (left cursor.now.rest.now) read → IsFaultOf text.now read result }
+{
+    match breach {
+        Breach::Here(code) => Fault::Refused {
+            code,
+            at: place_next(text, cursor),
+        },
+        Breach::At(code, at) => Fault::Refused { code, at },
+    }
+}
+
+/// The aspects that the text holds, in order.
+///
+/// # Errors
+///
+/// `Syntax` where the text can't be cut into tokens, which comes before all. Else what reading from the left meets first, where a
+/// body is rewritten once it is read: `Syntax` at the token with which no form goes on, or at the end of the text; `LeftOut` at the
+/// first word of a form that isn't read; `Limit` at the first token of the declaration whose parts are too many or nest too deep;
+/// `NoValue` at the closing brace of a body whose end can be reached. `Memory` for want of memory.
+pub fn parse_java(alloc: Global, text: &str) -> Result<Vec<Aspect>, JavaFault>
+    ensures found { IfOk result (λ v. Holds text.now (map aspect_view v.items)) }
+    // A text that can't be cut into tokens is refused where that is met, whatever stands before it.
+    ensures uncut { (fault : ScanFault) (at : Place) → IsUncutAt text.now at fault
+        → MatchResult result (λ v. ⊥) (λ e. (e ≡ Memory) ⊎ (e ≡ Refused Syntax at)) }
+    // What is answered for a text of tokens is what they spell, or the fault there, unless memory runs out.
+    ensures only { (tokens : List PlacedToken) → HasTokens text.now tokens
+        → MatchResult result (λ v. aspects_in tokens ≡ got (map aspect_view v.items) []) (IsFaultOf text.now (aspects_in tokens)) }
+    ensures fault { IfErr result (IsFault text.now) }
+{
+    let tokens = match lexemes(alloc, text) {
+        Ok(tokens) => tokens,
+        Err(fault) => return Err(scan_fault(text, fault)),
+    };
+    let tokens = place_all(alloc, text, &tokens)?;
+    let mut reader = Reader::new(alloc, &tokens);
+    match reader.file() {
+        Ok(aspects) => Ok(aspects),
+        Err(Failure::For(breach)) => Err(breached(text, &reader.cursor, breach)),
+        Err(Failure::Memory) => Err(Fault::Memory),
+    }
+}

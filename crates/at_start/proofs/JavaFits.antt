@@ -1,0 +1,292 @@
+-- What is read as users of JastAdd write it: each number in a body has 32 bits, and what is circular is boolean.
+use Rattle.std.proofs.Common.{◌≡◌, ◌+◌, ℕ, zero, suc, List, [], ◌∷◌, Bool, true, false, Option, None, Some, refl, sym, subst, true≢false}
+use Rattle.std.specs.Prelude.{IfSome}
+use Rattle.std.specs.List.{AllByRecursion}
+use Rattle.std.proofs.lemmas.Option.{none-some}
+use Rattle.std.proofs.lemmas.List.Concat.{flat_map-cons}
+use lib.Chars.{codes}
+use Rattle.at_model.proofs.Everywhere.{all_both, all_map, all_more}
+use Rattle.at_text.specs.declared.place.Place.{Place}
+use Rattle.at_text.specs.Rows.{Row}
+use Rattle.at_jrag.specs.Syntax as syntax
+use Rattle.at_jrag.specs.Syntax.{Expr, Kind, KindWord, Body, Ending, DeclForm, Decl, Aspect}
+use Rattle.at_jrag.specs.Heads.{is_getter}
+use Rattle.at_java.specs.Read.{Read, got, fails, here, at_place}
+use Rattle.at_java.specs.Tokens.{sign_here, name}
+use Rattle.at_java.specs.Next.{or_fails}
+use Rattle.at_java.specs.Items.{Closed, items_until}
+use Rattle.at_java.specs.Written.{Statement, statement, to_statements}
+use Rattle.at_java.specs.Kinds.{kind, params}
+use Rattle.at_java.specs.Expressions.{expression}
+use Rattle.at_java.specs.Statements as statements
+use Rattle.at_java.specs.Statements.{returned, condition, otherwise, conditional, element, loop, block}
+use Rattle.at_java.specs.Rewriting.{Meaning, Means, Open, Refused, rewritten}
+use Rattle.at_java.specs.Declarations.{Target, target, laziness, is_boolean, start, circular, Head, head, meant, block_body, body, ending, synthesized, inherited, own_equation, child_equation, equation, begins_method, method, declared, limited, first_declared, behind_modifiers, declaration}
+use Rattle.at_java.specs.Files.{named_aspect, aspect, aspects, imports, aspects_in, most_aspects, most_declarations}
+use Rattle.at_java.specs.declared.JavaCode.TheVariants.{Syntax, LeftOut, Limit, NoValue}
+use Rattle.at_typing.proofs.Literals.{AreInts, AreIntsIn}
+use Rattle.at_typing.specs.Declaring.{body_at, body_in}
+use Rattle.at_typing.specs.Located.{Located, from_aspect, from_file, located}
+use Rattle.at_typing.proofs.Starting.{IsBooleanForm, IsBooleanIn}
+use Rattle.at_start.specs.AspectFiles.{AllHold}
+use Rattle.at_start.specs.declared.language.Language.TheVariants.{JastAdd}
+use Rattle.at_start.proofs.JavaGiven.{Gives, gives_then, gives_behind, gives_either, gives_word, gives_sign}
+use Rattle.at_start.proofs.JavaNumbers.{expression_ints}
+use Rattle.at_start.proofs.JavaMeanings.{HasInts, HaveInts, MeansInts, rewritten_ints}
+
+-- ---- forms one behind the other
+
+module _ {A : Type 0} (P : A → Type 0) (one : Row → Read A) (each : (row : Row) → Gives P (one row)) where
+  items_each : (n : ℕ) (row : Row) → Gives (λ (c : Closed A). AllByRecursion P c.items) (items_until one n row)
+  unfolding items_until
+  items_each zero row = gives_sign (λ (c : Closed A). AllByRecursion P c.items) (codes "}") row _ _ (λ at rest. tt) tt
+  items_each (suc n) row =
+      gives_sign (λ (c : Closed A). AllByRecursion P c.items) (codes "}") row _ _ (λ at rest. tt)
+      (gives_then P (λ (c : Closed A). AllByRecursion P c.items) (one row) _ (each row) (λ a rest is.
+      gives_then (λ (c : Closed A). AllByRecursion P c.items) (λ (c : Closed A). AllByRecursion P c.items) (items_until one n rest) _
+      (items_each n rest) (λ c left all. (is, all))))
+
+-- ---- statements
+
+have_all : (ss : List Statement) → AllByRecursion HasInts ss → HaveInts (to_statements ss)
+have_all [] are = tt
+have_all (s ∷ ss) are = (are.0, have_all ss are.1)
+
+returned_ints : (at : Place) (row : Row) → Gives HasInts (returned at row)
+returned_ints at row =
+    gives_then AreInts HasInts (expression row) _ (expression_ints row) (λ e rest is.
+    gives_behind HasInts (sign_here (codes ";") rest) _ (λ end left. is))
+
+condition_ints : (row : Row) → Gives AreInts (condition row)
+condition_ints row =
+    gives_behind AreInts (sign_here (codes "(") row) _ (λ at inner.
+    gives_then AreInts AreInts (expression inner) _ (expression_ints inner) (λ e rest is.
+    gives_behind AreInts (sign_here (codes ")") rest) _ (λ close left. is)))
+
+module _ (part : Row → Read Statement) (each : (row : Row) → Gives HasInts (part row)) where
+  otherwise_ints : (at : Place) (c : Expr) (s : Statement) (row : Row) → AreInts c → HasInts s → Gives HasInts (otherwise part at c s row)
+  otherwise_ints at c s row test first =
+      gives_word HasInts (codes "else") row _ _ (λ behind rest.
+      gives_then HasInts HasInts (part rest) _ (each rest) (λ t left second. (test, first, second))) (test, first, tt)
+
+  conditional_ints : (at : Place) (row : Row) → Gives HasInts (conditional part at row)
+  conditional_ints at row =
+      gives_then AreInts HasInts (condition row) _ (condition_ints row) (λ c rest test.
+      gives_then HasInts HasInts (part rest) _ (each rest) (λ s behind first. otherwise_ints at c s behind test first))
+
+  loop_ints : (at : Place) (row : Row) → Gives HasInts (loop part at row)
+  loop_ints at row =
+      gives_behind HasInts (or_fails (at_place LeftOut at) (element row)) _ (λ v inner.
+      gives_then AreInts HasInts (expression inner) _ (expression_ints inner) (λ l rest list.
+      gives_behind HasInts (sign_here (codes ")") rest) _ (λ close behind.
+      gives_then HasInts HasInts (part behind) _ (each behind) (λ s left is. (list, is)))))
+
+abbrev AllInts : Closed Statement → Type 0
+AllInts c = AllByRecursion HasInts c.items
+
+statement_ints : (n : ℕ) (row : Row) → Gives HasInts (statements.statement n row)
+unfolding statements.statement
+statement_ints zero row = tt
+statement_ints (suc n) row =
+    gives_word HasInts (codes "return") row _ _ returned_ints
+    (gives_word HasInts (codes "if") row _ _ (conditional_ints (statements.statement n) (statement_ints n))
+    (gives_word HasInts (codes "for") row _ _ (loop_ints (statements.statement n) (statement_ints n))
+    (gives_sign HasInts (codes "{") row _ _ (λ at rest.
+    gives_then AllInts HasInts (block (statements.statement n) rest) _
+    (items_each HasInts (statements.statement n) (statement_ints n) statements.most_statements rest) (λ b left are. have_all b.items are))
+    (gives_sign HasInts (codes ";") row _ _ (λ at rest. tt) tt))))
+
+-- ---- bodies
+
+abbrev BodyInts : Body → Type 0
+BodyInts b = AreInts b.expr
+
+meant_ints : (at : Place) (m : Meaning) (end : Place) (rest : Row) → MeansInts m → Gives BodyInts (meant at m end rest)
+meant_ints at (Means e) end rest is = is
+meant_ints at Open end rest is = tt
+meant_ints at (Refused code there) end rest is = tt
+
+block_ints : (at : Place) (row : Row) → Gives BodyInts (block_body at row)
+block_ints at row =
+    gives_then AllInts BodyInts (block (statements.statement statements.max_nesting) row) _
+    (items_each HasInts (statements.statement statements.max_nesting) (statement_ints statements.max_nesting) statements.most_statements row)
+    (λ b rest are. meant_ints at (rewritten b.end (to_statements b.items)) b.end rest (rewritten_ints b.end (to_statements b.items) (have_all b.items are)))
+
+body_ints : (row : Row) → Gives BodyInts (body row)
+body_ints row =
+    gives_sign BodyInts (codes "=") row _ _ (λ at inner.
+    gives_then AreInts BodyInts (expression inner) _ (expression_ints inner) (λ e rest is.
+    gives_behind BodyInts (sign_here (codes ";") rest) _ (λ end left. is)))
+    (gives_behind BodyInts (sign_here (codes "{") row) _ block_ints)
+
+abbrev EndingInts : Ending → Type 0
+EndingInts e = IfSome (body_at e) BodyInts
+
+ending_ints : (row : Row) → Gives EndingInts (ending row)
+ending_ints row =
+    gives_sign EndingInts (codes ";") row _ _ (λ at rest. tt)
+    (gives_then BodyInts EndingInts (body row) _ (body_ints row) (λ b left is. is))
+
+-- ---- heads
+
+boolean_kind : (k : Kind) → is_boolean k ≡ true → k ≡ syntax.Bool'
+boolean_kind syntax.Int is = absurd (true≢false (sym is))
+boolean_kind syntax.Bool' is = refl
+boolean_kind syntax.Text is = absurd (true≢false (sym is))
+boolean_kind (syntax.Class text) is = absurd (true≢false (sym is))
+
+-- with a start it is boolean
+abbrev StartFits : Kind → Option Bool → Type 0
+StartFits k start = (b : Bool) → start ≡ Some b → k ≡ syntax.Bool'
+
+circular_fits : (k : Kind) (row : Row) → Gives (StartFits k) (circular k row)
+circular_fits k row =
+    gives_word (StartFits k) (codes "circular") row _ _ (λ at rest.
+    gives_either (StartFits k) (is_boolean k) _ _ (λ is.
+    gives_behind (StartFits k) (or_fails (at_place LeftOut at) (start rest)) _ (λ b left. λ c same. boolean_kind k is)) tt)
+    (λ b none. absurd (none-some b none))
+
+abbrev HeadFits : Head → Type 0
+HeadFits h = StartFits h.kind.kind h.start
+
+head_fits : (row : Row) → Gives HeadFits (head row)
+head_fits row =
+    gives_behind HeadFits (laziness None row) _ (λ lazy rest.
+    gives_behind HeadFits (kind rest) _ (λ k named.
+    gives_behind HeadFits (target named) _ (λ t behind.
+    gives_then (StartFits k.kind) HeadFits (circular k.kind behind) _ (circular_fits k.kind behind) (λ s left fits. fits))))
+
+-- ---- declarations
+
+abbrev Fits : DeclForm → Type 0
+Fits form = IfSome (body_in form) BodyInts × IsBooleanForm form
+
+abbrev DeclFits : Decl → Type 0
+DeclFits d = Fits d.form
+
+-- a kind with a start that fits is boolean
+is_boolean_form : (word : KindWord) (start : Option Bool) → StartFits word.kind start → (k : KindWord) (b : Bool) → Some word ≡ Some k
+    → start ≡ Some b → k.kind ≡ syntax.Bool'
+is_boolean_form word start fits k b same at =
+    let e : word ≡ k = cc in
+    subst (λ (w : KindWord). w.kind ≡ syntax.Bool') e (fits b at)
+
+no_kind : (start : Option Bool) (k : KindWord) (b : Bool) → None ≡ Some k → start ≡ Some b → k.kind ≡ syntax.Bool'
+no_kind start k b same at = absurd (none-some k same)
+
+synthesized_fits : (at : Place) (row : Row) → Gives DeclFits (synthesized at row)
+synthesized_fits at row =
+    gives_then HeadFits DeclFits (head row) _ (head_fits row) (λ h rest fits.
+    gives_then EndingInts DeclFits (ending rest) _ (ending_ints rest) (λ e left is. (is, is_boolean_form h.kind h.start fits)))
+
+inherited_fits : (at : Place) (row : Row) → Gives DeclFits (inherited at row)
+inherited_fits at row =
+    gives_then HeadFits DeclFits (head row) _ (head_fits row) (λ h rest fits.
+    gives_behind DeclFits (sign_here (codes ";") rest) _ (λ end left. (tt, is_boolean_form h.kind h.start fits)))
+
+own_fits : (at : Place) (t : Target) (row : Row) → Gives DeclFits (own_equation at t row)
+own_fits at t row = gives_then BodyInts DeclFits (body row) _ (body_ints row) (λ b left is. (is, no_kind None))
+
+child_fits : (at : Place) (t : Target) (row : Row) → Gives DeclFits (child_equation at t row)
+child_fits at t row =
+    gives_behind DeclFits (name row) _ (λ w opens.
+    gives_behind DeclFits (params w.text opens) _ (λ ps rest.
+    gives_then BodyInts DeclFits (body rest) _ (body_ints rest) (λ b left is. (is, no_kind None))))
+
+equation_fits : (at : Place) (row : Row) → Gives DeclFits (equation at row)
+equation_fits at row =
+    gives_behind DeclFits (target row) _ (λ t rest.
+    gives_either DeclFits (is_getter t.params.items) _ _
+    (λ _. gives_sign DeclFits (codes ".") rest _ _ (λ dot behind. child_fits at t behind) (own_fits at t rest)) (own_fits at t rest))
+
+method_fits : (row : Row) → Gives DeclFits (method row)
+method_fits row =
+    gives_behind DeclFits (kind row) _ (λ k rest.
+    gives_behind DeclFits (target rest) _ (λ t behind.
+    gives_behind DeclFits (sign_here (codes "{") behind) _ (λ at inner.
+    gives_then BodyInts DeclFits (block_body at inner) _ (block_ints at inner)
+    (λ b left is. (is, is_boolean_form k None (λ c none. absurd (none-some c none)))))))
+
+declared_fits : (row : Row) → Gives DeclFits (declared row)
+declared_fits row =
+    gives_word DeclFits (codes "syn") row _ _ synthesized_fits
+    (gives_word DeclFits (codes "inh") row _ _ inherited_fits
+    (gives_word DeclFits (codes "eq") row _ _ equation_fits
+    (gives_either DeclFits (begins_method row) _ _ (λ _. method_fits row) tt)))
+
+limited_fits : {A : Type 0} (P : A → Type 0) (at : Place) (read : Read A) → Gives P read → Gives P (limited at read)
+limited_fits P at (got a rest) is = is
+limited_fits P at (fails (here Syntax row)) is = tt
+limited_fits P at (fails (here LeftOut row)) is = tt
+limited_fits P at (fails (here Limit row)) is = tt
+limited_fits P at (fails (here NoValue row)) is = tt
+limited_fits P at (fails (at_place Syntax there)) is = tt
+limited_fits P at (fails (at_place LeftOut there)) is = tt
+limited_fits P at (fails (at_place Limit there)) is = tt
+limited_fits P at (fails (at_place NoValue there)) is = tt
+
+first_fits : (row : Row) → Gives DeclFits (first_declared row)
+first_fits [] = tt
+first_fits (t ∷ ts) = limited_fits DeclFits t.at (declared (t ∷ ts)) (declared_fits (t ∷ ts))
+
+declaration_fits : (row : Row) → Gives DeclFits (declaration row)
+unfolding declaration
+declaration_fits row = first_fits (behind_modifiers row)
+
+-- ---- aspects
+
+abbrev AspectFits : Aspect → Type 0
+AspectFits a = AllByRecursion DeclFits a.decls
+
+abbrev AllFit : List Aspect → Type 0
+AllFit = AllByRecursion AspectFits
+
+named_fits : (row : Row) → Gives AspectFits (named_aspect row)
+named_fits row =
+    gives_behind AspectFits (name row) _ (λ w rest.
+    gives_behind AspectFits (sign_here (codes "{") rest) _ (λ at inner.
+    gives_then (λ (c : Closed Decl). AllByRecursion DeclFits c.items) AspectFits (items_until declaration most_declarations inner) _
+    (items_each DeclFits declaration declaration_fits most_declarations inner) (λ ds left are. are)))
+
+aspects_fit : (n : ℕ) (row : Row) → Gives AllFit (aspects n row)
+unfolding aspects
+aspects_fit n [] = tt
+aspects_fit zero (t ∷ ts) = tt
+aspects_fit (suc n) (t ∷ ts) =
+    gives_then AspectFits AllFit (aspect (t ∷ ts)) _
+    (gives_word AspectFits (codes "aspect") (t ∷ ts) _ _ (λ at rest. named_fits rest) tt) (λ a rest is.
+    gives_then AllFit AllFit (aspects n rest) _ (aspects_fit n rest) (λ more left all. (is, all)))
+
+read_fits : (row : Row) (as' : List Aspect) (rest : Row) → aspects_in row ≡ got as' rest → AllFit as'
+read_fits row as' rest read =
+    subst (Gives AllFit) read (gives_behind AllFit (imports false row) _ (λ u left. aspects_fit most_aspects left))
+
+-- ---- files
+
+abbrev LocatedFits : Located → Type 0
+LocatedFits d = Fits d.decl.form
+
+file_fits : (file : ℕ) (as' : List Aspect) → AllFit as' → AllByRecursion LocatedFits (from_file file as')
+file_fits file [] fit = tt
+file_fits file (a ∷ as') fit =
+    subst (AllByRecursion LocatedFits) (sym (flat_map-cons (from_aspect file) a as'))
+    (all_both LocatedFits (from_aspect file a) (from_file file as') (all_map LocatedFits _ a.decls fit.0) (file_fits file as' fit.1))
+
+hold_fits : (n : ℕ) (files : List (List ℕ)) (aspects : List (List Aspect)) → AllHold JastAdd files aspects
+    → AllByRecursion LocatedFits (located n aspects)
+hold_fits n [] [] hold = tt
+hold_fits n [] (a ∷ as') hold = absurd hold
+hold_fits n (f ∷ fs) [] hold = absurd hold
+hold_fits n (f ∷ fs) (a ∷ as') hold =
+    all_both LocatedFits (from_file n a) (located (n + 1) as')
+    (file_fits n a (read_fits hold.0.written.tokens a [] hold.0.written.is)) (hold_fits (n + 1) fs as' hold.1)
+
+pub hold_ints : (n : ℕ) (files : List (List ℕ)) (aspects : List (List Aspect)) → AllHold JastAdd files aspects
+    → AllByRecursion AreIntsIn (located n aspects)
+hold_ints n files aspects hold =
+    all_more LocatedFits AreIntsIn (located n aspects) (λ d fits. fits.0) (hold_fits n files aspects hold)
+
+pub hold_booleans : (n : ℕ) (files : List (List ℕ)) (aspects : List (List Aspect)) → AllHold JastAdd files aspects
+    → AllByRecursion IsBooleanIn (located n aspects)
+hold_booleans n files aspects hold =
+    all_more LocatedFits IsBooleanIn (located n aspects) (λ d fits. fits.1) (hold_fits n files aspects hold)
