@@ -12,18 +12,21 @@ import re
 import shutil
 import subprocess
 import sys
+import tempfile
 import time
 from concurrent.futures import Future, ThreadPoolExecutor
 from dataclasses import dataclass
 from functools import partial
 from pathlib import Path
-from typing import Callable, List, Sequence, Tuple
+from typing import Callable, Dict, List, Sequence, Tuple
 
 from tools import quick_program
 from tools.sources import ROOT
 
 # Many of the tests wait for others, so more go on at once than there are processors.
 LANES = 3
+# The parts that take longest, by processor time; one that begins last would have a processor wait.
+LONGEST = ("client lsp", "client hub", "the program")
 # Fewer kills of the hub than the gate tries.
 FEW_KILLS = (("ATTRD_HUB_POINTS", "45"),)
 COUNTED = re.compile(r"^(\d+) passed, (\d+) failed$", re.M)
@@ -80,10 +83,18 @@ def outcome_of(name: str, status: int, printed: str, seconds: float) -> Outcome:
     return Outcome(name, passed, max(failed, int(status != 0)), printed, seconds)
 
 
-def run(part: Part) -> Outcome:
-    """Runs a part to its end."""
+def environment_of(part: Part, bytecode: Path) -> Dict[str, str]:
+    """The environment of a part. Its tests start Python hundreds of times, so what it compiles is kept in this folder, whatever the
+    environment of this process says of that."""
+    given = {**os.environ, "PYTHONPYCACHEPREFIX": str(bytecode), **dict(part.environment)}
+    given.pop("PYTHONDONTWRITEBYTECODE", None)
+    return given
+
+
+def run(part: Part, bytecode: Path) -> Outcome:
+    """Runs a part to its end; what Python compiles for it is kept in the folder."""
     began = time.monotonic()
-    ran = subprocess.run(part.command, cwd=ROOT, env={**os.environ, **dict(part.environment)}, stdin=subprocess.DEVNULL,
+    ran = subprocess.run(part.command, cwd=ROOT, env=environment_of(part, bytecode), stdin=subprocess.DEVNULL,
                          stdout=subprocess.PIPE, stderr=subprocess.STDOUT, text=True, errors="replace")
     return outcome_of(part.name, ran.returncode, ran.stdout, time.monotonic() - began)
 
@@ -102,7 +113,8 @@ def of_the_program(program: Path, pages: Sequence[str]) -> List[Part]:
     """The parts that run a program, the longest first."""
     tests = [Part(f"client {it}", python("clients/run_tests.py", "--skip-missing", str(program), it), FEW_KILLS) for it in clients()]
     examples = Part("examples of pages", python("tools/examples.py", "--program", str(program), *pages))
-    return [*tests, examples, Part("the program", python("tools/program.py", str(program)))]
+    parts = [*tests, examples, Part("the program", python("tools/program.py", str(program)))]
+    return sorted(parts, key=lambda it: LONGEST.index(it.name) if it.name in LONGEST else len(LONGEST))
 
 
 def of_the_sources() -> List[Part]:
@@ -135,7 +147,7 @@ def build() -> Outcome:
     return Outcome(name, 1, 0, "", time.monotonic() - began)
 
 
-def tested(pages: Sequence[str]) -> List[Outcome]:
+def tested(pages: Sequence[str], bytecode: Path) -> List[Outcome]:
     """Runs all parts, and tells each as it ends. Where the program can't be built those that run it are left out."""
     with ThreadPoolExecutor(LANES) as pool:
         def begin(work: Callable[[], Outcome]) -> "Future[Outcome]":
@@ -144,9 +156,9 @@ def tested(pages: Sequence[str]) -> List[Outcome]:
             return future
 
         built = begin(build)
-        begun = [begin(partial(run, part)) for part in of_the_sources()]
+        begun = [begin(partial(run, part, bytecode)) for part in of_the_sources()]
         if built.result().failed == 0:
-            begun += [begin(partial(run, part)) for part in of_the_program(quick_program.PROGRAM, pages)]
+            begun += [begin(partial(run, part, bytecode)) for part in of_the_program(quick_program.PROGRAM, pages)]
         else:
             print("not tried: what runs the program")
     return [built.result(), *(it.result() for it in begun)]
@@ -156,7 +168,13 @@ def main() -> int:
     if len(sys.argv) < 2:
         sys.exit(__doc__)
     began = time.monotonic()
-    outcomes = tested(sys.argv[1:])
+    quick_program.FOLDER.mkdir(exist_ok=True)
+    bytecode = Path(tempfile.mkdtemp(prefix="bytecode-", dir=quick_program.FOLDER))
+    try:
+        outcomes = tested(sys.argv[1:], bytecode)
+    finally:
+        # a process that a test has left may still write there
+        shutil.rmtree(bytecode, ignore_errors=True)
     passed, failed = sum(it.passed for it in outcomes), sum(it.failed for it in outcomes)
     print(f"In {time.monotonic() - began:.0f} s. Nothing was proved: make check C=.. proves a crate, and make test everything.")
     print(f"{passed} passed, {failed} failed")

@@ -16,6 +16,8 @@ FOLDER = sources.ROOT / ".quick"
 PROGRAM = FOLDER / "attrd"
 KEY = FOLDER / "key"
 BUILDER = "bench/unproved.py"
+# What says how it is built.
+BUILT_BY = (BUILDER, "tools/quick_program.py", "tools/sources.py")
 
 
 class NotBuilt(Exception):
@@ -24,7 +26,7 @@ class NotBuilt(Exception):
 
 def key() -> str:
     """What the quick program is made of, as one line: the checksum of its sources and of what builds it, and the kit."""
-    return f"{sources.checksum('attrd', sources.CODE, (BUILDER,))} {sources.kit()}"
+    return f"{sources.checksum('attrd', sources.CODE, BUILT_BY)} {sources.kit()}"
 
 
 def is_current() -> bool:

@@ -1,7 +1,13 @@
-"""How the parts of the quick tests are counted."""
+"""How the parts of the quick tests are counted, and in which environment they run."""
+import os
+import subprocess
+import sys
+import tempfile
 import unittest
+from pathlib import Path
+from unittest import mock
 
-from tools.quick import outcome_of
+from tools.quick import Part, environment_of, outcome_of
 
 
 class Counting(unittest.TestCase):
@@ -25,3 +31,23 @@ class Counting(unittest.TestCase):
 
     def test_a_status_that_is_not_0_is_a_failure_whatever_was_counted(self) -> None:
         self.assert_counted(1, "5 passed, 0 failed\n", 5, 1)
+
+
+class Environment(unittest.TestCase):
+    """What the environment of a part says of the code that Python compiles."""
+
+    def test_what_python_compiles_is_kept_in_the_folder_and_nowhere_else(self) -> None:
+        with tempfile.TemporaryDirectory() as name:
+            folder, bytecode = Path(name, "code"), Path(name, "bytecode")
+            folder.mkdir()
+            (folder / "compiled.py").write_text("pass\n", encoding="utf-8")
+            with mock.patch.dict(os.environ, {"PYTHONDONTWRITEBYTECODE": "1"}):
+                given = environment_of(Part("a part", (), (("PYTHONPATH", str(folder)),)), bytecode)
+            subprocess.run([sys.executable, "-c", "import compiled"], env=given, check=True)
+            self.assertEqual([it.name for it in folder.iterdir()], ["compiled.py"])
+            self.assertEqual(len(list(bytecode.rglob("compiled.*.pyc"))), 1)
+
+    def test_what_a_part_is_given_stands_in_it(self) -> None:
+        given = environment_of(Part("a part", (), (("ATTRD_HUB_POINTS", "45"),)), Path("bytecode"))
+        self.assertEqual(given["ATTRD_HUB_POINTS"], "45")
+        self.assertEqual(given["PATH"], os.environ["PATH"])
