@@ -9,6 +9,7 @@ use Rattle.at_cache.specs.Kept.{Entries}
 use Rattle.at_cache.specs.Traced.{Memories}
 use Rattle.at_engine.specs.Engines.{most_of, rules_of, slice_of, state_of}
 use Rattle.at_engine.specs.Keeping.{IsSpare, IsSpareWith, work_of}
+use Rattle.at_engine.specs.Making.{made_of}
 use Rattle.at_engine.specs.Running.{Ran, RunsFor, max_reads}
 use Rattle.at_engine.specs.Taking.{wants}
 use Rattle.at_engine.specs.declared.engine.Engine.{Engine}
@@ -97,17 +98,18 @@ pub runs_by : {K R W : Type 0} (entries : K → Entries) (memories : K → Memor
     (failure : W → Option Bool) (waiting : W → Bool) (files : Files) (slice : ℕ) (most : Option ℕ) (gathers : Bool) (made set : Engine K)
     (reader left : R) (writer later : W)
     (answered : Answered K) → IsSet made set → slice_of set ≡ slice → most_of set ≡ most → Starts files (rules_of made) (state_of made)
-    → IsSpare entries made → work_of made ≡ 0
+    → IsSpare entries made → work_of made ≡ 0 → made_of made ≡ 0
     → RunsFor entries memories remaining misread ending count contents failure waiting max_reads gathers set
     answered.engine reader left writer later answered.run
     → RunsFiles entries memories remaining misread ending count contents failure waiting files slice most gathers
     reader left writer later answered
 runs_by {K} entries memories remaining misread ending count contents failure waiting files slice most gathers made set
-    reader left writer later answered is turns bound starts spare idle runs = record {
+    reader left writer later answered is turns bound starts spare idle fresh runs = record {
       made = set;
       starts = subst (λ (e : Engine K). Starts files (rules_of e) (state_of e)) (sym is) starts;
       spare = λ none. spare_set entries made set is (bound ∙ none) spare;
       idle = ap work_of is ∙ idle;
+      fresh = ap made_of is ∙ fresh;
       turns = turns;
       bound = bound;
       runs = runs;

@@ -9,6 +9,7 @@ use Rattle.at_model.specs.Machine.{State, Outputs, text_of}
 use Rattle.at_cache.specs.Kept.{Entries}
 use Rattle.at_engine.specs.Engines.{most_of, rules_of, slice_of, state_of}
 use Rattle.at_engine.specs.Keeping.{IsSpare, work_of}
+use Rattle.at_engine.specs.Making.{made_of}
 use Rattle.at_engine.specs.Running.{Ran, RunsFor, max_reads}
 use Rattle.at_engine.specs.declared.engine.Engine.{Engine}
 use Rattle.at_engine.specs.declared.stream.desk.Report.{Report}
@@ -41,6 +42,7 @@ pub record RunsFiles {K R W : Type 0} (entries : K → Entries) (memories : K �
   pub starts : Starts files (rules_of made) (state_of made)
   pub spare : most ≡ None → IsSpare entries made
   pub idle : work_of made ≡ 0
+  pub fresh : made_of made ≡ 0
   pub turns : slice_of made ≡ slice
   pub bound : most_of made ≡ most
   pub runs : RunsFor entries memories remaining misread ending count contents failure waiting max_reads gathers made

@@ -16,6 +16,7 @@ ghost use Rattle.std.specs.Prelude.{◌≡◌, IfOk, IfErr};
 ghost use Rattle.at_cache.specs.Keeping.{recorded_by};
 ghost use Rattle.at_engine.specs.Engines.{rules_of, slice_of, state_of, IsSound, KeepsNothing};
 ghost use Rattle.at_engine.specs.Keeping.{IsSpare, work_of};
+ghost use Rattle.at_engine.specs.Making.{made_of};
 ghost use Rattle.at_start.specs.Starts.{AreSameButTree, Starts, IsReady, IsStartFault};
 
 mod aspects;
@@ -56,6 +57,7 @@ pub fn start(alloc: Global, files: &mut Files) -> Result<Engine<KeepRecorded>, S
     ensures ready { IfOk result IsReady }
     ensures spare { IfOk result (IsSpare recorded_by) }
     ensures work { IfOk result (λ e. work_of e ≡ 0) }
+    ensures made { IfOk result (λ e. made_of e ≡ 0) }
     ensures slice { IfOk result (λ e. slice_of e ≡ 1) }
     ensures refused { IfErr result (IsStartFault files.old) }
     ensures rest { AreSameButTree files.old files.new }
@@ -78,6 +80,7 @@ pub fn start_with<K: Keeper>(
     ensures ready { IfOk result (IsSound K.contents K.memories) }
     ensures spare { IfOk result (IsSpare K.contents) }
     ensures work { IfOk result (λ e. work_of e ≡ 0) }
+    ensures made { IfOk result (λ e. made_of e ≡ 0) }
     ensures slice { IfOk result (λ e. slice_of e ≡ 1) }
     ensures refused { IfErr result (IsStartFault files.old) }
     ensures rest { AreSameButTree files.old files.new }

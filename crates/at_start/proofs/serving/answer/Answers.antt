@@ -28,7 +28,7 @@ returns-clause-runs g c =
     c.args.writer.now c.run_gathering-run.new.writer (record { run = c.run_gathering-run.result; engine = c.run_gathering-run.new.engine })
     (set_again made c.set_slice.new.self set c.set_slice.ensures.rest c.set_most.ensures.rest)
     (c.set_most.ensures.slice ∙ c.set_slice.ensures.slice) c.set_most.ensures.most
-    c.in_ok-engine.ensures.started c.in_ok-engine.ensures.spare c.in_ok-engine.ensures.work
+    c.in_ok-engine.ensures.started c.in_ok-engine.ensures.spare c.in_ok-engine.ensures.work c.in_ok-engine.ensures.made
     c.run_gathering-run.ensures
 
 pub returns-in_err-engine-clause-answers : goal.returns-in_err-engine-clause-answers
