@@ -17,22 +17,25 @@ use Rattle.at_cache.specs.Kept.{Entries}
 use Rattle.at_demand.specs.declared.evaluation.Demanded.{Demanded}
 use Rattle.at_demand.specs.declared.evaluation.Find.{Find}
 use Rattle.at_demand.specs.declared.evaluation.Frame.{Frame}
-use Rattle.at_demand.specs.Known.{meaning, kept_values, known_in, ArePlain, AreValued, IsKept, MayAdd}
-use Rattle.at_demand.specs.Meant.{AreRightValues}
-use Rattle.at_demand.specs.Right.{AreRight, AreThere, IsThere, IsValued}
+use Rattle.at_evaluate.specs.Valued.{meaning, kept_values, ArePlain, AreValued, IsKept}
+use Rattle.at_demand.specs.Known.{known_in, MayAdd, AreThere}
+use Rattle.at_evaluate.specs.Meant.{AreRightValues}
+use Rattle.at_evaluate.specs.Right.{AreRight, IsThere, IsValued, AreCovered}
 use Rattle.at_demand.specs.UnderWay.{HasStepped, IsOpen}
 use Rattle.at_rules.specs.Circular.{AreCircularLazy}
-use Rattle.at_demand.specs.Covering.{AreCovered, AreWhole, AreWholeIn, HasPassedTo, IsWhole, alone, by_first, in_group}
+use Rattle.at_demand.specs.Covering.{AreWhole, AreWholeIn, HasPassedTo, IsWhole, alone, by_first, in_group}
 use Rattle.at_demand.specs.Only.{TakesOnly}
 use Rattle.std.specs.Prelude.{IsSome}
-use Rattle.at_demand.specs.Sparing.{AddsWorthy, AreOnly, AreSettled, AreSpare, MayGain}
+use Rattle.at_evaluate.specs.Sparing.{AddsWorthy, AreOnly, AreSpare}
+use Rattle.at_demand.specs.Worth.{AreSettled, MayGain}
 use Rattle.at_demand.specs.Attempts.{HasFound, HasNeeded}
 use Rattle.at_demand.proofs.of_levels.Plain.{has_fault, has_value}
 use Rattle.at_demand.proofs.Passing.{whole}
 use Rattle.at_demand.proofs.OnlyLemmas.{lean, needs_reaches}
 use Rattle.at_demand.proofs.Orderly.{neither}
-use Rattle.at_demand.proofs.Entered.{entered}
-use Rattle.at_demand.proofs.Gaining.{came, is_kept, worthy_none, worthy_more, lazy_more, deep_more, settled_push}
+use Rattle.at_evaluate.proofs.Entered.{entered}
+use Rattle.at_demand.proofs.Gaining.{came, is_kept, worthy_more, lazy_more, deep_more, settled_push}
+use Rattle.at_evaluate.proofs.of_nesting.InnerGains.{worthy_none}
 
 module _ (rules : Rules) (look : Contents ℕ) (entries : Entries) (found : List (Instance ℕ × Find)) (i : Instance ℕ) where
   valued : (t : Trial) (v : ValueCode) → start_of rules i.attribute ≡ None → HasStepped rules look i t (step.Value v) → HasValue look (meaning rules) i (value_view v)

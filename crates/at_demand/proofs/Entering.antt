@@ -7,13 +7,14 @@ use Rattle.at_store.specs.Located.{loc_view}
 use Rattle.at_body.specs.Same.{same_instance}
 use Rattle.at_cache.specs.Kept.{Kept, Entries, KeepsAll, Puts, value_at}
 use Rattle.at_demand.specs.declared.gathering.Sources.{Sources}
-use Rattle.at_demand.specs.Known.{kept_values, ArePlain, FoundAs, FoundKept, IsFound, KeepsEntries}
+use Rattle.at_evaluate.specs.Valued.{kept_values, ArePlain, KeepsEntries}
+use Rattle.at_demand.specs.Known.{FoundAs, FoundKept, IsFound}
 use Rattle.at_demand.specs.declared.evaluation.Find.{Find}
 use Rattle.at_demand.specs.Keeping.{HasGathered, Shares}
-use Rattle.at_demand.proofs.Entered.{entered_on, put_stays, valued_on}
+use Rattle.at_evaluate.proofs.Entered.{entered_on, put_stays, valued_on}
 use Rattle.at_demand.proofs.Gathered.{put_covers}
 use Rattle.at_demand.proofs.OnlyLemmas.{put_only}
-use Rattle.at_demand.proofs.Sameness.{same_true}
+use Rattle.at_evaluate.proofs.Sameness.{same_true}
 
 -- what was found took what is kept still
 pub founds_on : (old new : Entries) → KeepsEntries old new → (found : List (Instance ℕ × Find)) → FoundKept old found → FoundKept new found

@@ -1,9 +1,7 @@
 -- Lists that grow at their end, and what stands in them.
-use Rattle.std.proofs.Common.{◌≡◌, ℕ, zero, suc, ◌<◌, Bool, true, List, [], ◌∷◌, ◌++◌, length, map, slice_get, Some, inl, inr, refl, sym, ap, ◌∙◌, subst, append_assoc, append-nil, arith}
-use Rattle.std.specs.List.{list_any}
+use Rattle.std.proofs.Common.{◌≡◌, ℕ, zero, suc, ◌<◌, List, [], ◌∷◌, ◌++◌, length, map, slice_get, Some, inl, inr, refl, sym, ap, ◌∙◌, subst, append_assoc, append-nil, arith}
 use Rattle.at_model.specs.Meaning.{Among}
 use Rattle.at_model.proofs.Listed.{among_left}
-use Rattle.at_model.proofs.Options.{or_right}
 use Rattle.at_cache.proofs.Lists.{get_left}
 use Rattle.at_demand.specs.Covering.{Extends}
 
@@ -32,11 +30,6 @@ module _ {A : Type 0} where
   among_at a [] h = absurd h
   among_at a (x ∷ xs) (inl e) = (0, omega arith, ap Some (sym e))
   among_at a (x ∷ xs) (inr h) = let (n, less, g) = among_at a xs h in (suc n, omega arith, g)
-
-  pub any_among : (p : A → Bool) (a : A) (xs : List A) → Among a xs → p a ≡ true → list_any p xs ≡ true
-  any_among p a [] h e = absurd h
-  any_among p a (x ∷ xs) (inl same) e = rw (ap p (sym same) ∙ e) refl
-  any_among p a (x ∷ xs) (inr h) e = or_right (p x) (list_any p xs) (any_among p a xs h e)
 
 pub map_among : {A B : Type 0} (f : A → B) (b : B) (xs : List A) → Among b (map f xs) → (a : A) × Among a xs × (f a ≡ b)
 map_among f b [] h = absurd h

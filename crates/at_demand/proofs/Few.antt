@@ -21,7 +21,7 @@ use Rattle.at_store.specs.Memory.{class_in}
 use Rattle.at_store.specs.View.{memory_of}
 use Rattle.at_store.proofs.Found.{path_injective}
 use Rattle.at_store.proofs.Relabelled.{contents_alike}
-use Rattle.at_demand.specs.Known.{equations as meaning}
+use Rattle.at_evaluate.specs.Valued.{equations as meaning}
 
 like_back : {A B : Type 0} {R : A → B → Type 0} → Agrees R → {as' : List A} {bs : List B} → ListLike R as' bs → (a : A) (b : B) → R a b → Among b bs → Among a as'
 like_back f end a b r h = absurd h

@@ -27,10 +27,10 @@ use Rattle.at_demand.specs.declared.trying.Going.{Going}
 use Rattle.at_demand.specs.declared.trying.Going.TheVariants as going
 use Rattle.at_demand.specs.Forming.{HasBegunTrying, waits_for}
 use Rattle.at_demand.specs.KeptTrials.{AllWait, AreTrials, Fit, FitAt, HasDropped, HasEndedLast, HasNoLast, HasTaken, IsNotedRight, frames_of, next_of, owners_of}
-use Rattle.at_demand.specs.Known.{AreValued, KeepsEntries, meaning}
+use Rattle.at_evaluate.specs.Valued.{AreValued, KeepsEntries, meaning}
 use Rattle.at_demand.specs.Levels.{LevelCode, root_in}
 use Rattle.at_demand.specs.UnderWay.{left_of}
-use Rattle.at_demand.proofs.Entered.{valued_on}
+use Rattle.at_evaluate.proofs.Entered.{valued_on}
 use Rattle.at_demand.proofs.OnlyLemmas.{takes_more, takes_none}
 use Rattle.at_demand.proofs.Passing.{demanded_more, passed_more, past_more}
 

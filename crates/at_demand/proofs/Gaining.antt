@@ -1,5 +1,5 @@
 -- What a question adds: each lazy instance that has a value and to which the question leads, and no other.
-use Rattle.std.proofs.Common.{◌≡◌, ◌⊎◌, ℕ, Bool, true, false, true≢false, List, [], ◌∷◌, ◌++◌, slice_get, Option, Some, None, inl, inr, refl, sym, ap, ◌∙◌, subst}
+use Rattle.std.proofs.Common.{◌≡◌, ◌⊎◌, ℕ, Bool, true, false, true≢false, List, [], ◌∷◌, ◌++◌, slice_get, Option, Some, None, inl, inr, refl, sym, ◌∙◌, subst}
 use Rattle.std.specs.Prelude.{IsSome}
 use Rattle.at_model.specs.Run.{Instance, Contents}
 use Rattle.at_model.specs.Rules.{Rules, is_lazy, start_of}
@@ -9,15 +9,13 @@ use Rattle.at_rules.specs.Circular.{AreCircularLazy}
 use Rattle.at_cache.specs.Kept.{Kept, Entries}
 use Rattle.at_cache.proofs.Lists.{get_push, get_contains}
 use Rattle.at_demand.specs.declared.evaluation.Find.{Find}
-use Rattle.at_demand.specs.Known.{meaning, kept_values, AreValued, IsFound, IsKept}
+use Rattle.at_evaluate.specs.Valued.{meaning, AreValued, IsKept}
+use Rattle.at_demand.specs.Known.{IsFound}
 use Rattle.at_demand.specs.Covering.{AreWhole, AreWholeIn, IsWhole, alone, by_first, in_group}
-use Rattle.at_demand.specs.Sparing.{IsDeep, IsWorthy, AddsWorthy, HasWorthy, MayGain, IsSettled, AreSettled}
-use Rattle.at_demand.proofs.Entered.{entered, entered_on, kept_on, not_none}
+use Rattle.at_evaluate.specs.Sparing.{IsDeep, IsWorthy, AddsWorthy, HasWorthy}
+use Rattle.at_demand.specs.Worth.{MayGain, IsSettled, AreSettled}
+use Rattle.at_evaluate.proofs.Entered.{entered, entered_on, kept_on}
 use Rattle.at_demand.proofs.Extending.{among_at}
-
--- what the rules say of the instance's attribute
-pub told_lazy : (rules : Rules) (said is : Bool) (attribute at : ℕ) → said ≡ is_lazy rules attribute → attribute ≡ at → said ≡ is → is_lazy rules at ≡ is
-told_lazy rules said is attribute at e same h = ap (is_lazy rules) (sym same) ∙ sym e ∙ h
 
 -- an instance whose value is kept, by its place among the kept ones
 pub is_kept : (entries : Entries) (us : List (Instance ℕ)) (u : Instance ℕ) → AreValued entries us → Among u us → IsKept entries u
@@ -50,9 +48,6 @@ module _ (rules : Rules) (look : Contents ℕ) where
   IsLazy i = is_lazy rules i.attribute ≡ true
 
   -- nothing comes
-  pub worthy_none : (asked : Instance ℕ) (entries : Entries) → AddsWorthy rules look asked entries entries
-  worthy_none asked entries = record { stays = λ i some. refl; worthy = λ i none some. absurd (not_none (kept_values entries i) some none) }
-
   pub gain_none : (found : List (Instance ℕ × Find)) (entries : Entries) (i : Instance ℕ) → MayGain rules found entries entries i
   gain_none found entries i = record { stays = λ j some. refl; lazy = λ j. inl refl; comes = λ j some. inl some }
 

@@ -20,12 +20,14 @@ use Rattle.at_cache.proofs.Lists.{get_contains}
 use Rattle.at_cache.proofs.Locations.{same_location-itself}
 use Rattle.at_demand.specs.declared.evaluation.Find.{Find}
 use Rattle.at_demand.specs.declared.gathering.Sources.{Sources}
-use Rattle.at_demand.specs.Known.{meaning}
-use Rattle.at_demand.specs.Covering.{IsWhole, alone, by_first, in_group, AreWhole, AreWholeIn, IsWholeIn, AreCovered, Extends, IsAdded, IsGathered, Visits, Adds, AddsAt, AreGathered}
+use Rattle.at_evaluate.specs.Valued.{meaning}
+use Rattle.at_demand.specs.Covering.{IsWhole, alone, by_first, in_group, AreWhole, AreWholeIn, IsWholeIn, Extends, IsAdded, IsGathered, Visits, Adds, AddsAt, AreGathered}
+use Rattle.at_evaluate.specs.Right.{AreCovered}
 use Rattle.at_demand.proofs.Leading.{leads_next}
-use Rattle.at_demand.proofs.Sameness.{same_true}
+use Rattle.at_evaluate.proofs.Sameness.{same_true}
 use Rattle.at_demand.proofs.Supported.{supported}
-pub use Rattle.at_demand.proofs.Extending.{among_more, extends_self, extends_on, get_more, get_back, among_at, any_among, map_among}
+pub use Rattle.at_demand.proofs.Extending.{among_more, extends_self, extends_on, get_more, get_back, among_at, map_among}
+use Rattle.at_evaluate.proofs.Tests.{any_among}
 
 or_left : (a b : Bool) → a ≡ true → (a || b) ≡ true
 or_left true b e = refl

@@ -29,9 +29,9 @@ use Rattle.at_demand.specs.declared.evaluation.Find.{Find}
 use Rattle.at_demand.specs.declared.question.Question.{Question}
 use Rattle.at_demand.specs.Covering.{IsDemanded}
 use Rattle.at_demand.specs.Groups.{AddsAll, AddsAtoms, AddsMember, AddsUse, AddsUses, HasMember, IsFindOf, IsFormedAt, IsMember, IsOnlyOf, RestsOn}
-use Rattle.at_demand.specs.Known.{IsKept}
+use Rattle.at_evaluate.specs.Valued.{IsKept}
 use Rattle.at_demand.specs.Levels.{IsUsed, known_to}
-use Rattle.at_demand.proofs.Entered.{not_none}
+use Rattle.at_evaluate.proofs.Entered.{not_none}
 
 -- what is read within a list stands there
 pub get_at : {A : Type 0} (xs : List A) (p : ℕ) (a : A) → p < length xs → a ≡ get_or xs p a → slice_get xs p ≡ Some a

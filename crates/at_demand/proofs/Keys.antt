@@ -1,6 +1,7 @@
 -- Look-ups among entries.
-use Rattle.std.proofs.Common.{◌≡◌, ◌+◌, ◌<◌, ℕ, zero, suc, arith, get_or, take, length, Bool, true, false, List, [], ◌∷◌, ◌++◌, Option, Some, None, ◌⊎◌, inl, inr, refl, sym, ap, ◌∙◌, subst, if◌then◌else◌, cond, true≢false, is_some}
+use Rattle.std.proofs.Common.{◌≡◌, ◌+◌, ◌<◌, ℕ, zero, suc, arith, get_or, take, length, slice_get, Bool, true, false, List, [], ◌∷◌, ◌++◌, Option, Some, None, ◌⊎◌, inl, inr, refl, sym, ap, ◌∙◌, subst, if◌then◌else◌, cond, true≢false, is_some}
 use Rattle.std.proofs.lemmas.List.{take_more}
+use Rattle.std.proofs.lemmas.Option.{none-some, same_Some}
 use Rattle.std.specs.Bool.{MatchBool}
 use Rattle.std.specs.Map.{keys_of, lookup, lookup_key}
 use Rattle.indexmap.specs.IndexMap.{insert_entry}
@@ -9,7 +10,9 @@ use Rattle.at_model.specs.Meaning.{Among}
 use Rattle.at_model.proofs.Listed.{among_left}
 use Rattle.at_model.proofs.Members.{among_last, among_push}
 use Rattle.at_body.specs.Same.{same_instance}
-use Rattle.at_demand.proofs.Sameness.{same_true, same_refl, apart}
+use Rattle.at_demand.specs.declared.evaluation.Find.{Find}
+use Rattle.at_demand.specs.Known.{IsFound}
+use Rattle.at_evaluate.proofs.Sameness.{same_true, same_refl, apart}
 
 cases : (b : Bool) → (b ≡ true) ⊎ (b ≡ false)
 cases true = inl refl
@@ -107,3 +110,20 @@ is_last ks i j e = subst (λ x. Among x (ks ++ i ∷ [])) (same_true i j e) (amo
 pub is_before : (b : Bool) (ks : List (Instance ℕ)) (i j : Instance ℕ) → MatchBool b (Among j ks) (Among j ks → ⊥) → same_instance i j ≡ false → MatchBool b (Among j (ks ++ i ∷ [])) (Among j (ks ++ i ∷ []) → ⊥)
 is_before true ks i j there s = among_left j ks (i ∷ []) there
 is_before false ks i j gone s = not_last ks i j s gone
+
+-- what was found stands under its instance
+pub found_once : (found : List (Instance ℕ × Find)) (j : Instance ℕ) → IsFound found j → (f : Find) × (lookup (same_instance j) found ≡ Some f)
+found_once found j (p, f, at) = by found p at
+  where
+    by : (fs : List (Instance ℕ × Find)) (p : ℕ) → slice_get fs p ≡ Some (j, f) → (g : Find) × (lookup (same_instance j) fs ≡ Some g)
+    by [] p e = absurd (none-some (j, f) e)
+    by (x ∷ fs) zero e = here (same_instance j x.0) refl
+      where
+        here : (b : Bool) → same_instance j x.0 ≡ b → (g : Find) × ((if b then Some x.1 else lookup (same_instance j) fs) ≡ Some g)
+        here true is = (x.1, refl)
+        here false is = absurd (true≢false (sym (ap (λ (y : Instance ℕ × Find). same_instance j y.0) (same_Some x (j, f) e) ∙ same_refl j) ∙ is))
+    by (x ∷ fs) (suc p) e = behind (same_instance j x.0) (by fs p e)
+      where
+        behind : (b : Bool) → (g : Find) × (lookup (same_instance j) fs ≡ Some g) → (g : Find) × ((if b then Some x.1 else lookup (same_instance j) fs) ≡ Some g)
+        behind true r = (x.1, refl)
+        behind false r = r

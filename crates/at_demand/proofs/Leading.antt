@@ -6,19 +6,13 @@ use Rattle.at_model.specs.Follow.{Past, here, looked, told}
 use Rattle.at_model.specs.Meaning.{Finds, Reaches, Among}
 use Rattle.at_model.specs.of_fixpoints.Fixpoints.{Ends, HasValue, HoldsAt, Made, stays as stays_there}
 use Rattle.at_model.specs.of_fixpoints.Formulas.{Forms}
-use Rattle.at_model.specs.of_fixpoints.Resting.{Comes, Leads, stays, goes, Supports}
-use Rattle.at_model.proofs.of_formulas.Spreading.{leads_further}
+use Rattle.at_model.specs.of_fixpoints.Resting.{Comes, Leads, stays, goes}
 use Rattle.at_model.proofs.of_formulas.UniqueOutcomes.{once, once_at}
+use Rattle.at_evaluate.proofs.LeadingOn.{leads_on}
 
 module _ {N : Type 0} (look : Contents N) (forms : Forms N) where
-  pub leads_on : (i j k : Instance N) → Leads look forms i j → Leads look forms j k → Leads look forms i k
-  leads_on i j k h g = leads_further look forms i j k h g
-
   pub leads_next : (i j k : Instance N) → Leads look forms i j → Comes look forms j k → Leads look forms i k
-  leads_next i j k led c = leads_on i j k led (goes j k k c (stays k))
-
-  pub supports_on : (i j : Instance N) (l : Location N) → Leads look forms i j → Supports look forms l j → Supports look forms l i
-  supports_on i j l led (k, more, sees) = (k, leads_on i j k led more, sees)
+  leads_next i j k led c = leads_on look forms i j k led (goes j k k c (stays k))
 
   -- from what was found, where its lazy instances and all below what was kept are kept now
   module _ (Within Kept Lazy Now : Instance N → Type 0)

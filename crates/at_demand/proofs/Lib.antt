@@ -1,5 +1,3 @@
-pub mod Sameness
-pub mod Entered
 pub mod Coming
 pub mod Keys
 pub mod Orderly
@@ -11,11 +9,12 @@ pub mod Supported
 pub mod Gathered
 pub mod Entering
 pub mod Passing
-pub mod There
 pub mod Leading
 pub mod OnlyLemmas
 pub mod Gaining
-pub mod Counting
+pub mod Working
+mod InnerAnswered
+mod GrownAhead
 pub mod of_steps
 pub mod Naming
 pub mod TypedKnown
@@ -26,8 +25,6 @@ pub mod Standing
 pub mod Few
 mod Fitting
 mod Putting
-mod of_nesting
-mod of_parts
 pub mod of_traces
 pub mod Extending
 mod Questioned

@@ -9,7 +9,7 @@ use Rattle.at_body.specs.Same.{same_instance}
 use Rattle.at_search.specs.declared.ended.Ended.{Ended}
 use Rattle.at_demand.specs.declared.question.Question.{Question}
 use Rattle.at_demand.specs.ChainSteps.{HasMarked, HasMarkedAll}
-use Rattle.at_demand.proofs.Sameness.{apart, same_refl, same_true}
+use Rattle.at_evaluate.proofs.Sameness.{apart, same_refl, same_true}
 
 module _ {X : Type 0} where
   -- the value that is written is found

@@ -1,6 +1,6 @@
 -- What stands with a find is only what its evaluation sees and comes to; so the sources stand for nothing but what supports the
 -- instance.
-use Rattle.std.proofs.Common.{◌≡◌, ◌⊎◌, ℕ, zero, suc, Bool, true, false, ◌||◌, List, [], ◌∷◌, ◌++◌, map, slice_get, Option, Some, None, OnOk, Ok, Err, inl, inr, refl, sym, ap, ◌∙◌, subst, if◌then◌else◌, true≢false}
+use Rattle.std.proofs.Common.{◌≡◌, ◌⊎◌, ℕ, zero, suc, Bool, true, false, List, [], ◌∷◌, ◌++◌, map, slice_get, Option, Some, None, OnOk, Ok, Err, inl, inr, refl, sym, ap, ◌∙◌, subst, if◌then◌else◌, true≢false}
 use Rattle.std.specs.Prelude.{Result}
 use Rattle.std.specs.List.{list_any}
 use Rattle.std.proofs.lemmas.Option.{none-some, same_Some}
@@ -27,16 +27,17 @@ use Rattle.at_demand.specs.declared.evaluation.Demanded.{Demanded}
 use Rattle.at_demand.specs.declared.evaluation.Find.{Find}
 use Rattle.at_demand.specs.declared.evaluation.Frame.{Frame}
 use Rattle.at_demand.specs.declared.gathering.Sources.{Sources}
-use Rattle.at_demand.specs.Known.{meaning}
+use Rattle.at_evaluate.specs.Valued.{meaning}
 use Rattle.at_demand.specs.UnderWay.{HasStepped}
 use Rattle.at_demand.specs.Covering.{Extends, IsDemanded}
 use Rattle.at_demand.specs.Only.{TakesOnly, IsLean, AreLean, LeadsTo, itself, further, IsFrom, AreFrom, VisitsOnly, AddsOnly, AddsOnlyAt}
-use Rattle.at_demand.proofs.Sameness.{same_true}
+use Rattle.at_evaluate.proofs.Sameness.{same_true}
 use Rattle.at_demand.proofs.Coming.{comes}
 use Rattle.at_demand.proofs.Seeing.{read_seen}
 use Rattle.at_demand.proofs.Extending.{get_more, map_among}
 use Rattle.at_model.proofs.of_formulas.PlainRules.{plain}
 use Rattle.at_demand.proofs.of_levels.Plain.{past_formula}
+use Rattle.at_evaluate.proofs.Tests.{either, any_one}
 
 pub get_among : {A : Type 0} (xs : List A) (n : ℕ) (a : A) → slice_get xs n ≡ Some a → Among a xs
 get_among [] n a e = absurd (none-some a e)
@@ -47,14 +48,6 @@ parts : {A : Type 0} (xs ys : List A) (a : A) → Among a (xs ++ ys) → Among a
 parts [] ys a h = inr h
 parts (x ∷ xs) ys a (inl e) = inl (inl e)
 parts (x ∷ xs) ys a (inr h) = elim (parts xs ys a h) [ inl g ↦ inl (inr g) | inr g ↦ inr g ]
-
-either : (a b : Bool) → (a || b) ≡ true → (a ≡ true) ⊎ (b ≡ true)
-either true b h = inl refl
-either false b h = inr h
-
-pub any_one : {A : Type 0} (p : A → Bool) (xs : List A) → list_any p xs ≡ true → (a : A) × Among a xs × (p a ≡ true)
-any_one p [] e = absurd (true≢false (sym e))
-any_one p (x ∷ xs) e = elim (either (p x) (list_any p xs) e) [ inl h ↦ (x, inl refl, h) | inr h ↦ (let (a, m, is) = any_one p xs h in (a, inr m, is)) ]
 
 -- one position more
 pub visits_one : (done old new next : List ℕ) (k : ℕ) → VisitsOnly done old new → next ≡ insert_key nat_eq new k → VisitsOnly (done ++ k ∷ []) old next

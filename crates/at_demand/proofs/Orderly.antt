@@ -9,7 +9,8 @@ use Rattle.at_body.specs.Same.{same_instance}
 use Rattle.at_body.specs.Values.{value_view}
 use Rattle.at_cache.specs.Kept.{Entries, AreKept}
 use Rattle.at_demand.specs.declared.evaluation.Find.{Find}
-use Rattle.at_demand.specs.Known.{kept_values, found_values, known_in, AreValued, IsKept}
+use Rattle.at_evaluate.specs.Valued.{kept_values, AreValued, IsKept}
+use Rattle.at_demand.specs.Known.{found_values, known_in}
 
 kept_more : (entries : Entries) (ks : List (Instance ℕ)) (i : Instance ℕ) → AreValued entries ks → IsKept entries i → AreValued entries (ks ++ i ∷ [])
 kept_more entries ks i all some u h = elim (Contains-push_cases ks i u h) [ inl before ↦ all u before | inr same ↦ subst (IsKept entries) same some ]

@@ -19,7 +19,7 @@ use Rattle.at_cache.proofs.Lists.{get_push}
 use Rattle.at_demand.specs.declared.evaluation.Demanded.{Demanded}
 use Rattle.at_demand.specs.declared.evaluation.Find.{Find}
 use Rattle.at_demand.specs.declared.evaluation.Frame.{Frame}
-use Rattle.at_demand.specs.Known.{equations, meaning}
+use Rattle.at_evaluate.specs.Valued.{equations, meaning}
 use Rattle.at_demand.specs.Covering.{AreWhole, AreWholeIn, Extends, HasPassed, HasPassedTo, IsDemanded, IsFirst, IsTold, IsWhole, IsWholeIn, alone, by_first, in_group}
 use Rattle.at_demand.proofs.Coming.{begins, goes_on}
 use Rattle.at_demand.proofs.Seeing.{sees_read, comes_told}

@@ -12,16 +12,19 @@ use Rattle.at_body.specs.Values.{value_view}
 use Rattle.at_cache.specs.Kept.{Kept, Entries, AreKept, KeepsAll, Puts, value_at}
 use Rattle.at_demand.specs.declared.evaluation.Find.{Find}
 use Rattle.at_demand.specs.declared.gathering.Sources.{Sources}
-use Rattle.at_demand.specs.Known.{kept_values, ArePlain, IsFound, IsKept, MayAdd}
+use Rattle.at_evaluate.specs.Valued.{kept_values, ArePlain, IsKept}
+use Rattle.at_demand.specs.Known.{IsFound, MayAdd}
 use Rattle.at_demand.specs.Keeping.{HasGathered, HasPlaced, KeepsWhereLazy, Shares}
-use Rattle.at_demand.specs.Covering.{AreCovered, AreWhole, IsWhole}
+use Rattle.at_evaluate.specs.Right.{AreCovered}
+use Rattle.at_demand.specs.Covering.{AreWhole, IsWhole}
 use Rattle.at_demand.specs.Only.{AreLean, IsLean}
-use Rattle.at_demand.specs.Sparing.{AreOnly, Counts, MayGain}
-use Rattle.at_demand.proofs.Counting.{counts_none}
-use Rattle.at_demand.proofs.Entered.{entered_on, is_there, put_stays}
+use Rattle.at_evaluate.specs.Sparing.{AreOnly, Counts}
+use Rattle.at_demand.specs.Worth.{MayGain}
+use Rattle.at_evaluate.proofs.Counting.{counts_none}
+use Rattle.at_evaluate.proofs.Entered.{entered_on, is_there, put_stays}
 use Rattle.at_demand.proofs.Gathered.{gathered_alone, put_covers}
 use Rattle.at_demand.proofs.OnlyLemmas.{from_alone, put_only}
-use Rattle.at_demand.proofs.Sameness.{same_true, same_refl}
+use Rattle.at_evaluate.proofs.Sameness.{same_true, same_refl}
 use Rattle.at_demand.proofs.Entering.{shares_none}
 
 pub none_below : (positions : Vec ℕ Global) → nat_eq (vec_len positions) 0 ≡ true → positions.items ≡ []

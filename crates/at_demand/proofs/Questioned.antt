@@ -12,7 +12,7 @@ use Rattle.at_search.specs.declared.search.Search.{Search as SearchCode}
 use Rattle.at_demand.specs.declared.question.Question.{Question}
 use Rattle.at_demand.specs.ChainSteps.{HasNext, IsAlike, IsSearched}
 use Rattle.at_demand.specs.Levels.{LevelCode, fault_in, root_in, seen_in, todo_in}
-use Rattle.at_demand.proofs.Sameness.{same_true, same_refl}
+use Rattle.at_evaluate.proofs.Sameness.{same_true, same_refl}
 
 -- the last one is tried, and so are those that wait
 pub last_tried : (b : Bool) (ks : List (Instance ℕ)) (i k : Instance ℕ) → b ≡ same_instance k i → b ≡ true →

@@ -8,8 +8,9 @@ use Rattle.at_body.specs.Same.{same_instance}
 use Rattle.at_body.specs.Values.{value_view}
 use Rattle.at_cache.specs.Kept.{Entries}
 use Rattle.at_demand.specs.declared.evaluation.Find.{Find}
-use Rattle.at_demand.specs.Known.{kept_values, found_values, known_in, AreValued, IsKept}
-use Rattle.at_demand.proofs.Entered.{is_there}
+use Rattle.at_evaluate.specs.Valued.{kept_values, AreValued, IsKept}
+use Rattle.at_demand.specs.Known.{found_values, known_in}
+use Rattle.at_evaluate.proofs.Entered.{is_there}
 
 module _ (entries : Entries) (found : List (Instance ℕ × Find)) (i : Instance ℕ) where
   abbrev or_found : Option (Value ℕ) → Option (Value ℕ)

@@ -24,13 +24,14 @@ use Rattle.at_cache.specs.Kept.{Entries}
 use Rattle.at_demand.specs.declared.answer.Answer.{Answer as AnswerCode}
 use Rattle.at_demand.specs.declared.question.Question.{Question}
 use Rattle.at_demand.specs.Answerable.{IsBasis}
-use Rattle.at_demand.specs.Known.{IsKept, answer_view, equations, kept_values, meaning}
+use Rattle.at_evaluate.specs.Valued.{IsKept, equations, kept_values, meaning}
+use Rattle.at_demand.specs.Known.{answer_view}
 use Rattle.at_demand.specs.Levels.{IsAbout, LevelCode, asked_by, root_in}
-use Rattle.at_demand.specs.Meant.{AreRightValues}
+use Rattle.at_evaluate.specs.Meant.{AreRightValues}
 use Rattle.at_demand.specs.Sound.{AreKeptWhole, AreSound}
-use Rattle.at_demand.specs.Sparing.{AddsWorthy, IsWorthy}
+use Rattle.at_evaluate.specs.Sparing.{AddsWorthy, IsWorthy}
 use Rattle.at_demand.specs.Turns.{HasTurnedBy, IsStanding, IsStandingPlainly, under_way}
-use Rattle.at_demand.proofs.Entered.{entered_on, is_there}
+use Rattle.at_evaluate.proofs.Entered.{entered_on, is_there}
 use Rattle.at_demand.proofs.of_searches.Reaching.{asked_at}
 use Rattle.at_demand.proofs.of_searches.Returning.{with_level}
 use Rattle.at_demand.proofs.of_levels.Wholes.{stays_on, told_right, whole_led}

@@ -10,7 +10,7 @@ use Rattle.at_body.specs.declared.value.Value.{Value as ValueCode}
 use Rattle.at_body.specs.declared.trial.Step.{Step}
 use Rattle.at_body.specs.declared.trial.Step.TheVariants as step
 use Rattle.at_body.specs.declared.trial.Trial.{Trial}
-use Rattle.at_demand.specs.Known.{equations, meaning}
+use Rattle.at_evaluate.specs.Valued.{equations, meaning}
 use Rattle.at_demand.specs.UnderWay.{HasStepped, IsOpen}
 use Rattle.at_demand.proofs.Coming.{begins, goes_on}
 use Rattle.at_demand.proofs.of_levels.Plain.{has_value}

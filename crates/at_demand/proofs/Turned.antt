@@ -16,7 +16,7 @@ use Rattle.at_demand.specs.declared.question.Question.{Question}
 use Rattle.at_demand.specs.Levels.{LevelCode}
 use Rattle.at_demand.specs.Turns.{found_of, passed_of, under_way}
 use Rattle.at_demand.proofs.Keys.{goes_last, keys_push}
-use Rattle.at_demand.proofs.Sameness.{same_true}
+use Rattle.at_evaluate.proofs.Sameness.{same_true}
 use Rattle.at_demand.proofs.of_searches.Returning.{with_level}
 
 keys_found : (fs : List (Instance ℕ × Find)) → keys (found_of fs) ≡ keys_of fs

@@ -9,7 +9,7 @@ use Rattle.at_store.specs.Shown.{IsIdle, Shown, contents, tree}
 use Rattle.at_body.specs.Typed as trial
 use Rattle.at_body.specs.declared.trial.Trial.{Trial}
 use Rattle.at_body.proofs.TypedUses.{told}
-use Rattle.at_demand.specs.Known.{meaning}
+use Rattle.at_evaluate.specs.Valued.{meaning}
 use Rattle.at_demand.proofs.TypedKnown.{known_typed}
 
 pub told_value : (rules : Rules) → AreWellFormed rules → AreBoolean rules → (s : Shown) → IsIdle s → IsTreeSound rules.classes (tree s) → (t : Trial) (j : Instance ℕ) (v : Value ℕ) →

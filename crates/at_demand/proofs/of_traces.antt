@@ -1,12 +1,5 @@
--- What can be kept again: that its evaluation would go the same way, and what comes of it.
-pub mod SameWay
-pub mod Justified
-pub mod Settled
-pub mod OfTree
-pub mod Lazily
-pub mod Making
+-- What becomes of what can be kept again over turns and edits.
 pub mod TurnsPut
 pub mod MadeAgain
-pub mod Putting
 pub mod Untouched
 pub mod Forgetting

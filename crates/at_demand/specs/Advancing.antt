@@ -8,7 +8,8 @@ use Rattle.at_body.specs.declared.trial.Step.{Step}
 use Rattle.at_cache.specs.Kept.{Entries}
 use Rattle.at_demand.specs.declared.evaluation.Find.{Find}
 use Rattle.at_demand.specs.declared.evaluation.Frame.{Frame}
-use Rattle.at_demand.specs.Known.{known_in, AreValued}
+use Rattle.at_demand.specs.Known.{known_in}
+use Rattle.at_evaluate.specs.Valued.{AreValued}
 use Rattle.at_demand.specs.UnderWay.{HasStepped, IsOpen}
 use Rattle.at_demand.specs.Covering.{HasPassedTo}
 use Rattle.at_demand.specs.Only.{TakesOnly}

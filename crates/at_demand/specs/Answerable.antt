@@ -3,7 +3,7 @@ use Rattle.std.specs.Prelude.{◌≡◌, ℕ, None, false, true, List, IsSome}
 use Rattle.at_model.specs.Run.{Instance}
 use Rattle.at_model.specs.Rules.{Rules, is_lazy, start_of}
 use Rattle.at_model.specs.Instances.{AnyText}
-use Rattle.at_demand.specs.Meant.{AreCircularWell, AreRightValues}
+use Rattle.at_evaluate.specs.Meant.{AreCircularWell, AreRightValues}
 use Rattle.at_model.specs.TypedRuns.{IsWellTyped}
 use Rattle.at_model.specs.WellFormed.{AreWellFormed, IsTreeSound}
 use Rattle.at_store.specs.Shown.{IsIdle, Shown, contents, tree}
@@ -15,12 +15,13 @@ use Rattle.at_demand.specs.declared.evaluation.Find.{Find}
 use Rattle.at_demand.specs.declared.evaluation.Frame.{Frame}
 use Rattle.at_demand.specs.declared.question.Question.{Question}
 use Rattle.at_demand.specs.declared.trials.Trials.{Trials}
-use Rattle.at_demand.specs.Known.{meaning, kept_values, known_in, ArePlain, AreValued, FoundAs, FoundKept}
+use Rattle.at_evaluate.specs.Valued.{meaning, kept_values, ArePlain, AreValued}
+use Rattle.at_demand.specs.Known.{known_in, FoundAs, FoundKept}
 use Rattle.at_demand.specs.Attempts.{HasComeTo}
 use Rattle.at_demand.specs.Covering.{AreWhole}
 use Rattle.at_demand.specs.KeptTrials.{Fit}
 use Rattle.at_demand.specs.Sound.{AreKeptWhole}
-use Rattle.at_demand.specs.Traces.{AreJustified}
+use Rattle.at_evaluate.specs.Traces.{AreJustified}
 use Rattle.at_demand.specs.Turns.{IsStanding}
 
 -- evaluations stand on these: no edit waits, the rules are well formed, circular attributes are lazy and boolean, and the tree is sound

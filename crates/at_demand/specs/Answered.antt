@@ -8,20 +8,22 @@ use Rattle.at_model.specs.of_fixpoints.Circles.{Answers, Circular}
 use Rattle.at_model.specs.of_fixpoints.Met.{IsMet}
 use Rattle.at_model.specs.of_fixpoints.Searching.{Search}
 use Rattle.at_rules.specs.Circular.{HasNoneCircular}
-use Rattle.at_demand.specs.Meant.{AreRightValues}
+use Rattle.at_evaluate.specs.Meant.{AreRightValues}
 use Rattle.at_store.specs.Shown.{Shown, contents}
 use Rattle.at_cache.specs.Kept.{Entries, LeavesUntouched, LosesTouched}
 use Rattle.at_cache.specs.Traced.{FlushesTraces, Memories, SparesAtEdit, StayTraced}
 use Rattle.at_demand.specs.declared.answer.Answer.{Answer as AnswerCode}
 use Rattle.at_demand.specs.declared.question.Question.{Question}
 use Rattle.at_demand.specs.declared.trials.Trials.{Trials}
-use Rattle.at_demand.specs.Made.{Makes}
+use Rattle.at_evaluate.specs.Made.{Makes}
 use Rattle.at_demand.specs.Went.{Went}
-use Rattle.at_demand.specs.Known.{equations, meaning, kept_values, ArePlain, IsKept, answer_view}
-use Rattle.at_demand.specs.Right.{AreRight, IsThere}
-use Rattle.at_demand.specs.Sparing.{AddsWorthy, AreSpare, Counts, HasWorthy, IsWork, IsWorthy}
+use Rattle.at_evaluate.specs.Valued.{equations, meaning, kept_values, ArePlain, IsKept}
+use Rattle.at_demand.specs.Known.{answer_view}
+use Rattle.at_evaluate.specs.Right.{AreRight, IsThere}
+use Rattle.at_evaluate.specs.Sparing.{AddsWorthy, AreSpare, Counts, HasWorthy, IsWorthy}
+use Rattle.at_demand.specs.Worth.{IsWork}
 use Rattle.at_demand.specs.KeptTrials.{FitAfter}
-use Rattle.at_demand.specs.Traces.{StayJustified}
+use Rattle.at_evaluate.specs.Traces.{StayJustified}
 use Rattle.at_demand.specs.Groups.{KeepsGroups}
 use Rattle.at_demand.specs.Levels.{StandsFor, asked_by}
 use Rattle.at_demand.specs.Turns.{

@@ -7,7 +7,7 @@ use Rattle.at_model.specs.Instances.{AnyText}
 use Rattle.at_model.specs.Meaning.{Faults}
 use Rattle.at_model.specs.of_fixpoints.Fixpoints.{HasValue, Holds}
 use Rattle.at_model.specs.of_fixpoints.Resting.{Comes}
-use Rattle.at_demand.specs.Meant.{AreRightValues}
+use Rattle.at_evaluate.specs.Meant.{AreRightValues}
 use Rattle.at_model.specs.TypedRuns.{ClassAt, IsWellTyped}
 use Rattle.at_body.specs.Same.{same_instance}
 use Rattle.at_store.specs.Shown.{Shown, contents}
@@ -25,13 +25,15 @@ use Rattle.at_demand.specs.declared.trying.Going.{Going}
 use Rattle.at_demand.specs.declared.trying.Going.TheVariants as going
 use Rattle.at_demand.specs.declared.trials.Attempt.{Attempt}
 use Rattle.at_demand.specs.declared.trials.Attempt.TheVariants as attempt
-use Rattle.at_demand.specs.Known.{kept_values, meaning, ArePlain, AreValued}
+use Rattle.at_evaluate.specs.Valued.{kept_values, meaning, ArePlain, AreValued}
 use Rattle.at_demand.specs.UnderWay.{HasStepped}
 use Rattle.at_demand.specs.Forming.{HasPassedToForm}
 use Rattle.at_demand.specs.Covering.{HasPassedTo, IsWhole}
 use Rattle.at_demand.specs.Only.{AreLean, IsLean, TakesOnly}
-use Rattle.at_demand.specs.Right.{AreRight, AreThere, IsThere}
-use Rattle.at_demand.specs.Sparing.{AddsWorthy, AreSettled, AreSpare, Counts, MayGain}
+use Rattle.at_evaluate.specs.Right.{AreRight, IsThere}
+use Rattle.at_demand.specs.Known.{AreThere}
+use Rattle.at_evaluate.specs.Sparing.{AddsWorthy, AreSpare, Counts}
+use Rattle.at_demand.specs.Worth.{AreSettled, MayGain}
 
 -- The trial of an instance has come to this step, past values that hold; what it looked at and took is what its evaluation sees and
 -- comes to, all values are of their kinds, and what it took of what is kept is kept.

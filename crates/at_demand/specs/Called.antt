@@ -8,7 +8,7 @@ use Rattle.at_model.specs.Machine.{State, Verdict}
 use Rattle.at_model.specs.Sparing.{KeptAfter, IsWork}
 use Rattle.at_store.specs.Shown.{Shown, path}
 use Rattle.at_cache.specs.Kept.{Entries}
-use Rattle.at_demand.specs.Known.{IsKept}
+use Rattle.at_evaluate.specs.Valued.{IsKept}
 
 -- the kept instances, with the path of each node
 abbrev pub KeptBy : Shown → Entries → Instance Node → Type 0

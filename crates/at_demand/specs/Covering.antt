@@ -1,5 +1,5 @@
 -- That what a question finds rests on the locations and the instances that stand with it, and nothing else.
-use Rattle.std.specs.Prelude.{◌≡◌, ◌⊎◌, ℕ, true, List, [], ◌∷◌, ◌++◌, map, slice_get, Some, IsSome}
+use Rattle.std.specs.Prelude.{◌≡◌, ◌⊎◌, ℕ, List, [], ◌∷◌, ◌++◌, map, slice_get, Some, IsSome}
 use Rattle.at_model.specs.Run.{Value, Instance, Location, Contents, Run}
 use Rattle.at_model.specs.Follow.{Past}
 use Rattle.at_model.specs.Rules.{Rules, start_of}
@@ -7,19 +7,17 @@ use Rattle.at_model.specs.Meaning.{Among}
 use Rattle.at_model.specs.of_fixpoints.Fixpoints.{HasValue}
 use Rattle.at_model.specs.of_fixpoints.Resting.{Comes, Leads}
 use Rattle.at_model.specs.Support.{Sees}
-use Rattle.at_model.specs.of_fixpoints.Resting.{Supports}
 use Rattle.at_store.specs.declared.node.Loc.{Loc}
 use Rattle.at_store.specs.Located.{loc_view}
 use Rattle.at_body.specs.Rest.{reached}
 use Rattle.at_body.specs.declared.trial.Step.{Step}
-use Rattle.at_cache.specs.Kept.{Kept, Entries}
 use Rattle.at_demand.specs.declared.evaluation.Demanded.{Demanded}
 use Rattle.at_demand.specs.declared.evaluation.Find.{Find}
 use Rattle.at_demand.specs.declared.evaluation.Frame.{Frame}
 use Rattle.at_demand.specs.declared.evaluation.Recalled.{Recalled}
 use Rattle.at_demand.specs.declared.evaluation.Recalled.TheVariants as recalled
 use Rattle.at_demand.specs.declared.gathering.Sources.{Sources}
-use Rattle.at_demand.specs.Known.{equations, meaning}
+use Rattle.at_evaluate.specs.Valued.{equations, meaning}
 use Rattle.at_demand.specs.UnderWay.{left_of}
 
 -- the instance is one of the kept ones, or was found at one of the positions
@@ -70,10 +68,6 @@ pub data IsWhole (rules : Rules) (look : Contents ℕ) (found : List (Instance �
 -- so it is of all that was found
 abbrev pub AreWhole : Rules → Contents ℕ → List (Instance ℕ × Find) → Type 0
 AreWhole rules look found = (p : ℕ) (i : Instance ℕ) (f : Find) → slice_get found p ≡ Some (i, f) → IsWhole rules look found i f
-
--- each entry stands for all that supports its instance
-abbrev pub AreCovered : Rules → Contents ℕ → Entries → Type 0
-AreCovered rules look entries = (i : Instance ℕ) (k : Kept) → entries i ≡ Some k → (l : Location ℕ) → Supports look (meaning rules) l i → k.covers l ≡ true
 
 -- one list begins with the other
 abbrev pub Extends : {A : Type 0} → (old new : List A) → Type 0

@@ -28,7 +28,8 @@ use Rattle.at_demand.specs.declared.trying.Trying.TheVariants as trying
 use Rattle.at_demand.specs.declared.evaluation.Frame.{Frame}
 use Rattle.at_demand.specs.Advancing.{HasBegun}
 use Rattle.at_demand.specs.Covering.{IsTold}
-use Rattle.at_demand.specs.Known.{AreValued, known_in, meaning}
+use Rattle.at_evaluate.specs.Valued.{AreValued, meaning}
+use Rattle.at_demand.specs.Known.{known_in}
 use Rattle.at_demand.specs.Only.{TakesOnly}
 use Rattle.at_demand.specs.UnderWay.{left_of}
 

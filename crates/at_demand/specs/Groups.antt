@@ -31,13 +31,15 @@ use Rattle.at_demand.specs.declared.question.Question.{Question}
 use Rattle.at_demand.specs.InTurns.{PutsInTurns}
 use Rattle.at_demand.specs.Answerable.{IsAnswerable, RestsOnKept}
 use Rattle.at_demand.specs.ChainSteps.{HasMarkedAll, KeepsChain}
-use Rattle.at_demand.specs.Covering.{AreCovered, AreWhole, IsDemanded, IsWhole}
-use Rattle.at_demand.specs.Known.{ArePlain, FoundKept, IsFound, IsKept, KeepsEntries, MayAdd, kept_values, meaning}
+use Rattle.at_evaluate.specs.Right.{AreCovered, AreRight, IsThere}
+use Rattle.at_demand.specs.Covering.{AreWhole, IsDemanded, IsWhole}
+use Rattle.at_evaluate.specs.Valued.{ArePlain, IsKept, KeepsEntries, kept_values, meaning}
+use Rattle.at_demand.specs.Known.{FoundKept, IsFound, MayAdd, AreThere}
 use Rattle.at_demand.specs.Levels.{AreFactsOf, IsUsed, known_to}
-use Rattle.at_demand.specs.Meant.{AreRightValues}
+use Rattle.at_evaluate.specs.Meant.{AreRightValues}
 use Rattle.at_demand.specs.Only.{AreLean, IsLean}
-use Rattle.at_demand.specs.Right.{AreRight, AreThere, IsThere}
-use Rattle.at_demand.specs.Sparing.{AreOnly, AreSettled, AreSpare, Counts, MayGain}
+use Rattle.at_evaluate.specs.Sparing.{AreOnly, AreSpare, Counts}
+use Rattle.at_demand.specs.Worth.{AreSettled, MayGain}
 
 -- the value from which the first of these starts, where it is circular
 abbrev pub start_in : Rules → List (Instance ℕ) → Option Bool

@@ -3,7 +3,7 @@ use Rattle.std.specs.Prelude.{◌≡◌, ◌≤◌, ◌+◌, ◌-◌, ◌^◌, �
 use Rattle.at_model.specs.Run.{Instance}
 use Rattle.at_cache.specs.Kept.{Entries}
 use Rattle.at_cache.specs.Traced.{IsOutdated, Memories, SparesOthers, StayTraced, Trace}
-use Rattle.at_demand.specs.Sparing.{AreGained}
+use Rattle.at_evaluate.specs.Sparing.{AreGained}
 
 -- Nothing was traced, and values were put in turns, one behind the other: each spares what others could be kept again by.
 pub data PutsInTurns (old : Memories) : Memories → Type 0 where

@@ -10,10 +10,13 @@ use Rattle.at_cache.specs.Traced.{Memories}
 use Rattle.at_demand.specs.declared.evaluation.Find.{Find}
 use Rattle.at_demand.specs.declared.gathering.Sources.{Sources}
 use Rattle.at_demand.specs.InTurns.{PutsInTurns}
-use Rattle.at_demand.specs.Known.{kept_values, ArePlain, IsFound, IsKept, KeepsEntries, MayAdd}
-use Rattle.at_demand.specs.Covering.{AreCovered, AreGathered, AreWhole, IsWhole}
+use Rattle.at_evaluate.specs.Valued.{kept_values, ArePlain, IsKept, KeepsEntries}
+use Rattle.at_demand.specs.Known.{IsFound, MayAdd}
+use Rattle.at_evaluate.specs.Right.{AreCovered}
+use Rattle.at_demand.specs.Covering.{AreGathered, AreWhole, IsWhole}
 use Rattle.at_demand.specs.Only.{AreFrom, AreLean, IsLean}
-use Rattle.at_demand.specs.Sparing.{AreOnly, Counts, MayGain}
+use Rattle.at_evaluate.specs.Sparing.{AreOnly, Counts}
+use Rattle.at_demand.specs.Worth.{MayGain}
 
 -- `new` has what `old` has, and may have entries without a value of instances that were found: for all that supports these and for
 -- nothing else.

@@ -17,7 +17,7 @@ use Rattle.at_demand.specs.Answerable.{CanTurnWith}
 use Rattle.at_demand.specs.ChainSteps.{HasPassedOn, HasSettled, IsDeeper}
 use Rattle.at_demand.specs.Groups.{KeepsGroups}
 use Rattle.at_demand.specs.KeptTrials.{FitAfter, HasEndedLast}
-use Rattle.at_demand.specs.Known.{meaning}
+use Rattle.at_evaluate.specs.Valued.{meaning}
 use Rattle.at_demand.specs.Levels.{IsFormOf}
 use Rattle.at_demand.specs.Searches.{GainsBetween, LeavesSo, TurnsBy}
 

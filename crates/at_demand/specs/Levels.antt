@@ -25,8 +25,9 @@ use Rattle.at_search.specs.declared.ended.Formed.{Formed}
 use Rattle.at_search.specs.declared.search.Search.{Search as SearchCode}
 use Rattle.at_demand.specs.declared.evaluation.Find.{Find}
 use Rattle.at_demand.specs.declared.question.Question.{Question}
-use Rattle.at_demand.specs.Known.{IsKept, kept_values, known_in, meaning}
-use Rattle.at_demand.specs.Meant.{AreRightValues}
+use Rattle.at_evaluate.specs.Valued.{IsKept, kept_values, meaning}
+use Rattle.at_demand.specs.Known.{known_in}
+use Rattle.at_evaluate.specs.Meant.{AreRightValues}
 
 -- a level: no search as yet, or one
 abbrev pub LevelCode : Type 0

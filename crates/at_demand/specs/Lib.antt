@@ -1,13 +1,11 @@
 pub mod Known
 pub mod Again
-pub mod Meant
 pub mod Sound
 pub mod UnderWay
-pub mod Right
 pub mod Touched
 pub mod Covering
 pub mod Only
-pub mod Sparing
+pub mod Worth
 pub mod Advancing
 pub mod Spared
 pub mod Called
@@ -24,11 +22,6 @@ pub mod KeptTrials
 pub mod LastTried
 pub mod Answered
 pub mod Keeping
-pub mod Inner
-pub mod InParts
-pub mod Traces
-pub mod Made
 pub mod InTurns
 pub mod Went
-pub mod OneProof
 pub mod Answerable

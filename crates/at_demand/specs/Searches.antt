@@ -46,13 +46,14 @@ use Rattle.at_demand.specs.ChainSteps.{HasEnded, HasLostSeen, HasRisen, IsRisen,
 use Rattle.at_demand.specs.Covering.{AreWhole}
 use Rattle.at_demand.specs.Groups.{KeepsGroups, Tells}
 use Rattle.at_demand.specs.KeptTrials.{Fit, FitAfter, HasDropped, HasNoted, IsNotedAs}
-use Rattle.at_demand.specs.Known.{ArePlain, FoundKept, IsFound, IsKept, KeepsEntries, answer_view, equations, kept_values, meaning}
-use Rattle.at_demand.specs.Levels.{AreFactsOf, AreWholeOrSeen, IsAbout, IsCovered, IsDoneIn, IsLevel, LevelCode, StandsFor}
-use Rattle.at_demand.specs.Levels.{all_levels, asked_by, fault_in, known_to, levels_of, root_in, seen_in, todo_in}
-use Rattle.at_demand.specs.Meant.{AreRightValues}
+use Rattle.at_evaluate.specs.Valued.{ArePlain, IsKept, KeepsEntries, equations, kept_values, meaning}
+use Rattle.at_demand.specs.Known.{FoundKept, IsFound, answer_view}
+use Rattle.at_demand.specs.Levels.{AreFactsOf, AreWholeOrSeen, IsAbout, IsCovered, IsDoneIn, IsLevel, LevelCode, StandsFor, all_levels, asked_by, fault_in, known_to, levels_of, root_in, seen_in, todo_in}
+use Rattle.at_evaluate.specs.Meant.{AreRightValues}
 use Rattle.at_demand.specs.Only.{AreLean}
-use Rattle.at_demand.specs.Right.{AreRight, IsThere}
-use Rattle.at_demand.specs.Sparing.{AddsWorthy, AreSettled, AreSpare, Counts}
+use Rattle.at_evaluate.specs.Right.{AreRight, IsThere}
+use Rattle.at_evaluate.specs.Sparing.{AddsWorthy, AreSpare, Counts}
+use Rattle.at_demand.specs.Worth.{AreSettled}
 use Rattle.at_demand.specs.Turns.{HasComeAbout, HaveMet, IsFollowed, IsMet, IsSparingTurns, under_way}
 
 -- what was said of finds stands

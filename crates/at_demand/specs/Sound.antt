@@ -3,8 +3,8 @@ use Rattle.at_model.specs.Rules.{Rules}
 use Rattle.at_store.specs.Shown.{Shown, contents}
 use Rattle.at_cache.specs.Kept.{Entries}
 use Rattle.at_search.specs.Recorded.{AreWhole}
-use Rattle.at_demand.specs.Known.{kept_values, meaning}
-use Rattle.at_demand.specs.Meant.{AreRightValues}
+use Rattle.at_evaluate.specs.Valued.{kept_values, meaning}
+use Rattle.at_evaluate.specs.Meant.{AreRightValues}
 
 -- formulas lead from what is kept to finitely many, each of which has a formula
 abbrev pub AreKeptWhole : Rules → Shown → Entries → Type 0

@@ -6,7 +6,7 @@ use Rattle.at_model.specs.of_fixpoints.Resting.{Supports}
 use Rattle.at_model.specs.Edits.{Edit}
 use Rattle.at_store.specs.Shown.{Shown, contents}
 use Rattle.at_cache.specs.Kept.{Kept, Entries}
-use Rattle.at_demand.specs.Known.{meaning}
+use Rattle.at_evaluate.specs.Valued.{meaning}
 use Rattle.at_demand.specs.Touched.{Touches}
 
 -- the edit touches nothing that supports the instance

@@ -18,13 +18,15 @@ use Rattle.at_demand.specs.declared.trying.Tried.TheVariants as tried
 use Rattle.at_demand.specs.Answerable.{AreFinds, IsAnswerable}
 use Rattle.at_demand.specs.Attempts.{HasFound, IsGoing}
 use Rattle.at_demand.specs.Forming.{waits_for}
-use Rattle.at_demand.specs.Known.{ArePlain, kept_values, known_in, meaning}
+use Rattle.at_evaluate.specs.Valued.{ArePlain, kept_values, meaning}
+use Rattle.at_demand.specs.Known.{known_in, AreThere}
 use Rattle.at_demand.specs.Levels.{IsFormOf}
-use Rattle.at_demand.specs.Meant.{AreRightValues}
+use Rattle.at_evaluate.specs.Meant.{AreRightValues}
 use Rattle.at_demand.specs.Only.{AreLean}
-use Rattle.at_demand.specs.Right.{AreRight, AreThere, IsThere}
+use Rattle.at_evaluate.specs.Right.{AreRight, IsThere}
 use Rattle.at_demand.specs.Turns.{HasMetAll}
-use Rattle.at_demand.specs.Sparing.{AddsWorthy, AreSettled, AreSpare, Counts, MayGain}
+use Rattle.at_evaluate.specs.Sparing.{AddsWorthy, AreSpare, Counts}
+use Rattle.at_demand.specs.Worth.{AreSettled, MayGain}
 
 -- it demands another instance, which is well typed, and neither kept nor found; and it waits for that
 pub record NeedsOther (rules : Rules) (at : ClassAt ℕ) (look : Contents ℕ) (entries : Entries) (found : List (Instance ℕ × Find)) (i j : Instance ℕ)

@@ -24,14 +24,15 @@ use Rattle.at_demand.specs.declared.evaluation.Find.{Find}
 use Rattle.at_demand.specs.declared.question.Question.{Question}
 use Rattle.at_rules.specs.Circular.{HasNoneCircular}
 use Rattle.at_demand.specs.declared.answer.Answer.{Answer as AnswerCode}
-use Rattle.at_demand.specs.Known.{answer_view, equations, meaning, kept_values, FoundKept, IsFound, IsKept}
+use Rattle.at_demand.specs.Known.{answer_view, FoundKept, IsFound}
+use Rattle.at_evaluate.specs.Valued.{equations, meaning, kept_values, IsKept}
 use Rattle.at_demand.specs.Levels.{AreWholeOrSeen, LevelCode, StandsByLevels, StandsFor, all_levels, asked_by, known_to, root_in, seen_in}
 use Rattle.at_demand.specs.Covering.{AreWhole}
-use Rattle.at_demand.specs.Meant.{AreRightValues}
+use Rattle.at_evaluate.specs.Meant.{AreRightValues}
 use Rattle.at_demand.specs.Only.{AreLean}
-use Rattle.at_demand.specs.Reasons.{AreLed}
+use Rattle.at_evaluate.specs.Led.{AreLed}
 use Rattle.at_demand.specs.Sound.{AreSound}
-use Rattle.at_demand.specs.Sparing.{AreSettled, MayAddLazy}
+use Rattle.at_demand.specs.Worth.{AreSettled, MayAddLazy}
 
 -- the values that were found
 abbrev pub found_of : List (Instance ℕ × Find) → List (Instance ℕ × Value ℕ)

@@ -8,7 +8,7 @@ use Rattle.at_body.specs.Rest.{reached}
 use Rattle.at_body.specs.declared.trial.Step.{Step}
 use Rattle.at_body.specs.declared.trial.Step.TheVariants as step
 use Rattle.at_body.specs.declared.trial.Trial.{Trial}
-use Rattle.at_demand.specs.Known.{equations, meaning}
+use Rattle.at_evaluate.specs.Valued.{equations, meaning}
 
 -- what is left of an evaluation that has come so far
 abbrev pub left_of : {N A : Type 0} → Reached N A → Run N A

@@ -6,7 +6,7 @@ use Rattle.at_store.specs.Shown.{Shown}
 use Rattle.at_cache.specs.Kept.{Entries}
 use Rattle.at_cache.specs.Traced.{IsOutdated, Memories, SparesAtEdit, Trace}
 use Rattle.at_demand.specs.InTurns.{CountsKept, PutsInTurns, WasPut}
-use Rattle.at_demand.specs.Made.{Makes}
+use Rattle.at_evaluate.specs.Made.{Makes}
 use Rattle.at_demand.specs.Touched.{Touches}
 
 -- By questions that were answered in one go, by turns, and by edits, the old memories came to be the new ones; and the number of values that

@@ -8,15 +8,15 @@ ghost use Rattle.at_body.specs.Values.{value_view};
 ghost use Rattle.at_cache.specs.Kept.{AreKept, AreNamed, Answers as Says, LeavesKept, value_at};
 ghost use Rattle.at_cache.specs.Traced.{StayTraced};
 ghost use Rattle.at_demand.specs.Answerable.{CanBeAsked, CanBeKept, CanBeKeptLazily};
-ghost use Rattle.at_demand.specs.Known.{meaning};
-ghost use Rattle.at_demand.specs.Made.{Makes};
+ghost use Rattle.at_evaluate.specs.Valued.{meaning};
+ghost use Rattle.at_evaluate.specs.Made.{Makes};
 ghost use Rattle.at_demand.specs.Keeping.{IsKeptWhereLazy, IsPlaced, IsPut};
 ghost use Rattle.at_demand.specs.Answered.{Forgets, IsAnswered, is_over};
-ghost use Rattle.at_demand.specs.Reasons.{AreLed};
-ghost use Rattle.at_demand.specs.Sparing.{AreSpare, HasWorthy};
-ghost use Rattle.at_demand.specs.Inner.{Gains};
-ghost use Rattle.at_demand.specs.InParts.{AreHeld, HasGrown, held};
-ghost use Rattle.at_demand.specs.Traces.{StayJustified};
+ghost use Rattle.at_evaluate.specs.Led.{AreLed};
+ghost use Rattle.at_evaluate.specs.Sparing.{AreSpare, HasWorthy};
+ghost use Rattle.at_evaluate.specs.Inner.{Gains};
+ghost use Rattle.at_evaluate.specs.InParts.{AreHeld, HasGrown, held};
+ghost use Rattle.at_evaluate.specs.Traces.{StayJustified};
 
 mod recalling;
 mod searching;
@@ -25,16 +25,14 @@ mod solving;
 mod turning;
 
 use crate::answer::Answer;
-use crate::basis::Basis;
 use crate::caution::Caution;
-use crate::direct::Direct;
 use crate::evaluation::Find;
 use crate::question::Question;
 use crate::sharing::Sharing;
 use crate::trials::Trials;
-use at_apply::Stop;
 use at_body::{Inst, Value};
 use at_cache::{Keeper, Order};
+use at_evaluate::{Basis, Direct, Stop};
 use at_rules::Rules;
 use at_store::{Loc, Places, Store};
 use indexmap::IndexMap;
@@ -154,8 +152,8 @@ impl<K: Keeper> Demand<K> {
     {
         let mut direct = Direct::new(self.alloc, self.work, self.made);
         let told = direct.answer(&mut self.keeper, &Basis { rules, store }, inst, deepest);
-        self.work = direct.work;
-        self.made = direct.made;
+        self.work = direct.work();
+        self.made = direct.made();
         match told {
             Ok(value) => Ok(Some(value)),
             Err(Stop::GivesUp) => Ok(None),

@@ -7,8 +7,9 @@ ghost use Rattle.at_body.specs.Typed.{class_shown};
 ghost use Rattle.at_body.specs.TypedForms.{IsTypedProgress};
 ghost use Rattle.at_demand.specs.Answerable.{CanBeFormed, IsBasis};
 ghost use Rattle.at_demand.specs.Forming.{HasBegunForming, HasGoneOnForming};
-ghost use Rattle.at_demand.specs.Known.{AreValued, known_in, meaning};
-ghost use Rattle.at_demand.specs.Meant.{AreRightValues};
+ghost use Rattle.at_evaluate.specs.Valued.{AreValued, meaning};
+ghost use Rattle.at_demand.specs.Known.{known_in};
+ghost use Rattle.at_evaluate.specs.Meant.{AreRightValues};
 
 use crate::evaluation::{Demanded, Find, Recalled};
 use at_body::{Forming, Formula, Inst, Progress};

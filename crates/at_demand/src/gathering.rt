@@ -2,7 +2,8 @@
 
 ghost use Rattle.std.specs.Prelude.{◌≡◌, ◌++◌, ◌∷◌, [], IfOk, OnOk};
 ghost use Rattle.at_cache.specs.Kept.{AreKept};
-ghost use Rattle.at_demand.specs.Known.{AreValued, FoundKept};
+ghost use Rattle.at_evaluate.specs.Valued.{AreValued};
+ghost use Rattle.at_demand.specs.Known.{FoundKept};
 ghost use Rattle.at_demand.specs.Covering.{Adds, AddsAt, AreGathered, Visits};
 ghost use Rattle.at_demand.specs.Only.{AddsOnly, AddsOnlyAt, AreFrom, VisitsOnly};
 

@@ -11,7 +11,7 @@ ghost use Rattle.at_model.specs.of_fixpoints.Circles.{Answers};
 ghost use Rattle.at_model.specs.of_fixpoints.Fixpoints.{Holds};
 ghost use Rattle.at_model.specs.of_fixpoints.Resting.{Leads, Supports};
 ghost use Rattle.at_rules.specs.Circular.{HasNoneCircular};
-ghost use Rattle.at_demand.specs.Known.{equations, meaning};
+ghost use Rattle.at_evaluate.specs.Valued.{equations, meaning};
 ghost use Rattle.at_model.specs.Rules.{Rules};
 ghost use Rattle.at_model.specs.Alike.{InstanceLike, Names};
 ghost use Rattle.at_model.specs.Machine.{Asks, Edits, State};
@@ -20,15 +20,15 @@ ghost use Rattle.at_model.specs.Edits.{Edit, edited};
 ghost use Rattle.at_store.specs.Preparing.{IsCommitted};
 ghost use Rattle.at_store.specs.Shown.{IsIdle, Shown, contents, path, tree};
 ghost use Rattle.at_cache.specs.Kept.{Entries, LeavesUntouched, LosesTouched};
-ghost use Rattle.at_demand.specs.Right.{AreRight};
+ghost use Rattle.at_evaluate.specs.Right.{AreRight};
 ghost use Rattle.at_demand.specs.Spared.{LeavesJust};
 ghost use Rattle.at_demand.specs.Answered.{AddsMet, HasWorthyFor};
-ghost use Rattle.at_demand.specs.Sparing.{AddsWorthy, AreSpare, Counts};
+ghost use Rattle.at_evaluate.specs.Sparing.{AddsWorthy, AreSpare, Counts};
 ghost use Rattle.at_demand.specs.Called.{KeptBy, Keeps};
 ghost use Rattle.at_demand.specs.Touched.{Touches};
-ghost use Rattle.at_demand.specs.Traces.{AreJustified, AreOfTree, IsRemembered};
+ghost use Rattle.at_evaluate.specs.Traces.{AreJustified, AreOfTree, IsRemembered};
 ghost use Rattle.at_cache.specs.Traced.{FlushesTraces, Memories, StayTraced, Trace};
-ghost use Rattle.at_demand.specs.Made.{Makes};
+ghost use Rattle.at_evaluate.specs.Made.{Makes};
 ghost use Rattle.at_demand.specs.Went.{HasCause, Went, asked};
 
 /// Over an edit that is done, what is kept stays right where it stands for no location that the edit touches.

@@ -1,32 +1,29 @@
 //! Questions: the answer that the equations give for an instance, by demands, none of which is of an instance under way.
 //!
-//! **Its specs**, in order: `Known` is what is known meanwhile, `UnderWay` how far an evaluation has come; `Right` says when what is kept is right,
-//! `Covering` how the locations of an entry come together, `Only` that nothing else does, `Keeping` what becomes of a
-//! find that is to be kept, and which entries without a value come before; `Sparing` how little of that is enough and how
-//! much comes, `Advancing` what an evaluation comes to and `Answered` a question, `Touched` and `Spared` what an edit leaves,
-//! `Called` the same by paths. `Inner` is what instances are told that are evaluated in one go, and what comes of it, `InParts` the same of an
-//! expression, part by part, and how each function of it ends, and `Traces` when what can be kept again with no evaluation is right; `Made` says which values
-//! are evaluated all the same, and why, `InTurns` what turns put, and `Went` how that goes on over questions, turns and edits. What a value may carry: `OneProof`. Of questions in turns, `Turns` shows one in the words of `at_model`, `Attempts` is what
-//! one try comes to, `ChainSteps` what that does to the chain, `KeptTrials` the trials that stay while turns follow
-//! each other. `Answerable` says once on which conditions all of that is asked for. Where attributes are circular a question goes level by
-//! level: `Meant` and `Levels` say what stands between turns, `Forming` and `Tries` what a try comes to, `Groups` what becomes of instances
-//! that are solved together, `Searches` how a search goes on between two tries.
+//! **Its specs**, in order: `Known` is what is known meanwhile, `UnderWay` how far an evaluation has come; `Covering` says how the locations of
+//! an entry come together, `Only` that nothing else does, `Keeping` what becomes of a find that is to be kept, and which entries without a
+//! value come before; `Worth` what is worth keeping for a question, and how much comes, `Advancing` what an evaluation comes to and `Answered`
+//! a question, `Touched` and `Spared` what an edit leaves, `Called` the same by paths. `InTurns` is what turns put, and `Went` how that goes on
+//! over questions, turns and edits. Of questions in turns, `Turns` shows one in the words of `at_model`, `Attempts` is what one try comes to,
+//! `ChainSteps` what that does to the chain, `KeptTrials` the trials that stay while turns follow each other. `Answerable` says once on which
+//! conditions all of that is asked for. Where attributes are circular a question goes level by level: `Levels` says what stands between turns,
+//! `Forming` and `Tries` what a try comes to, `Groups` what becomes of instances that are solved together, `Searches` how a search goes on
+//! between two tries. When what is kept is right and spare, and what can be kept again is right, `at_evaluate` says.
 //!
-//! **Where to begin:** `Demand::answer` in `demand.rt`: a question is answered in one go by `direct.rt`, a recursion to which rules and tree are
-//! lent as one (`basis.rt`), or where that gives up by all turns of a question, which is `question.rt` and `demand/turning.rt`, with evaluations of `evaluation.rt`;
-//! the last instance is evaluated in one go before its turn, where it is one of those that mostly can be (`caution.rt`), or where the chain is long. It holds nothing of
-//! rules or tree between turns. Once an equation ends by a formula its level is a search: `demand/searching.rt` goes on with it over what
-//! `at_search` says, and `demand/solving.rt` keeps what is solved. What many kept values rest on is gathered in `gathering.rt` and stands once by `demand/shared.rt`.
+//! **Where to begin:** `Demand::answer` in `demand.rt`: a question is answered in one go by `at_evaluate`, or where that gives up by all turns
+//! of a question, which is `question.rt` and `demand/turning.rt`, with evaluations of `evaluation.rt`; the last instance is evaluated in one go
+//! before its turn, where it is one of those that mostly can be (`caution.rt`), or where the chain is long. It holds nothing of rules or tree
+//! between turns. Once an equation ends by a formula its level is a search: `demand/searching.rt` goes on with it over what `at_search` says,
+//! and `demand/solving.rt` keeps what is solved. What many kept values rest on is gathered in `gathering.rt` and stands once by
+//! `demand/shared.rt`.
 //!
-//! **What it keeps true:** what is kept is right, and spare where it was; `laws.rt` and `turning_laws.rt`
-//! say that it stays so over questions and edits.
+//! **What it keeps true:** what is kept is right, and spare where it was; `laws.rt` and `turning_laws.rt` say that it stays so over questions
+//! and edits.
 #![tactic(auto)]
 
 mod answer;
-mod basis;
 mod caution;
 mod demand;
-mod direct;
 mod evaluation;
 mod formation;
 mod gathering;

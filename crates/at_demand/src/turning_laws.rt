@@ -22,11 +22,12 @@ ghost use Rattle.at_cache.specs.Traced.{Memories, Settled, TracesNothing};
 ghost use Rattle.at_demand.specs.Again.{KeepsAgain};
 ghost use Rattle.at_demand.specs.Answerable.{CanBegin};
 ghost use Rattle.at_demand.specs.declared.question.Question.{Question};
-ghost use Rattle.at_demand.specs.Inner.{AreKnown};
-ghost use Rattle.at_demand.specs.Known.{equations, kept_values, meaning};
-ghost use Rattle.at_demand.specs.Meant.{AreRightValues};
-ghost use Rattle.at_demand.specs.Reasons.{AddsDemanded, DemandsOn, HasReason, HasReasons};
-ghost use Rattle.at_demand.specs.Traces.{AreJustified};
+ghost use Rattle.at_evaluate.specs.Inner.{AreKnown};
+ghost use Rattle.at_evaluate.specs.Valued.{equations, kept_values, meaning};
+ghost use Rattle.at_evaluate.specs.Meant.{AreRightValues};
+ghost use Rattle.at_evaluate.specs.Led.{AddsDemanded, DemandsOn};
+ghost use Rattle.at_demand.specs.Reasons.{HasReason, HasReasons};
+ghost use Rattle.at_evaluate.specs.Traces.{AreJustified};
 ghost use Rattle.at_demand.specs.Turns.{AreTurns, AreTurnsOfChain, IsSparingTurns, IsStanding, MayComeIn};
 
 /// Twice the number of all instances is two more than the turns that a question is given without an answer, whatever is kept

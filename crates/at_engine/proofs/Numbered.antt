@@ -17,7 +17,7 @@ use Rattle.at_store.specs.Shown.{IsIdle, Shown, contents, numbers, path, tree}
 use Rattle.at_store.specs.View.{memory_of}
 use Rattle.at_store.proofs.Found.{path_injective}
 use Rattle.at_store.proofs.Relabelled.{contents_alike}
-use Rattle.at_demand.specs.Known.{meaning}
+use Rattle.at_evaluate.specs.Valued.{meaning}
 
 -- what is shown at a number is what the tree shows at its node
 pub shown_alike : (s : Shown) → IsIdle s → (l : Location ℕ) → AlikeAt (Names (path s)) (contents s) (content (tree s)) l

@@ -14,7 +14,7 @@ use Rattle.at_store.specs.Shown.{Shown, path}
 use Rattle.at_cache.specs.Kept.{Entries}
 use Rattle.at_cache.specs.Traced.{Memories}
 use Rattle.at_body.specs.Typed.{class_shown}
-use Rattle.at_demand.specs.Right.{IsThere}
+use Rattle.at_evaluate.specs.Right.{IsThere}
 use Rattle.at_engine.specs.Engines.{rules_of, state_of, IsHeld, IsSound}
 use Rattle.at_engine.specs.Marks.{Mark, AreThere}
 use Rattle.at_engine.specs.Naming.{IsNumberOf}

@@ -6,7 +6,7 @@ use Rattle.at_model.specs.Machine.{State}
 use Rattle.at_model.specs.WellFormed.{AreWellFormed}
 use Rattle.at_cache.specs.Kept.{Entries, KeepsAll}
 use Rattle.at_cache.specs.Traced.{Memories, TracesNothing}
-use Rattle.at_demand.specs.Meant.{AreCircularWell}
+use Rattle.at_evaluate.specs.Meant.{AreCircularWell}
 use Rattle.at_engine.specs.Holding.{state_in, IsSoundWith}
 use Rattle.at_engine.specs.Lasting.{IsKnown}
 use Rattle.at_engine.specs.declared.engine.Engine.{Engine}

@@ -17,10 +17,10 @@ use Rattle.at_store.specs.Shown.{IsIdle, Shown, tree, path}
 use Rattle.at_body.specs.Typed.{class_shown}
 use Rattle.at_cache.specs.Kept.{Entries}
 use Rattle.at_cache.specs.Traced.{Memories}
-use Rattle.at_demand.specs.Known.{IsKept}
+use Rattle.at_evaluate.specs.Valued.{IsKept}
 use Rattle.at_demand.specs.Levels.{asked_by}
-use Rattle.at_demand.specs.Right.{AreRight}
-use Rattle.at_demand.specs.Traces.{IsRemembered}
+use Rattle.at_evaluate.specs.Right.{AreRight}
+use Rattle.at_evaluate.specs.Traces.{IsRemembered}
 use Rattle.at_demand.specs.Turns.{IsStanding}
 use Rattle.at_demand.specs.declared.question.Question.{Question}
 use Rattle.at_engine.specs.Marks.{Mark, marks_view, AreThere}

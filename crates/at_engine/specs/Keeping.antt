@@ -8,7 +8,7 @@ use Rattle.at_model.specs.Machine.{Verdict, after}
 use Rattle.at_rules.specs.Circular.{HasNoneCircular}
 use Rattle.at_store.specs.Shown.{contents}
 use Rattle.at_cache.specs.Kept.{Entries}
-use Rattle.at_demand.specs.Sparing.{AreSpare}
+use Rattle.at_evaluate.specs.Sparing.{AreSpare}
 use Rattle.at_demand.specs.Called.{KeptBy, Keeps}
 use Rattle.at_demand.specs.Groups.{KeepsGroups}
 use Rattle.at_demand.specs.Turns.{IsSparingTurns}

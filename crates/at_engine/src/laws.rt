@@ -9,7 +9,7 @@ ghost use Rattle.at_store.specs.Shown.{Shown};
 ghost use Rattle.at_cache.specs.Kept.{Entries};
 ghost use Rattle.at_cache.specs.Traced.{Memories};
 ghost use Rattle.at_demand.specs.Answered.{HasWorthyFor};
-ghost use Rattle.at_demand.specs.Sparing.{HasWorthy};
+ghost use Rattle.at_evaluate.specs.Sparing.{HasWorthy};
 ghost use Rattle.at_demand.specs.Turns.{AreTurnsOfChain, BreaksOffChain, under_way};
 ghost use Rattle.at_demand.specs.declared.question.Question.{Question};
 ghost use Rattle.at_engine.specs.Keeping.{KeepsWhole};

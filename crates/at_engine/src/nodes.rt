@@ -1,7 +1,7 @@
 //! The nodes of a store in which no edit waits.
 
 ghost use Rattle.at_store.specs.Shown.{IsIdle};
-ghost use Rattle.at_demand.specs.OneProof.{idle_prop};
+ghost use Rattle.at_evaluate.specs.OneProof.{idle_prop};
 
 use at_store::{Node, Store};
 

@@ -4,8 +4,8 @@ ghost use Rattle.at_store.specs.Shown.{IsIdle};
 
 use crate::rows::holds_at;
 use crate::stores::{classes, loaded};
-use at_apply::{Here, Next, Stop, asked_of_each, compare, settle, with_two};
 use at_body::{Arguments, Binary, Fold, Reads, Stack, Value};
+use at_evaluate::{Here, Next, Stop, asked_of_each, compare, settle, with_two};
 use at_rules::{AttrId, Body, Operator};
 use at_store::{Loc, Node, Store};
 use std::alloc::Global;

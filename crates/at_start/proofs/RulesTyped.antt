@@ -15,7 +15,7 @@ use Rattle.at_typing.specs.Declaring.{IsNotCircular}
 use Rattle.at_typing.specs.Located.{IsSpelled, from_file, located}
 use Rattle.at_typing.proofs.BuiltWellFormed.{built_well_formed, built_plain, declared_well_formed}
 use Rattle.at_typing.proofs.Starting.{file_plain}
-use Rattle.at_demand.specs.Meant.{AreCircularWell}
+use Rattle.at_evaluate.specs.Meant.{AreCircularWell}
 use Rattle.at_start.specs.AspectFiles.{GivesRules, AllHold, reads_circular}
 use Rattle.at_start.specs.declared.language.Language.{Language}
 use Rattle.at_start.specs.declared.language.Language.TheVariants.{Profile, JastAdd}

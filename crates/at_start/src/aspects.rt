@@ -4,7 +4,7 @@ ghost use Rattle.std.specs.Prelude.{◌≡◌, map, Ok, IfOk, IfErr};
 ghost use Rattle.at_jrag.specs.View.{aspect_view};
 ghost use Rattle.at_model.specs.WellFormed.{AreWellFormed, IsHierarchy};
 ghost use Rattle.at_rules.specs.Circular.{AreCircularLazy};
-ghost use Rattle.at_demand.specs.Meant.{AreCircularWell};
+ghost use Rattle.at_evaluate.specs.Meant.{AreCircularWell};
 ghost use Rattle.at_typing.specs.Building.{Builds};
 ghost use Rattle.at_typing.specs.Located.{declarations_in};
 ghost use Rattle.at_start.specs.AspectFiles.{Holds, AllHold, GivesRules, IsReadingFaultOf, IsAspectFault, IsUnread, IsRuleFault, java_code, jrag_code, rule_code};

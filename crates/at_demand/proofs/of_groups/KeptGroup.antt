@@ -19,11 +19,13 @@ use Rattle.at_demand.specs.declared.evaluation.Find.{Find}
 use Rattle.at_demand.specs.declared.question.Question.{Question}
 use Rattle.at_demand.specs.Covering.{AreWhole, AreWholeIn, Extends, IsFirst, IsWhole, by_first, in_group}
 use Rattle.at_demand.specs.Groups.{CanBeFirst, CanBeOther, CanKeepGroup, HasKeptFirst, HasKeptGroup, HasKeptOther, IsFindOf, IsFirstAt, IsMember, KeepsGroups, KeepsOther, Tells, UsesFirst}
-use Rattle.at_demand.specs.Known.{IsFound, IsKept, KeepsEntries, kept_values, meaning}
+use Rattle.at_demand.specs.Known.{IsFound}
+use Rattle.at_evaluate.specs.Valued.{IsKept, KeepsEntries, kept_values, meaning}
 use Rattle.at_demand.specs.Levels.{known_to}
 use Rattle.at_demand.specs.Only.{AreLean, IsLean, TakesOnly}
-use Rattle.at_demand.specs.Sparing.{AreSettled, AreSpare, IsDeep}
-use Rattle.at_demand.proofs.Entered.{entered, is_there, kept_on, not_none}
+use Rattle.at_demand.specs.Worth.{AreSettled}
+use Rattle.at_evaluate.specs.Sparing.{AreSpare, IsDeep}
+use Rattle.at_evaluate.proofs.Entered.{entered, is_there, kept_on, not_none}
 use Rattle.at_demand.proofs.Extending.{get_more}
 use Rattle.at_demand.proofs.Gaining.{is_kept, whole_alone}
 use Rattle.at_demand.proofs.Keys.{goes_last, no_key}

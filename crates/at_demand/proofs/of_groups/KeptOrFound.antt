@@ -15,11 +15,12 @@ use Rattle.at_demand.specs.declared.evaluation.Demanded.{Demanded}
 use Rattle.at_demand.specs.declared.evaluation.Find.{Find}
 use Rattle.at_demand.specs.declared.question.Question.{Question}
 use Rattle.at_demand.specs.Groups.{CanBeFirst, CanBeOther, HasKeptFirst, IsFirstAt, IsOtherFind, UsesFirst}
-use Rattle.at_demand.specs.Known.{AreValued, IsKept, found_values, kept_values, known_in}
+use Rattle.at_evaluate.specs.Valued.{AreValued, IsKept, kept_values}
+use Rattle.at_demand.specs.Known.{found_values, known_in}
 use Rattle.at_demand.specs.Levels.{known_to}
-use Rattle.at_demand.proofs.Entered.{is_there}
+use Rattle.at_evaluate.proofs.Entered.{is_there}
 use Rattle.at_demand.proofs.Keys.{goes_last, no_key}
-use Rattle.at_demand.proofs.Sameness.{same_refl}
+use Rattle.at_evaluate.proofs.Sameness.{same_refl}
 
 -- an exit with an error has no value
 pub no_ok : {T E : Type 0} (r : Result T E) (Q : E → Type 0) (P : T → Type 0) → IsErrAnd r Q → IfOk r P

@@ -18,11 +18,12 @@ use Rattle.at_demand.specs.declared.question.Question.{Question}
 use Rattle.at_demand.specs.ChainSteps.{HasMarkedAll}
 use Rattle.at_demand.specs.Covering.{AreWhole}
 use Rattle.at_demand.specs.Groups.{HasMarkedSolved, HasSolved, KeepsGroups, Tells}
-use Rattle.at_demand.specs.Known.{FoundKept, known_in, meaning}
+use Rattle.at_demand.specs.Known.{FoundKept, known_in}
+use Rattle.at_evaluate.specs.Valued.{meaning}
 use Rattle.at_demand.specs.Levels.{AreFactsOf, IsFormOf}
-use Rattle.at_demand.specs.Meant.{AreRightValues}
+use Rattle.at_evaluate.specs.Meant.{AreRightValues}
 use Rattle.at_demand.specs.Only.{AreLean}
-use Rattle.at_demand.specs.Sparing.{AreSettled}
+use Rattle.at_demand.specs.Worth.{AreSettled}
 use Rattle.at_demand.proofs.Marking.{told_among}
 use Rattle.at_demand.proofs.of_groups.KeptGroup.{err_ok, fails_too}
 use Rattle.at_demand.proofs.of_groups.Members.{entry_key, key_entry}

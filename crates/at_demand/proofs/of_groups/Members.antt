@@ -31,10 +31,10 @@ use Rattle.at_demand.specs.declared.evaluation.Find.{Find}
 use Rattle.at_demand.specs.declared.question.Question.{Question}
 use Rattle.at_demand.specs.Covering.{AreWholeIn, IsDemanded}
 use Rattle.at_demand.specs.Groups.{CanKeepGroup, IsFindOf, IsMember}
-use Rattle.at_demand.specs.Known.{AreValued, IsKept, meaning}
+use Rattle.at_evaluate.specs.Valued.{AreValued, IsKept, meaning}
 use Rattle.at_demand.specs.Levels.{known_to}
 use Rattle.at_demand.specs.Only.{IsLean}
-use Rattle.at_demand.proofs.Entered.{is_there}
+use Rattle.at_evaluate.proofs.Entered.{is_there}
 use Rattle.at_demand.proofs.Extending.{map_among}
 use Rattle.at_demand.proofs.Keys.{is_key, no_key}
 use Rattle.at_demand.proofs.OnlyLemmas.{get_among}

@@ -20,9 +20,9 @@ use Rattle.at_search.specs.declared.ended.Formed.{Formed}
 use Rattle.at_search.specs.declared.solving.Solved.{Solved}
 use Rattle.at_demand.specs.declared.question.Question.{Question}
 use Rattle.at_demand.specs.Groups.{CanKeepGroup, CanSolve, HasKeptGroup, HasSolved, IsMember, KeepsGroups, Tells, start_in}
-use Rattle.at_demand.specs.Known.{meaning}
+use Rattle.at_evaluate.specs.Valued.{meaning}
 use Rattle.at_demand.specs.Levels.{known_to}
-use Rattle.at_demand.proofs.Entered.{is_there, not_none}
+use Rattle.at_evaluate.proofs.Entered.{is_there, not_none}
 use Rattle.at_demand.proofs.of_groups.KeptGroup.{err_ok, fails_too}
 use Rattle.at_demand.proofs.of_groups.Telling.{circular_lazy, tells_none, tells_so, tells_then}
 use Rattle.at_demand.proofs.of_groups.TellingOne.{known_still}

@@ -15,17 +15,19 @@ use Rattle.at_cache.specs.Traced.{Memories}
 use Rattle.at_demand.specs.declared.evaluation.Find.{Find}
 use Rattle.at_demand.specs.declared.question.Question.{Question}
 use Rattle.at_demand.specs.Groups.{StaysAsIs, Tells}
-use Rattle.at_demand.specs.Known.{ArePlain, FoundKept, IsFound, IsKept, found_values, kept_values, known_in, meaning}
+use Rattle.at_evaluate.specs.Valued.{ArePlain, IsKept, kept_values, meaning}
+use Rattle.at_demand.specs.Known.{FoundKept, IsFound, found_values, known_in, AreThere}
 use Rattle.at_demand.specs.Levels.{known_to}
-use Rattle.at_demand.specs.Meant.{AreRightValues}
+use Rattle.at_evaluate.specs.Meant.{AreRightValues}
 use Rattle.at_demand.specs.Only.{AreLean}
-use Rattle.at_demand.specs.Right.{AreRight, AreThere, IsThere}
-use Rattle.at_demand.specs.Sparing.{AreSettled, AreSpare}
-use Rattle.at_demand.proofs.Counting.{counts_more, counts_none}
-use Rattle.at_demand.proofs.Entered.{entered, entered_on, is_there, kept_on, there}
+use Rattle.at_evaluate.specs.Right.{AreRight, IsThere}
+use Rattle.at_demand.specs.Worth.{AreSettled}
+use Rattle.at_evaluate.specs.Sparing.{AreSpare}
+use Rattle.at_evaluate.proofs.Counting.{counts_more, counts_none}
+use Rattle.at_evaluate.proofs.Entered.{entered, entered_on, is_there, kept_on, there}
 use Rattle.at_demand.proofs.Extending.{extends_on}
-use Rattle.at_demand.proofs.Sameness.{same_true}
-use Rattle.at_demand.proofs.There.{found_once}
+use Rattle.at_evaluate.proofs.Sameness.{same_true}
+use Rattle.at_demand.proofs.Keys.{found_once}
 use Rattle.at_demand.proofs.of_groups.KeptOrFound.{found_known}
 use Rattle.at_demand.proofs.of_traces.TurnsPut.{puts_same, puts_then}
 

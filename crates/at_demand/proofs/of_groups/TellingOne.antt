@@ -20,13 +20,14 @@ use Rattle.at_demand.specs.declared.evaluation.Find.{Find}
 use Rattle.at_demand.specs.declared.question.Question.{Question}
 use Rattle.at_demand.specs.Covering.{AreWhole, Extends, IsWhole}
 use Rattle.at_demand.specs.Groups.{IsKeptOrFound, Tells}
-use Rattle.at_demand.specs.Known.{AreValued, FoundKept, IsKept, KeepsEntries, found_values, kept_values, known_in, meaning}
+use Rattle.at_evaluate.specs.Valued.{AreValued, IsKept, KeepsEntries, kept_values, meaning}
+use Rattle.at_demand.specs.Known.{FoundKept, found_values, known_in}
 use Rattle.at_demand.specs.Levels.{AreFactsOf, IsFormOf, known_to}
-use Rattle.at_demand.specs.Meant.{AreRightValues}
+use Rattle.at_evaluate.specs.Meant.{AreRightValues}
 use Rattle.at_demand.specs.Only.{AreLean, IsLean}
-use Rattle.at_demand.specs.Sparing.{AreSettled, IsSettled}
+use Rattle.at_demand.specs.Worth.{AreSettled, IsSettled}
 use Rattle.at_demand.proofs.Attempted.{right_stays}
-use Rattle.at_demand.proofs.Entered.{entered, is_there, kept_on, there, value_on}
+use Rattle.at_evaluate.proofs.Entered.{entered, is_there, kept_on, there, value_on}
 use Rattle.at_demand.proofs.Entering.{founds_on}
 use Rattle.at_demand.proofs.Extending.{get_more}
 use Rattle.at_demand.proofs.Gaining.{is_kept, settled_still}

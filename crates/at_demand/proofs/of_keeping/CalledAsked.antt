@@ -13,8 +13,8 @@ use Rattle.at_model.specs.of_fixpoints.Likeness.{FormsLike}
 use Rattle.at_model.specs.of_fixpoints.Circles.{Circular}
 use Rattle.at_model.specs.of_fixpoints.Met.{IsMet}
 use Rattle.at_model.specs.Sparing.{IsWorthKeeping, AreAdded}
-use Rattle.at_demand.specs.Known.{meaning}
-use Rattle.at_demand.specs.Sparing.{IsWorthKeeping as IsWorth}
+use Rattle.at_evaluate.specs.Valued.{meaning}
+use Rattle.at_demand.specs.Worth.{IsWorthKeeping as IsWorth}
 use Rattle.at_demand.proofs.of_keeping.CalledMet.{circle_back, met_back, met_there}
 use Rattle.at_model.proofs.of_likeness.CarryingCircles.{instance-agrees, names_agree}
 use Rattle.at_model.proofs.of_formulas.CarriedByFormulas.{outcome_back, outcome_there, leads_back, leads_there}

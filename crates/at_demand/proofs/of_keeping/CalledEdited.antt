@@ -17,7 +17,7 @@ use Rattle.at_model.proofs.of_likeness.CarryingCircles.{names_agree}
 use Rattle.at_model.proofs.of_formulas.CarriedByFormulas.{supports_back, supports_there}
 use Rattle.at_model.proofs.of_formulas.FormulasAlike.{evaluation-like}
 use Rattle.at_model.proofs.Nodes.{same_like, nat_eq-is, node_eq-is}
-use Rattle.at_demand.specs.Known.{meaning}
+use Rattle.at_evaluate.specs.Valued.{meaning}
 use Rattle.at_demand.proofs.of_keeping.CalledAsked.{Called}
 
 -- from the one relation and the other to a third one

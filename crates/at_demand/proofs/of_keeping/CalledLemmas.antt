@@ -27,14 +27,15 @@ use Rattle.at_store.specs.Preparing.{IsCommitted}
 use Rattle.at_store.proofs.Found.{path_injective}
 use Rattle.at_store.proofs.Relabelled.{contents_alike}
 use Rattle.at_cache.specs.Kept.{Kept, Entries, value_at}
-use Rattle.at_demand.specs.Known.{meaning, kept_values, IsKept}
-use Rattle.at_demand.specs.Right.{AreRight}
+use Rattle.at_evaluate.specs.Valued.{meaning, kept_values, IsKept}
+use Rattle.at_evaluate.specs.Right.{AreRight}
 use Rattle.at_demand.specs.Answered.{AddsMet, HasWorthyFor}
-use Rattle.at_demand.specs.Sparing.{AreSpare, IsWorthKeeping, AddsWorthy, Counts}
+use Rattle.at_evaluate.specs.Sparing.{AreSpare, AddsWorthy, Counts}
+use Rattle.at_demand.specs.Worth.{IsWorthKeeping}
 use Rattle.at_demand.specs.Spared.{IsUntouched, LeavesJust}
 use Rattle.at_demand.specs.Called.{KeptBy, Keeps}
-use Rattle.at_demand.proofs.Counting.{came_worth, worth_kept}
-use Rattle.at_demand.proofs.Entered.{entered, kept_on, not_none, there as value_kept}
+use Rattle.at_demand.proofs.Working.{came_worth, worth_kept}
+use Rattle.at_evaluate.proofs.Entered.{entered, kept_on, not_none, there as value_kept}
 use Rattle.at_demand.proofs.of_keeping.CalledAsked.{called_after, called_added}
 use Rattle.at_demand.proofs.of_keeping.CalledEdited.{called_edited}
 use Rattle.at_demand.proofs.of_keeping.StayingSpare.{some_kept}

@@ -7,9 +7,9 @@ use Rattle.at_store.specs.Shown.{Shown, IsIdle, contents, numbers, tree}
 use Rattle.at_store.specs.Preparing.{IsCommitted}
 use Rattle.at_store.proofs.Found.{path_injective}
 use Rattle.at_cache.specs.Kept.{Entries, LeavesUntouched, LosesTouched}
-use Rattle.at_demand.specs.Right.{AreRight}
+use Rattle.at_evaluate.specs.Right.{AreRight}
 use Rattle.at_demand.specs.Touched.{Touches}
-use Rattle.at_demand.specs.Sparing.{AreSpare}
+use Rattle.at_evaluate.specs.Sparing.{AreSpare}
 use Rattle.at_demand.specs.Spared.{LeavesJust}
 use Rattle.at_demand.proofs.of_keeping.StayingRight.{over}
 use Rattle.at_demand.proofs.of_keeping.StayingSpare.{leaves_just, spare_after}

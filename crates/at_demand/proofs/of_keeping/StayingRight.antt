@@ -18,9 +18,9 @@ use Rattle.at_store.proofs.Found.{path_injective}
 use Rattle.at_store.proofs.Reading.{shown_there}
 use Rattle.at_store.proofs.Relabelled.{contents_alike}
 use Rattle.at_cache.specs.Kept.{Kept, Entries, LeavesUntouched, value_at}
-use Rattle.at_demand.specs.Known.{meaning, kept_values}
-use Rattle.at_demand.specs.Right.{AreRight, IsValued}
-use Rattle.at_demand.proofs.Entered.{entered, is_there, there as is_entry}
+use Rattle.at_evaluate.specs.Valued.{meaning, kept_values}
+use Rattle.at_evaluate.specs.Right.{AreRight, IsValued}
+use Rattle.at_evaluate.proofs.Entered.{entered, is_there, there as is_entry}
 use Rattle.at_demand.proofs.of_keeping.Staying.{IsOver, there_later, value_later, support_before}
 
 -- what an accepted edit leaves is the tree that it is said to leave

@@ -11,10 +11,10 @@ use Rattle.at_model.specs.Alike.{InstanceLike, LocationLike, Names, IsInjective}
 use Rattle.at_model.specs.Edits.{Edit}
 use Rattle.at_model.specs.Touches.{touches_in}
 use Rattle.at_cache.specs.Kept.{Kept, Entries, LeavesUntouched, LosesTouched, value_at}
-use Rattle.at_demand.specs.Known.{meaning}
-use Rattle.at_demand.specs.Sparing.{IsDeep, AreSpare}
-use Rattle.at_demand.proofs.Entered.{entered}
-use Rattle.at_demand.proofs.Leading.{supports_on}
+use Rattle.at_evaluate.specs.Valued.{meaning}
+use Rattle.at_evaluate.specs.Sparing.{IsDeep, AreSpare}
+use Rattle.at_evaluate.proofs.Entered.{entered}
+use Rattle.at_evaluate.proofs.LeadingOn.{supports_on}
 use Rattle.at_demand.proofs.of_keeping.Staying.{IsOver, support_later, led_before, located}
 
 pub some_kept : (o : Option Kept) → IsSome o → (k : Kept) × (o ≡ Some k)

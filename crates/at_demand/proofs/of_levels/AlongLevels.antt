@@ -20,7 +20,7 @@ use Rattle.at_cache.specs.Traced.{Memories}
 use Rattle.at_search.specs.Recorded.{Recorded}
 use Rattle.at_demand.proofs.of_levels.MetKept.{met_kept}
 use Rattle.at_demand.proofs.of_steps.Met.{have_more, met_more}
-use Rattle.at_demand.specs.Sparing.{AreSpare}
+use Rattle.at_evaluate.specs.Sparing.{AreSpare}
 use Rattle.at_demand.specs.declared.answer.Answer.{Answer}
 use Rattle.at_demand.specs.declared.answer.Answer.TheVariants as answer
 use Rattle.at_demand.specs.declared.demand.searching.Left.{Left}
@@ -31,13 +31,13 @@ use Rattle.at_demand.specs.declared.question.Question.{Question}
 use Rattle.at_demand.specs.declared.trials.Trials.{Trials}
 use Rattle.at_demand.specs.Answered.{HasWorthyFor, HasWorthyMet}
 use Rattle.at_demand.specs.ChainSteps.{KeepsChain}
-use Rattle.at_demand.specs.Known.{KeepsEntries, answer_view, meaning}
+use Rattle.at_evaluate.specs.Valued.{KeepsEntries, meaning}
+use Rattle.at_demand.specs.Known.{answer_view}
 use Rattle.at_demand.specs.KeptTrials.{AreTrials, Fit, FitAfter, FitAt}
 use Rattle.at_demand.specs.Levels.{IsDoneIn, all_levels, asked_by, fault_in, known_to, levels_of, root_in, seen_in}
-use Rattle.at_demand.specs.Searches.{AreSoundFinds, CanClose, CanGoAlong, FollowsTo, FromFirst, GainsBetween, GoesDown, GoesOnSo, IsSeenBy}
-use Rattle.at_demand.specs.Searches.{HasClosed, HasGoneAlong, HasLeft, HasLeftSo, HasSearched, HasSearchedTo, LeavesAll, StaysOn, WasSeenBy}
+use Rattle.at_demand.specs.Searches.{AreSoundFinds, CanClose, CanGoAlong, FollowsTo, FromFirst, GainsBetween, GoesDown, GoesOnSo, IsSeenBy, HasClosed, HasGoneAlong, HasLeft, HasLeftSo, HasSearched, HasSearchedTo, LeavesAll, StaysOn, WasSeenBy}
 use Rattle.at_demand.specs.Turns.{HaveMet, IsFollowed, IsSparingTurns}
-use Rattle.at_demand.proofs.Entered.{entered_on}
+use Rattle.at_evaluate.proofs.Entered.{entered_on}
 use Rattle.at_demand.proofs.of_levels.GainedBetween.{gains_nothing, gains_then, gains_where}
 use Rattle.at_demand.proofs.of_levels.LeavingSo.{HasAll, IsFollowedSo, leaves_with, spares_on}
 use Rattle.at_demand.proofs.of_searches.Moving.{asked_same}

@@ -27,19 +27,19 @@ use Rattle.at_search.specs.declared.ended.Ending.{Ending}
 use Rattle.at_search.specs.declared.ended.Ending.TheVariants as ending
 use Rattle.at_search.specs.declared.ended.Formed.{Formed}
 use Rattle.at_search.proofs.Meeting.{sees}
-use Rattle.at_demand.proofs.Entered.{is_there, not_none}
+use Rattle.at_evaluate.proofs.Entered.{is_there, not_none}
 use Rattle.at_demand.proofs.of_searches.Circling.{one_recorded}
 use Rattle.at_demand.specs.declared.question.Question.{Question}
 use Rattle.at_demand.specs.Answerable.{IsAnswerable}
 use Rattle.at_demand.specs.ChainSteps.{HasEnded, ended_by}
 use Rattle.at_demand.specs.Covering.{AreWhole as AreWholeFinds}
-use Rattle.at_demand.specs.Known.{FoundKept, known_in, meaning}
-use Rattle.at_demand.specs.Levels.{AreFactsOf, AreWholeOrSeen, HasAllEnded, HaveAsked, IsAbout, IsFormOf, IsLevel, LeadsToFault, LevelCode, StandsFor}
-use Rattle.at_demand.specs.Levels.{all_levels, asked_by, fault_in, known_to, level_of, levels_of, root_in, seen_in, todo_in}
+use Rattle.at_demand.specs.Known.{FoundKept, known_in}
+use Rattle.at_evaluate.specs.Valued.{meaning}
+use Rattle.at_demand.specs.Levels.{AreFactsOf, AreWholeOrSeen, HasAllEnded, HaveAsked, IsAbout, IsFormOf, IsLevel, LeadsToFault, LevelCode, StandsFor, all_levels, asked_by, fault_in, known_to, level_of, levels_of, root_in, seen_in, todo_in}
 use Rattle.at_demand.specs.Searches.{AreSoundFinds, IsLooked, StandsBetween}
 use Rattle.at_demand.proofs.Keys.{absent, goes_last, keys_push, lookup_push}
 use Rattle.at_demand.proofs.Marking.{told_among}
-use Rattle.at_demand.proofs.Sameness.{same_refl}
+use Rattle.at_evaluate.proofs.Sameness.{same_refl}
 use Rattle.at_demand.proofs.of_searches.Moving.{asked_same, rooted_in}
 use Rattle.at_demand.proofs.of_searches.OnceTold.{covered_on}
 use Rattle.at_demand.proofs.of_searches.Overgoing.{covered_seen}

@@ -13,9 +13,10 @@ use Rattle.at_cache.specs.Kept.{Entries}
 use Rattle.at_cache.specs.Traced.{Memories}
 use Rattle.at_demand.specs.declared.evaluation.Find.{Find}
 use Rattle.at_demand.specs.declared.question.Question.{Question}
-use Rattle.at_demand.specs.Known.{IsFound, IsKept, found_values, kept_values}
+use Rattle.at_demand.specs.Known.{IsFound, found_values}
+use Rattle.at_evaluate.specs.Valued.{IsKept, kept_values}
 use Rattle.at_demand.specs.Searches.{GainsBetween, WasSeenBy}
-use Rattle.at_demand.proofs.Entered.{entered}
+use Rattle.at_evaluate.proofs.Entered.{entered}
 use Rattle.at_demand.proofs.of_levels.LevelOver.{known_as_found}
 use Rattle.at_demand.proofs.of_levels.Resolving.{either_known}
 

@@ -16,13 +16,13 @@ use Rattle.at_demand.specs.declared.trials.Attempt.TheVariants as attempt
 use Rattle.at_demand.specs.declared.trying.Tried.{Tried}
 use Rattle.at_demand.specs.Covering.{IsTold}
 use Rattle.at_demand.specs.Attempts.{Awaits, HasTried, IsIdleBy as AttemptIsIdle, IsKeptAs, SettlesOn as AttemptSettles}
-use Rattle.at_demand.specs.Forming.{IsFormedBy, IsTriedBy}
-use Rattle.at_demand.specs.Known.{kept_values}
-use Rattle.at_demand.specs.Sparing.{AddsWorthy, AreSettled, MayGain}
+use Rattle.at_demand.specs.Forming.{IsFormedBy, IsTriedBy, waits_for}
+use Rattle.at_evaluate.specs.Valued.{kept_values}
+use Rattle.at_evaluate.specs.Sparing.{AddsWorthy}
+use Rattle.at_demand.specs.Worth.{AreSettled, MayGain}
 use Rattle.at_demand.specs.Tries.{HasTriedTo, IsIdleBy, NeedsOther, SettlesOn}
-use Rattle.at_demand.specs.Forming.{waits_for}
 use Rattle.at_demand.specs.declared.trying.Trying.TheVariants as trying
-use Rattle.at_demand.proofs.Entered.{not_none}
+use Rattle.at_evaluate.proofs.Entered.{not_none}
 use Rattle.at_demand.proofs.Recalling.{unknown}
 use Rattle.at_demand.proofs.of_levels.FailedMet.{failed_met}
 use Rattle.at_demand.proofs.of_levels.Plain.{comes_by_demand, ends_spoilt, past_formula}

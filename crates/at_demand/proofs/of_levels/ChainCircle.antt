@@ -11,9 +11,10 @@ use Rattle.at_rules.specs.Circular.{AreCircularLazy, HasNoneCircular}
 use Rattle.at_cache.specs.Kept.{Entries}
 use Rattle.at_demand.specs.declared.evaluation.Find.{Find}
 use Rattle.at_demand.specs.Covering.{AreWhole}
-use Rattle.at_demand.specs.Known.{IsKept, meaning}
+use Rattle.at_evaluate.specs.Valued.{IsKept, meaning}
 use Rattle.at_demand.specs.Levels.{LevelCode, root_in}
-use Rattle.at_demand.specs.Sparing.{AreSettled, AreSpare, HasWorthy}
+use Rattle.at_demand.specs.Worth.{AreSettled}
+use Rattle.at_evaluate.specs.Sparing.{AreSpare, HasWorthy}
 use Rattle.at_demand.specs.Turns.{HasMet, HaveMet, IsMet, next_root}
 use Rattle.at_demand.proofs.Coming.{comes}
 use Rattle.at_demand.proofs.Gaining.{known_below}

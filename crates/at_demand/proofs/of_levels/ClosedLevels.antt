@@ -22,10 +22,11 @@ use Rattle.at_demand.specs.declared.question.Question.{Question}
 use Rattle.at_demand.specs.ChainSteps.{HasLostSeen, HasRisen, IsRisen, IsUnchanged}
 use Rattle.at_demand.specs.Covering.{AreWhole as AreWholeFinds}
 use Rattle.at_demand.specs.Groups.{KeepsGroups, Tells}
-use Rattle.at_demand.specs.Known.{FoundKept, IsKept, known_in, meaning}
+use Rattle.at_demand.specs.Known.{FoundKept, known_in}
+use Rattle.at_evaluate.specs.Valued.{IsKept, meaning}
 use Rattle.at_demand.specs.Levels.{AreFactsOf, IsCovered, LevelCode, all_levels, asked_by, fault_in, known_to, level_of, levels_of, root_in, seen_in, todo_in}
 use Rattle.at_demand.specs.Searches.{CanClose, CanSolveLevel, GainsBetween, HasClosed, HasSolvedLevel, IsLastUnseen, IsSeenBy, IsSolvable, IsStuckAt, StaysOn}
-use Rattle.at_demand.proofs.Entered.{kept_on}
+use Rattle.at_evaluate.proofs.Entered.{kept_on}
 use Rattle.at_demand.proofs.Recalling.{known_kept}
 use Rattle.at_demand.proofs.of_levels.GainedBetween.{gains_nothing, gains_then, gains_told, gains_where}
 use Rattle.at_demand.proofs.of_searches.Moving.{asked_same}

@@ -29,12 +29,13 @@ use Rattle.at_demand.specs.Answerable.{CanTurnWith}
 use Rattle.at_demand.specs.Answered.{HasWorthyFor}
 use Rattle.at_demand.specs.ChainSteps.{HasEnded}
 use Rattle.at_demand.specs.Groups.{KeepsGroups}
-use Rattle.at_demand.specs.Known.{IsFound, answer_view, kept_values, known_in, meaning}
+use Rattle.at_demand.specs.Known.{IsFound, answer_view, known_in}
+use Rattle.at_evaluate.specs.Valued.{kept_values, meaning}
 use Rattle.at_demand.specs.KeptTrials.{AreTrials, FitAt}
 use Rattle.at_demand.specs.Levels.{StandsFor, all_levels, level_of, levels_of, root_in, seen_in}
 use Rattle.at_demand.specs.Only.{AreLean}
 use Rattle.at_demand.specs.Searches.{AreSoundFinds, CanGoAlong, FollowsTo, GainsBetween, HasGoneAlong, LeavesSo, StandsBetween, StaysSo, TurnsBy, WasSeenBy}
-use Rattle.at_demand.specs.Sparing.{AreSettled}
+use Rattle.at_demand.specs.Worth.{AreSettled}
 use Rattle.at_demand.specs.Turns.{HaveMet, IsFollowed, IsSettledBy, IsSparingTurns, IsStanding}
 use Rattle.at_demand.proofs.of_levels.Behind.{IsFormHere, key_ended, stands_ended}
 use Rattle.at_demand.proofs.of_levels.GainedBetween.{gains_nothing, gains_then}

@@ -9,9 +9,9 @@ use Rattle.at_cache.specs.Kept.{Entries}
 use Rattle.at_demand.specs.declared.evaluation.Demanded.{Demanded}
 use Rattle.at_demand.specs.declared.evaluation.Find.{Find}
 use Rattle.at_demand.specs.Covering.{IsDemanded, IsTold}
-use Rattle.at_demand.specs.Known.{AreValued, meaning}
+use Rattle.at_evaluate.specs.Valued.{AreValued, meaning}
 use Rattle.at_demand.specs.Turns.{HasMetAll, IsMet}
-use Rattle.at_demand.proofs.Entered.{entered}
+use Rattle.at_evaluate.proofs.Entered.{entered}
 use Rattle.at_demand.proofs.Gaining.{is_kept}
 use Rattle.at_demand.proofs.Passing.{past_has, past_more}
 use Rattle.at_demand.proofs.Seeing.{comes_failed}

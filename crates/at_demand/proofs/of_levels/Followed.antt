@@ -32,11 +32,12 @@ use Rattle.at_demand.specs.declared.evaluation.Find.{Find}
 use Rattle.at_demand.specs.declared.question.Question.{Question}
 use Rattle.at_demand.specs.ChainSteps.{HasEnded}
 use Rattle.at_demand.specs.Covering.{Extends}
-use Rattle.at_demand.specs.Known.{KeepsEntries, found_values, kept_values, known_in, meaning}
+use Rattle.at_evaluate.specs.Valued.{KeepsEntries, kept_values, meaning}
+use Rattle.at_demand.specs.Known.{found_values, known_in}
 use Rattle.at_demand.specs.Levels.{AreWholeOrSeen, LevelCode, StandsFor, all_levels, asked_by, fault_in, known_to, level_of, levels_of, root_in, seen_in, todo_in}
 use Rattle.at_demand.specs.Searches.{StandsBetween}
 use Rattle.at_demand.specs.Turns.{HasComeAbout, HasMet, HaveDemanded, IsBehind, IsFollowed, IsMet, IsSettledBy}
-use Rattle.at_demand.proofs.Entered.{entered}
+use Rattle.at_evaluate.proofs.Entered.{entered}
 use Rattle.at_demand.proofs.Leading.{comes_before}
 use Rattle.at_demand.proofs.Marking.{told_among}
 use Rattle.at_demand.proofs.Passing.{past_has, past_more}

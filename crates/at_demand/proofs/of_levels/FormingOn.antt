@@ -26,7 +26,7 @@ use Rattle.at_demand.specs.declared.trying.Tried.{Tried}
 use Rattle.at_demand.specs.Attempts.{HasFormedTo}
 use Rattle.at_demand.specs.Covering.{IsDemanded, IsTold}
 use Rattle.at_demand.specs.Forming.{HasPassedToForm, IsFormedBy, IsFormedFrom, IsOpenAt}
-use Rattle.at_demand.specs.Known.{AreValued, IsKept, meaning}
+use Rattle.at_evaluate.specs.Valued.{AreValued, IsKept, meaning}
 use Rattle.at_demand.specs.Levels.{IsFormOf, IsUsed}
 use Rattle.at_demand.specs.Tries.{HasTriedTo, NeedsOther}
 use Rattle.at_demand.proofs.Coming.{begins, comes, ends_past, goes_on}

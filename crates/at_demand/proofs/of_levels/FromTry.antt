@@ -32,12 +32,12 @@ use Rattle.at_demand.proofs.of_levels.Stuck.{stuck_levels}
 use Rattle.at_demand.specs.declared.question.Question.{Question}
 use Rattle.at_demand.specs.Answerable.{IsAnswerable}
 use Rattle.at_demand.specs.ChainSteps.{IsDeeper}
-use Rattle.at_demand.specs.Known.{IsKept, kept_values, known_in, meaning}
-use Rattle.at_demand.specs.Levels.{AreWholeOrSeen, IsAbout, IsLevel, LeadsToFault, LevelCode, StandsFor}
-use Rattle.at_demand.specs.Levels.{all_levels, asked_by, fault_in, known_to, level_of, levels_of, root_in, seen_in, todo_in}
+use Rattle.at_evaluate.specs.Valued.{IsKept, kept_values, meaning}
+use Rattle.at_demand.specs.Known.{known_in}
+use Rattle.at_demand.specs.Levels.{AreWholeOrSeen, IsAbout, IsLevel, LeadsToFault, LevelCode, StandsFor, all_levels, asked_by, fault_in, known_to, level_of, levels_of, root_in, seen_in, todo_in}
 use Rattle.at_demand.specs.Searches.{AreSoundFinds, CanClose, IsSolvable, IsTried, IsUnderWay}
 use Rattle.at_search.proofs.Seeing.{reverse_among}
-use Rattle.at_demand.proofs.Entered.{is_there, not_none, there}
+use Rattle.at_evaluate.proofs.Entered.{is_there, not_none, there}
 use Rattle.at_demand.proofs.Extending.{map_among}
 use Rattle.at_demand.proofs.Keys.{goes_last, no_key}
 use Rattle.at_demand.proofs.Marking.{told_among}

@@ -17,18 +17,21 @@ use Rattle.at_demand.specs.declared.question.Question.{Question}
 use Rattle.at_demand.specs.Answerable.{IsAnswerable}
 use Rattle.at_demand.specs.Covering.{AreWhole}
 use Rattle.at_demand.specs.Groups.{Tells}
-use Rattle.at_demand.specs.Known.{FoundKept, IsFound, IsKept, kept_values, known_in, meaning}
+use Rattle.at_demand.specs.Known.{FoundKept, IsFound, known_in, AreThere}
+use Rattle.at_evaluate.specs.Valued.{IsKept, kept_values, meaning}
 use Rattle.at_demand.specs.Levels.{all_levels, asked_by, known_to}
-use Rattle.at_demand.specs.Meant.{AreRightValues}
+use Rattle.at_evaluate.specs.Meant.{AreRightValues}
 use Rattle.at_demand.specs.Only.{AreLean}
-use Rattle.at_demand.specs.Right.{AreRight, AreThere, IsThere}
+use Rattle.at_evaluate.specs.Right.{AreRight, IsThere}
 use Rattle.at_demand.specs.Searches.{GainsBetween, StandsBetween, WasSeenBy}
-use Rattle.at_demand.specs.Sparing.{AreSettled, IsWorthy}
-use Rattle.at_demand.proofs.Counting.{counts_more, counts_none}
-use Rattle.at_demand.proofs.Entered.{entered, entered_on, is_there, kept_on, not_none, there, value_on}
+use Rattle.at_demand.specs.Worth.{AreSettled}
+use Rattle.at_evaluate.specs.Sparing.{IsWorthy}
+use Rattle.at_evaluate.proofs.Counting.{counts_more, counts_none}
+use Rattle.at_evaluate.proofs.Entered.{entered, entered_on, is_there, kept_on, not_none, there, value_on}
 use Rattle.at_demand.proofs.Extending.{extends_on, get_more}
 use Rattle.at_demand.proofs.Recalling.{known_found, known_kept}
-use Rattle.at_demand.proofs.There.{found_once, led_there}
+use Rattle.at_demand.proofs.Keys.{found_once}
+use Rattle.at_evaluate.proofs.There.{led_there}
 use Rattle.at_demand.proofs.of_traces.TurnsPut.{puts_same, puts_then}
 
 -- what is told is of instances that levels under way have seen, and to which what was asked leads

@@ -14,7 +14,7 @@ use Rattle.at_demand.specs.Groups.{KeepsGroups}
 use Rattle.at_demand.specs.Known.{answer_view}
 use Rattle.at_demand.specs.Levels.{asked_by, root_in}
 use Rattle.at_demand.specs.Searches.{AreSoundFinds, GainsBetween, LeavesSo, StaysOn, StaysSo}
-use Rattle.at_demand.specs.Sparing.{AreSpare}
+use Rattle.at_evaluate.specs.Sparing.{AreSpare}
 use Rattle.at_demand.specs.Turns.{IsFollowed, IsSparingTurns}
 use Rattle.at_demand.proofs.of_levels.CameBetween.{others_before}
 use Rattle.at_demand.proofs.of_steps.Met.{have_more, met_more}

@@ -32,17 +32,16 @@ use Rattle.at_demand.specs.declared.trials.Trials.{Trials}
 use Rattle.at_demand.specs.ChainSteps.{HasEnded, HasLostFault, HasLostSeen, HasRisen, IsRisen, IsUnchanged, KeepsFinds}
 use Rattle.at_demand.specs.Covering.{AreWhole as AreWholeFinds, Extends}
 use Rattle.at_demand.specs.Groups.{Tells}
-use Rattle.at_demand.specs.Known.{FoundKept, KeepsEntries, answer_view, kept_values, known_in, meaning}
+use Rattle.at_demand.specs.Known.{FoundKept, answer_view, known_in}
+use Rattle.at_evaluate.specs.Valued.{KeepsEntries, kept_values, meaning}
 use Rattle.at_demand.specs.KeptTrials.{AreTrials, Fit, FitAt, HasDropped}
-use Rattle.at_demand.specs.Levels.{IsCovered, IsDoneIn, StandsFor, level_of}
-use Rattle.at_demand.specs.Levels.{all_levels, asked_by, fault_in, known_to, levels_of, root_in, seen_in, todo_in}
-use Rattle.at_demand.specs.Searches.{AreKeptOrTold, AreSoundFinds, CanGoAlong, CanLeave, CanResolve, CanSearch, CanSolveLevel, FollowsSo, FollowsTo, GainsBetween, GoesDown, GoesOnSo}
+use Rattle.at_demand.specs.Levels.{IsCovered, IsDoneIn, StandsFor, level_of, all_levels, asked_by, fault_in, known_to, levels_of, root_in, seen_in, todo_in}
+use Rattle.at_demand.specs.Searches.{AreKeptOrTold, AreSoundFinds, CanGoAlong, CanLeave, CanResolve, CanSearch, CanSolveLevel, FollowsSo, FollowsTo, GainsBetween, GoesDown, GoesOnSo, HasFallen, LeavesAll, HasLeft, HasLeftSo, HasRisenTo, HasSolvedLevel, IsLastUnseen, IsLevelOver, StandsBetween, StaysOn}
 use Rattle.at_demand.specs.Answered.{HasWorthyFor}
-use Rattle.at_demand.specs.Sparing.{AreSpare, HasWorthy}
+use Rattle.at_evaluate.specs.Sparing.{AreSpare, HasWorthy}
 use Rattle.at_demand.specs.Turns.{HaveMet, IsFollowed, IsMet, IsSettledBy, IsSparingTurns}
 use Rattle.at_demand.proofs.of_steps.Met.{met_last, met_more}
-use Rattle.at_demand.specs.Searches.{HasFallen, LeavesAll, HasLeft, HasLeftSo, HasRisenTo, HasSolvedLevel, IsLastUnseen, IsLevelOver, StandsBetween, StaysOn}
-use Rattle.at_demand.proofs.Entered.{not_none, there}
+use Rattle.at_evaluate.proofs.Entered.{not_none, there}
 use Rattle.at_demand.proofs.of_levels.Behind.{IsFormHere, behind_it, key_back, stands_behind}
 use Rattle.at_demand.proofs.of_levels.ClosedLevels.{asked_risen, fewer_wait, risen_levels, under_risen}
 use Rattle.at_demand.proofs.of_levels.GainedBetween.{gains_told, gains_where, held_told}

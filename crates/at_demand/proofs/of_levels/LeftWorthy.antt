@@ -10,11 +10,12 @@ use Rattle.at_rules.specs.Circular.{AreCircularLazy}
 use Rattle.at_cache.specs.Kept.{Entries}
 use Rattle.at_demand.specs.declared.question.Question.{Question}
 use Rattle.at_demand.specs.Covering.{AreWhole}
-use Rattle.at_demand.specs.Known.{IsKept, meaning}
+use Rattle.at_evaluate.specs.Valued.{IsKept, meaning}
 use Rattle.at_demand.specs.Levels.{known_to}
-use Rattle.at_demand.specs.Sparing.{AreSettled, AreSpare, HasWorthy}
+use Rattle.at_demand.specs.Worth.{AreSettled}
+use Rattle.at_evaluate.specs.Sparing.{AreSpare, HasWorthy}
 use Rattle.at_demand.specs.Turns.{IsMet, IsSettledBy}
-use Rattle.at_demand.proofs.Entered.{is_there}
+use Rattle.at_evaluate.proofs.Entered.{is_there}
 use Rattle.at_demand.proofs.Gaining.{known_below}
 use Rattle.at_demand.proofs.Leading.{open_led}
 use Rattle.at_demand.proofs.of_levels.Followed.{met_known}

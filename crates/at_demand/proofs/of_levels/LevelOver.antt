@@ -29,13 +29,13 @@ use Rattle.at_search.specs.declared.ended.Formed.{Formed}
 use Rattle.at_demand.specs.declared.evaluation.Find.{Find}
 use Rattle.at_demand.specs.declared.question.Question.{Question}
 use Rattle.at_demand.specs.ChainSteps.{KeepsFinds}
-use Rattle.at_demand.specs.Known.{IsFound, IsKept, kept_values, known_in, meaning}
-use Rattle.at_demand.specs.Levels.{AreWholeOrSeen, HasAllEnded, IsAbout, IsFormOf, IsLevel, IsUsed, LeadsToFault, LevelCode, StandsFor}
-use Rattle.at_demand.specs.Levels.{all_levels, asked_by, fault_in, known_to, level_of, levels_of, seen_in}
+use Rattle.at_demand.specs.Known.{IsFound, known_in}
+use Rattle.at_evaluate.specs.Valued.{IsKept, kept_values, meaning}
+use Rattle.at_demand.specs.Levels.{AreWholeOrSeen, HasAllEnded, IsAbout, IsFormOf, IsLevel, IsUsed, LeadsToFault, LevelCode, StandsFor, all_levels, asked_by, fault_in, known_to, level_of, levels_of, seen_in}
 use Rattle.at_demand.specs.Searches.{IsLastUnseen, StandsBetween}
-use Rattle.at_demand.proofs.Entered.{is_there, there}
+use Rattle.at_evaluate.proofs.Entered.{is_there, there}
 use Rattle.at_demand.proofs.Recalling.{known_found, known_kept}
-use Rattle.at_demand.proofs.There.{found_once}
+use Rattle.at_demand.proofs.Keys.{found_once}
 use Rattle.at_demand.proofs.of_searches.Circling.{one_recorded}
 use Rattle.at_demand.proofs.of_levels.ClosedLevels.{risen_asked, risen_levels}
 use Rattle.at_demand.proofs.of_searches.Reaching.{asked_at, starts_at}

@@ -21,14 +21,17 @@ use Rattle.at_search.proofs.Seeing.{reverse_among}
 use Rattle.at_demand.specs.Answered.{HasWorthyMet}
 use Rattle.at_demand.specs.declared.evaluation.Find.{Find}
 use Rattle.at_demand.specs.declared.question.Question.{Question}
-use Rattle.at_demand.specs.Known.{IsKept, KeepsEntries, found_values, kept_values, meaning}
+use Rattle.at_evaluate.specs.Valued.{IsKept, KeepsEntries, kept_values, meaning}
+use Rattle.at_demand.specs.Known.{found_values}
 use Rattle.at_demand.specs.Levels.{LevelCode, all_levels, asked_by, known_to, level_of, levels_of, root_in, seen_in, todo_in}
 use Rattle.at_demand.specs.Searches.{CanClose, IsSeenBy, IsStuckAt}
-use Rattle.at_demand.specs.Sparing.{AreSettled, AreSpare}
+use Rattle.at_demand.specs.Worth.{AreSettled}
+use Rattle.at_evaluate.specs.Sparing.{AreSpare}
 use Rattle.at_demand.specs.Turns.{HasComeAbout, HasMet, HaveMet, IsMet, next_root}
-use Rattle.at_demand.proofs.Entered.{is_there, kept_on, not_none}
+use Rattle.at_evaluate.proofs.Entered.{is_there, kept_on, not_none}
 use Rattle.at_demand.proofs.Gaining.{known_below}
-use Rattle.at_demand.proofs.Leading.{comes_before, leads_on}
+use Rattle.at_demand.proofs.Leading.{comes_before}
+use Rattle.at_evaluate.proofs.LeadingOn.{leads_on}
 use Rattle.at_demand.proofs.Marking.{told_among}
 use Rattle.at_demand.proofs.Passing.{past_has, past_more}
 use Rattle.at_demand.proofs.of_levels.CameBetween.{value_found}

@@ -9,7 +9,7 @@ use Rattle.at_model.specs.of_fixpoints.Fixpoints.{Made, Spoilt, EndsSo, HasValue
 use Rattle.at_model.specs.of_fixpoints.Resting.{Comes}
 use Rattle.at_model.proofs.of_formulas.PlainRules.{plain, by_plain_equation}
 use Rattle.at_model.proofs.of_formulas.StartsKept.{of_none}
-use Rattle.at_demand.specs.Known.{equations, meaning}
+use Rattle.at_evaluate.specs.Valued.{equations, meaning}
 use Rattle.at_demand.proofs.Coming.{ends_past, value_by_end, fault_by_end}
 
 -- an evaluation to a value comes as far as that to the formula that it is

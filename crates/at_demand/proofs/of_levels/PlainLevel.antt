@@ -16,9 +16,9 @@ use Rattle.at_search.specs.declared.ended.Ending.{Ending}
 use Rattle.at_search.specs.declared.ended.Ending.TheVariants as ending
 use Rattle.at_search.specs.declared.ended.Formed.{Formed}
 use Rattle.at_demand.specs.declared.question.Question.{Question}
-use Rattle.at_demand.specs.Known.{meaning}
+use Rattle.at_evaluate.specs.Valued.{meaning}
 use Rattle.at_demand.specs.Levels.{IsLevel, LevelCode, StandsFor, fault_in, known_to, root_in, seen_in, todo_in}
-use Rattle.at_demand.proofs.Entered.{not_none}
+use Rattle.at_evaluate.proofs.Entered.{not_none}
 
 module _ (rules : Rules) (s : Shown) (entries : Entries) (q : Question) (u : Search ℕ) (st : StandsFor rules s entries q u)
     (none : start_of rules q.inst.attribute ≡ None) where

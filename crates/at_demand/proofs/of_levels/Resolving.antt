@@ -40,12 +40,13 @@ use Rattle.at_demand.specs.Answerable.{IsAnswerable}
 use Rattle.at_demand.specs.ChainSteps.{HasLostSeen, HasMarkedAll, HasRisen, IsUnchanged}
 use Rattle.at_demand.specs.Covering.{AreWhole as AreWholeFinds}
 use Rattle.at_demand.specs.Groups.{AreKnownOrStopped, CanBeSolved, HasMarkedSolved, IsKnownOrSpoilt, KeepsGroups, Tells, start_in}
-use Rattle.at_demand.specs.Known.{FoundKept, KeepsEntries, found_values, kept_values, known_in, meaning}
+use Rattle.at_demand.specs.Known.{FoundKept, found_values, known_in}
+use Rattle.at_evaluate.specs.Valued.{KeepsEntries, kept_values, meaning}
 use Rattle.at_demand.specs.Levels.{AreFactsOf, AreWholeOrSeen, HasAllEnded, HaveAsked, IsFormOf, LeadsToFault, all_levels, known_to, level_of, levels_of, root_in, seen_in}
-use Rattle.at_demand.specs.Meant.{AreRightValues}
+use Rattle.at_evaluate.specs.Meant.{AreRightValues}
 use Rattle.at_demand.specs.Searches.{AreSoundFinds, CanResolve, CanSolveLevel, HasLookedAt, HasResolved, HasSolvedLevel, IsLevelOver, IsLookedAt, IsMetFault, IsResolved, IsStuckAt, TellsOfEnded, look_of}
-use Rattle.at_demand.proofs.Counting.{counts_none}
-use Rattle.at_demand.proofs.Entered.{is_there, kept_on, not_none}
+use Rattle.at_evaluate.proofs.Counting.{counts_none}
+use Rattle.at_evaluate.proofs.Entered.{is_there, kept_on, not_none}
 use Rattle.at_demand.proofs.Keys.{is_key, no_key}
 use Rattle.at_demand.proofs.Marking.{told_among}
 use Rattle.at_demand.proofs.Recalling.{known_kept}

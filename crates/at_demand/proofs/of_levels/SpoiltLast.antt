@@ -31,11 +31,12 @@ use Rattle.at_demand.specs.declared.question.Question.{Question}
 use Rattle.at_demand.specs.declared.trials.Trials.{Trials}
 use Rattle.at_demand.specs.Answered.{HasWorthyFor}
 use Rattle.at_demand.specs.ChainSteps.{HasEnded}
-use Rattle.at_demand.specs.Known.{answer_view, equations, kept_values, meaning}
+use Rattle.at_demand.specs.Known.{answer_view}
+use Rattle.at_evaluate.specs.Valued.{equations, kept_values, meaning}
 use Rattle.at_demand.specs.Levels.{IsLevel, LevelCode, StandsFor, asked_by, fault_in, known_to, level_of, levels_of, root_in, seen_in}
 use Rattle.at_demand.specs.Searches.{CanGoAlong, CanSpoil, HasGoneAlong, HasSpoilt}
 use Rattle.at_demand.specs.Sound.{AreSound}
-use Rattle.at_demand.specs.Sparing.{AreSpare, HasWorthy}
+use Rattle.at_evaluate.specs.Sparing.{AreSpare, HasWorthy}
 use Rattle.at_demand.specs.Turns.{IsSettledBy, IsSparingTurns, IsStanding, under_way}
 use Rattle.at_demand.proofs.Coming.{fault_by_end}
 use Rattle.at_demand.proofs.Extending.{map_among}

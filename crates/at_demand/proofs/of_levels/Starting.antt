@@ -19,7 +19,7 @@ use Rattle.at_demand.proofs.of_searches.Circling.{one_recorded}
 use Rattle.at_demand.specs.declared.question.Question.{Question}
 use Rattle.at_demand.specs.Groups.{AreKnownOrStopped, CanBeSolved, CanSolve, IsKnownOrSpoilt, start_in}
 use Rattle.at_demand.specs.Levels.{known_to}
-use Rattle.at_demand.proofs.Entered.{is_there, not_none}
+use Rattle.at_evaluate.proofs.Entered.{is_there, not_none}
 use Rattle.at_demand.proofs.of_levels.Resolving.{key_entry}
 use Rattle.at_model.specs.of_fixpoints.Formulas.{Formula}
 

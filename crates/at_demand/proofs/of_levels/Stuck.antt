@@ -17,7 +17,7 @@ use Rattle.at_search.specs.Solved.{IsStopped}
 use Rattle.at_search.specs.declared.ended.Ended.{Ended}
 use Rattle.at_demand.specs.Levels.{LevelCode, seen_in, todo_in}
 use Rattle.at_demand.specs.Searches.{IsStuckAt}
-use Rattle.at_demand.proofs.Entered.{not_none}
+use Rattle.at_evaluate.proofs.Entered.{not_none}
 use Rattle.at_demand.proofs.Marking.{told_among}
 
 -- what has a value has no formulas that lead to a fault

@@ -41,8 +41,8 @@ use Rattle.at_store.proofs.Found.{number_found, path_injective}
 use Rattle.at_store.proofs.Relabelled.{contents_alike}
 use Rattle.at_body.specs.Typed.{class_shown}
 use Rattle.at_body.proofs.TypedInstances.{instance_on}
-use Rattle.at_demand.specs.Known.{meaning}
-use Rattle.at_demand.specs.Meant.{AreRightValues}
+use Rattle.at_evaluate.specs.Valued.{meaning}
+use Rattle.at_evaluate.specs.Meant.{AreRightValues}
 use Rattle.at_demand.proofs.Marking.{told_among}
 use Rattle.at_demand.proofs.of_searches.Stepping.{whole_valued}
 

@@ -14,7 +14,7 @@ use Rattle.at_demand.specs.declared.question.Question.{Question}
 use Rattle.at_demand.specs.ChainSteps.{SeesNext}
 use Rattle.at_demand.specs.Levels.{seen_in, todo_in}
 use Rattle.at_demand.specs.Searches.{cost_at, cost_left, left_to_do}
-use Rattle.at_demand.proofs.Sameness.{same_refl}
+use Rattle.at_evaluate.proofs.Sameness.{same_refl}
 use Rattle.at_demand.proofs.of_levels.Resolving.{EndingsStay, key_entry}
 
 abbrev cost_or : Option Ended → ℕ

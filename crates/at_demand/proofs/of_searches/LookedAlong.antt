@@ -18,7 +18,7 @@ use Rattle.at_model.proofs.of_searching.PassedCircles.{ends_one}
 use Rattle.at_model.proofs.of_searching.PassedLooks.{looks_past, past_only}
 use Rattle.at_model.proofs.of_searching.Steps.{formed_of}
 use Rattle.at_search.specs.Recorded.{AreWhole}
-use Rattle.at_demand.specs.Known.{meaning}
+use Rattle.at_evaluate.specs.Valued.{meaning}
 use Rattle.at_demand.specs.Turns.{IsBehind}
 use Rattle.at_demand.proofs.Marking.{told_among}
 use Rattle.at_demand.proofs.of_searches.Stepping.{whole_valued}

@@ -18,7 +18,8 @@ use Rattle.at_search.specs.Recorded.{IsMarked, MetFrom}
 use Rattle.at_demand.specs.declared.question.Question.{Question}
 use Rattle.at_demand.specs.ChainSteps.{KeepsChain, KeepsFinds}
 use Rattle.at_demand.specs.Covering.{AreWhole as AreWholeFinds}
-use Rattle.at_demand.specs.Known.{FoundKept, known_in, meaning}
+use Rattle.at_demand.specs.Known.{FoundKept, known_in}
+use Rattle.at_evaluate.specs.Valued.{meaning}
 use Rattle.at_demand.specs.Levels.{AreWholeOrSeen, IsAbout, IsCovered, IsLevel, IsRooted, LeadsToFault, LevelCode, all_levels, asked_by, fault_in, known_to, levels_of, root_in, seen_in, todo_in}
 use Rattle.at_demand.specs.Searches.{CanResolve, IsLooked, StandsBetween}
 use Rattle.at_demand.proofs.of_searches.Reaching.{asked_at}

@@ -27,11 +27,11 @@ use Rattle.at_search.specs.declared.search.Search.{Search as SearchCode}
 use Rattle.at_search.proofs.Seeing.{reverse_among}
 use Rattle.at_demand.specs.declared.question.Question.{Question}
 use Rattle.at_demand.specs.ChainSteps.{HasNext}
-use Rattle.at_demand.specs.Known.{known_in, meaning}
-use Rattle.at_demand.specs.Levels.{AreWholeOrSeen, IsAbout, IsCovered, IsLevel, IsSearch, LeadsToFault, LevelCode, StandsFor}
-use Rattle.at_demand.specs.Levels.{all_levels, asked_by, fault_in, known_to, levels_of, root_in, seen_in, todo_in}
+use Rattle.at_demand.specs.Known.{known_in}
+use Rattle.at_evaluate.specs.Valued.{meaning}
+use Rattle.at_demand.specs.Levels.{AreWholeOrSeen, IsAbout, IsCovered, IsLevel, IsSearch, LeadsToFault, LevelCode, StandsFor, all_levels, asked_by, fault_in, known_to, levels_of, root_in, seen_in, todo_in}
 use Rattle.at_demand.specs.Searches.{IsTried, StandsBetween}
-use Rattle.at_demand.proofs.Entered.{not_none}
+use Rattle.at_evaluate.proofs.Entered.{not_none}
 use Rattle.at_demand.proofs.Keys.{no_key}
 use Rattle.at_demand.proofs.of_searches.Moving.{asked_same, level_same, rooted_at}
 use Rattle.at_demand.proofs.of_searches.Reaching.{led_met, level_at, starts_asked}

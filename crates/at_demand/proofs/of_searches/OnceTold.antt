@@ -21,11 +21,11 @@ use Rattle.at_search.specs.declared.ended.Ended.{Ended}
 use Rattle.at_search.specs.declared.ended.Fault.{Fault}
 use Rattle.at_demand.specs.declared.question.Question.{Question}
 use Rattle.at_demand.specs.Groups.{Tells}
-use Rattle.at_demand.specs.Known.{kept_values, meaning}
+use Rattle.at_evaluate.specs.Valued.{kept_values, meaning}
 use Rattle.at_demand.specs.Levels.{IsAbout, IsCovered, IsLevel, LevelCode, asked_by, fault_in, known_to, level_of, levels_of, root_in, seen_in, todo_in}
-use Rattle.at_demand.specs.Meant.{AreRightValues}
+use Rattle.at_evaluate.specs.Meant.{AreRightValues}
 use Rattle.at_demand.specs.Searches.{AreKeptOrTold, CanResolve, IsLooked, StandsBetween}
-use Rattle.at_demand.proofs.Entered.{is_there, kept_on, there, value_on}
+use Rattle.at_evaluate.proofs.Entered.{is_there, kept_on, there, value_on}
 use Rattle.at_demand.proofs.of_searches.Circling.{one_recorded}
 use Rattle.at_demand.proofs.of_searches.Reaching.{asked_at}
 use Rattle.at_demand.proofs.of_levels.Resolving.{EndingsStay, recorded_on, still_known}

@@ -33,7 +33,7 @@ use Rattle.at_search.specs.declared.search.Search.{Search as SearchCode}
 use Rattle.at_search.proofs.Meeting.{sees}
 use Rattle.at_demand.specs.declared.question.Question.{Question}
 use Rattle.at_demand.specs.ChainSteps.{HasNext, HasSeen, SeesIn, SeesNext}
-use Rattle.at_demand.specs.Known.{meaning}
+use Rattle.at_evaluate.specs.Valued.{meaning}
 use Rattle.at_demand.specs.Levels.{IsCovered, LevelCode, fault_in, known_to, todo_in}
 use Rattle.at_demand.specs.Searches.{StandsBetween}
 use Rattle.at_demand.proofs.Marking.{told_among}

@@ -32,7 +32,7 @@ use Rattle.at_body.proofs.TypedInstances.{instance_on}
 use Rattle.at_cache.specs.Kept.{Entries}
 use Rattle.at_demand.specs.declared.question.Question.{Question}
 use Rattle.at_demand.specs.Answerable.{IsBasis}
-use Rattle.at_demand.specs.Known.{meaning}
+use Rattle.at_evaluate.specs.Valued.{meaning}
 use Rattle.at_demand.specs.Levels.{LevelCode, all_levels, asked_by, level_of, levels_of, root_in, seen_in}
 use Rattle.at_demand.specs.Searches.{StandsBetween}
 

@@ -15,7 +15,8 @@ use Rattle.at_model.specs.of_fixpoints.Searching as turn
 use Rattle.at_model.proofs.of_searching.LookedSteps.{looked_begun, looked_again, looked_past, looked_on}
 use Rattle.at_model.proofs.of_searching.Turned.{IsBetween, leads_over}
 use Rattle.at_model.proofs.of_searching.Turned as turned
-use Rattle.at_demand.specs.Reasons.{DemandsOn, HasReason, HasReasons, IsReached}
+use Rattle.at_evaluate.specs.Led.{DemandsOn}
+use Rattle.at_demand.specs.Reasons.{HasReason, HasReasons, IsReached}
 use Rattle.at_demand.specs.Turns.{MayComeIn}
 use Rattle.at_demand.proofs.Marking.{told_among}
 use Rattle.at_demand.proofs.of_searches.LookedAlong.{have_looked_more, led_list}

@@ -14,7 +14,8 @@ use Rattle.at_model.specs.of_fixpoints.Searching.{Level, root_of, under}
 use Rattle.at_model.proofs.of_formulas.ClosedOnce.{not_both}
 use Rattle.at_model.proofs.of_searching.Deciding.{demand_decided}
 use Rattle.at_model.proofs.of_searching.Turned.{leads_by, leads_over}
-use Rattle.at_demand.specs.Reasons.{DemandsOn, HasReason, IsReached, stays, goes}
+use Rattle.at_evaluate.specs.Led.{DemandsOn, stays, goes}
+use Rattle.at_demand.specs.Reasons.{HasReason, IsReached}
 
 module _ (look : Contents ℕ) (forms : Forms ℕ) (first : Known ℕ) (q c : Instance ℕ) (circle : Circular look forms q c)
   where

@@ -19,10 +19,10 @@ use Rattle.at_cache.specs.Kept.{Entries}
 use Rattle.at_search.specs.Recorded.{IsMarked, Recorded}
 use Rattle.at_search.proofs.Seeing.{among_reverse, reverse_among}
 use Rattle.at_demand.specs.declared.question.Question.{Question}
-use Rattle.at_demand.specs.Known.{kept_values, meaning}
+use Rattle.at_evaluate.specs.Valued.{kept_values, meaning}
 use Rattle.at_demand.specs.Levels.{LevelCode, fault_in, known_to, level_of, levels_of, seen_in, todo_in}
 use Rattle.at_demand.specs.Searches.{IsTried, IsUnderWay, StandsBetween}
-use Rattle.at_demand.proofs.Entered.{is_there, not_none}
+use Rattle.at_evaluate.proofs.Entered.{is_there, not_none}
 use Rattle.at_demand.proofs.Extending.{map_among}
 use Rattle.at_demand.proofs.Recalling.{known_kept}
 use Rattle.at_demand.proofs.of_searches.Circling.{IsOrdered, comes_back, tried_next, under_way}

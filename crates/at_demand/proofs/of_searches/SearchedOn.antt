@@ -37,12 +37,12 @@ use Rattle.at_demand.specs.declared.demand.searching.Searched.TheVariants as sea
 use Rattle.at_demand.specs.declared.question.Question.{Question}
 use Rattle.at_demand.specs.ChainSteps.{HasGoneOver, HasNext, HasSeen, IsAlike, KeepsRest}
 use Rattle.at_demand.specs.Groups.{Tells}
-use Rattle.at_demand.specs.Known.{KeepsEntries, kept_values, known_in, meaning}
+use Rattle.at_evaluate.specs.Valued.{KeepsEntries, kept_values, meaning}
+use Rattle.at_demand.specs.Known.{known_in}
 use Rattle.at_demand.specs.Levels.{IsCovered, IsDoneIn, LevelCode, all_levels, asked_by, fault_in, known_to, level_of, levels_of, root_in, seen_in, todo_in}
 use Rattle.at_demand.specs.Turns.{IsBehind, IsFollowed}
-use Rattle.at_demand.specs.Searches.{AreKeptOrTold, CanClose, CanResolve, CanSearch, FollowsSo, GainsBetween, GoesOnSo, GoesSo}
-use Rattle.at_demand.specs.Searches.{HasLookedAt, HasSearchedOn, IsLookedAt, IsSolvable, IsTried, IsUnderWay, FollowsOn, StandsBetween, StaysOn, left_to_do}
-use Rattle.at_demand.proofs.Entered.{entered_on, is_there, not_none, there, value_on}
+use Rattle.at_demand.specs.Searches.{AreKeptOrTold, CanClose, CanResolve, CanSearch, FollowsSo, GainsBetween, GoesOnSo, GoesSo, HasLookedAt, HasSearchedOn, IsLookedAt, IsSolvable, IsTried, IsUnderWay, FollowsOn, StandsBetween, StaysOn, left_to_do}
+use Rattle.at_evaluate.proofs.Entered.{entered_on, is_there, not_none, there, value_on}
 use Rattle.at_demand.proofs.Keys.{absent, no_key}
 use Rattle.at_demand.proofs.Recalling.{known_kept}
 use Rattle.at_demand.proofs.of_searches.Costing.{less_past, less_seen}

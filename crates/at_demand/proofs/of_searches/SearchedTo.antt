@@ -19,11 +19,10 @@ use Rattle.at_search.specs.Recorded.{Recorded}
 use Rattle.at_demand.specs.declared.demand.searching.Searched.{Searched}
 use Rattle.at_demand.specs.declared.demand.searching.Searched.TheVariants as searched
 use Rattle.at_demand.specs.declared.question.Question.{Question}
-use Rattle.at_demand.specs.Known.{KeepsEntries, meaning}
+use Rattle.at_evaluate.specs.Valued.{KeepsEntries, meaning}
 use Rattle.at_demand.specs.Levels.{all_levels, fault_in, levels_of, root_in, seen_in}
-use Rattle.at_demand.specs.Searches.{AreKeptOrTold, CanSearch, ComesOn, FromFirst, GainsBetween, GoesOnSo, GoesSo, HasSearched, HasSearchedOn, HasSearchedTo}
-use Rattle.at_demand.specs.Searches.{FollowsIn, FollowsOn, StandsBetween, StaysOn, WasSeenBy, left_to_do}
-use Rattle.at_demand.proofs.Entered.{entered_on}
+use Rattle.at_demand.specs.Searches.{AreKeptOrTold, CanSearch, ComesOn, FromFirst, GainsBetween, GoesOnSo, GoesSo, HasSearched, HasSearchedOn, HasSearchedTo, FollowsIn, FollowsOn, StandsBetween, StaysOn, WasSeenBy, left_to_do}
+use Rattle.at_evaluate.proofs.Entered.{entered_on}
 use Rattle.at_demand.proofs.of_levels.GainedBetween.{gains_nothing, gains_then, gains_where}
 use Rattle.at_demand.proofs.of_searches.Moving.{asked_same}
 use Rattle.at_demand.proofs.of_levels.Resolving.{keeps_groups, recorded_key}

@@ -33,12 +33,12 @@ use Rattle.at_demand.specs.declared.question.Question.{Question}
 use Rattle.at_demand.specs.ChainSteps.{HasNext, KeepsChain, KeepsFinds}
 use Rattle.at_demand.specs.Covering.{AreWhole as AreWholeFinds}
 use Rattle.at_demand.specs.Groups.{Tells}
-use Rattle.at_demand.specs.Known.{IsFound, known_in, meaning}
+use Rattle.at_demand.specs.Known.{IsFound, known_in, AreThere}
+use Rattle.at_evaluate.specs.Valued.{meaning}
 use Rattle.at_demand.specs.Levels.{IsCovered, LevelCode, all_levels, fault_in, known_to, root_in, seen_in, todo_in}
 use Rattle.at_demand.specs.Only.{AreLean}
-use Rattle.at_demand.specs.Right.{AreThere}
 use Rattle.at_demand.specs.Searches.{CanResolve, StandsBetween}
-use Rattle.at_demand.specs.Sparing.{AreSettled}
+use Rattle.at_demand.specs.Worth.{AreSettled}
 use Rattle.at_demand.proofs.Marking.{told_among}
 use Rattle.at_demand.proofs.of_searches.Circling.{one_recorded}
 use Rattle.at_demand.proofs.of_searches.Following.{passed_first}

@@ -18,25 +18,26 @@ use Rattle.at_demand.specs.declared.question.Question.{Question}
 use Rattle.at_demand.specs.declared.trials.Trials.{Trials}
 use Rattle.at_demand.specs.Answerable.{CanBegin}
 use Rattle.at_demand.specs.Answered.{AddsMet, GainsAtMost, HasTurnedWith, HasWorthyFor, IsAnswered}
-use Rattle.at_demand.specs.Inner.{Gains}
-use Rattle.at_demand.specs.InParts.{HasGrown, Held, held}
+use Rattle.at_evaluate.specs.Inner.{Gains}
+use Rattle.at_evaluate.specs.InParts.{HasGrown, Held, held}
 use Rattle.at_demand.specs.InTurns.{CountsKept, PutsInTurns}
-use Rattle.at_demand.specs.Known.{answer_view, meaning}
+use Rattle.at_demand.specs.Known.{answer_view}
+use Rattle.at_evaluate.specs.Valued.{meaning}
 use Rattle.at_demand.specs.Levels.{IsSearch, LevelCode, asked_by}
-use Rattle.at_demand.specs.Right.{AreRight, IsThere}
+use Rattle.at_evaluate.specs.Right.{AreRight, IsThere}
 use Rattle.at_demand.specs.Sound.{AreSound}
-use Rattle.at_demand.specs.Sparing.{AddsWorthy, AreSpare, Counts}
-use Rattle.at_demand.specs.Traces.{StayJustified}
+use Rattle.at_evaluate.specs.Sparing.{AddsWorthy, AreSpare, Counts}
+use Rattle.at_evaluate.specs.Traces.{StayJustified}
 use Rattle.at_demand.specs.Turns.{IsSparingTurns, IsStanding, under_way}
 use Rattle.at_demand.specs.Went.{Went, turned as turned_then}
-use Rattle.at_demand.proofs.Counting.{counts_more}
+use Rattle.at_evaluate.proofs.Counting.{counts_more}
 use Rattle.at_demand.proofs.Standing.{answers_right, asked_same, last_led, sound_after, worthy_both}
 use Rattle.at_demand.proofs.of_searches.Reaching.{asked_at}
-use Rattle.at_demand.proofs.of_nesting.InnerAnswered.{answered_by}
-use Rattle.at_demand.proofs.of_nesting.InnerGains.{gains_then, gains_up, known_none}
+use Rattle.at_demand.proofs.InnerAnswered.{answered_by}
+use Rattle.at_evaluate.proofs.of_nesting.InnerGains.{gains_then, gains_up, known_none}
 use Rattle.at_demand.proofs.of_steps.Grown.{spares_grown, stands_grown}
 use Rattle.at_demand.proofs.of_steps.Reasoned.{StandsReasoned, ahead_all, reasoned_met, turned_all, turned_on}
-use Rattle.at_demand.proofs.of_traces.Putting.{traced_on, traced_then, traced_up}
+use Rattle.at_evaluate.proofs.of_traces.Putting.{traced_on, traced_then, traced_up}
 use Rattle.at_demand.proofs.of_traces.TurnsPut.{puts_stay, went_made, went_then}
 
 -- what turns change

@@ -22,15 +22,16 @@ use Rattle.at_demand.specs.declared.trials.Trials.{Trials}
 use Rattle.at_demand.specs.Answerable.{IsAnswerable, IsBasis}
 use Rattle.at_demand.specs.Answered.{GainsAtMost, HasTurnedOn, HasWorthyFor, IsOfUse}
 use Rattle.at_demand.specs.Groups.{KeepsGroups}
-use Rattle.at_demand.specs.Known.{IsFound, IsKept, answer_view, kept_values, meaning}
+use Rattle.at_demand.specs.Known.{IsFound, answer_view}
+use Rattle.at_evaluate.specs.Valued.{IsKept, kept_values, meaning}
 use Rattle.at_demand.specs.Levels.{StandsFor, asked_by, known_to, level_of}
 use Rattle.at_demand.specs.KeptTrials.{FitAfter}
 use Rattle.at_demand.specs.Searches.{FollowsTo, GainsBetween, HasGoneAlong, LeavesSo, StandsBetween, StaysSo, WasSeenBy}
 use Rattle.at_demand.specs.Sound.{AreSound}
 use Rattle.at_demand.specs.Turns.{GainsInChain, HasTurnedBy, IsSparingTurns, IsStanding, MayComeIn, passed_of, under_way}
-use Rattle.at_demand.proofs.Entered.{entered, is_there, value_on}
+use Rattle.at_evaluate.proofs.Entered.{entered, is_there, value_on}
 use Rattle.at_demand.proofs.Recalling.{known_found, known_kept}
-use Rattle.at_demand.proofs.There.{found_once}
+use Rattle.at_demand.proofs.Keys.{found_once}
 use Rattle.at_demand.proofs.of_steps.Counted.{IsChain, StandsSo, answered_so, broken_on, counted_so}
 use Rattle.at_demand.proofs.of_steps.KeptIn.{stands_past}
 use Rattle.at_demand.proofs.of_levels.Resolving.{keeps_groups}

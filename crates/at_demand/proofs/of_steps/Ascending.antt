@@ -18,9 +18,9 @@ use Rattle.at_store.specs.Shown.{Shown, contents}
 use Rattle.at_cache.specs.Kept.{Entries}
 use Rattle.at_search.specs.Recorded.{IsMarked}
 use Rattle.at_demand.specs.declared.question.Question.{Question}
-use Rattle.at_demand.specs.Known.{IsKept, kept_values, meaning}
+use Rattle.at_evaluate.specs.Valued.{IsKept, kept_values, meaning}
 use Rattle.at_demand.specs.Levels.{AreFactsOf, HaveAsked, IsAbout, IsLevel, LeadsToFault, LevelCode, StandsFor, all_levels, asked_by, fault_in, known_to, level_of, levels_of, root_in, seen_in, todo_in}
-use Rattle.at_demand.proofs.Entered.{is_there, not_none, there}
+use Rattle.at_evaluate.proofs.Entered.{is_there, not_none, there}
 use Rattle.at_demand.proofs.of_searches.OnceTold.{covered_on}
 use Rattle.at_demand.proofs.of_searches.Reaching.{asked_at, level_at}
 use Rattle.at_demand.proofs.of_searches.Returning.{with_level}

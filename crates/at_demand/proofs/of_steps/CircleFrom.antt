@@ -31,10 +31,11 @@ use Rattle.at_demand.specs.Answered.{HasTurnedOn, HasWorthyFor, HasWorthyMet, Is
 use Rattle.at_demand.specs.Attempts.{IsGoing}
 use Rattle.at_demand.specs.Forming.{waits_for}
 use Rattle.at_demand.specs.KeptTrials.{FitAfter}
-use Rattle.at_demand.specs.Known.{answer_view, equations, kept_values, meaning}
+use Rattle.at_demand.specs.Known.{answer_view}
+use Rattle.at_evaluate.specs.Valued.{equations, kept_values, meaning}
 use Rattle.at_demand.specs.Levels.{LevelCode, StandsFor, all_levels, asked_by, known_to, level_of, levels_of, root_in}
 use Rattle.at_demand.specs.Searches.{CanClose, HasClosed, HasResolved, IsResolved, IsSeenBy, IsTried, IsUnderWay, LeavesSo, StaysOn, StaysSo, TurnsBy}
-use Rattle.at_demand.specs.Sparing.{AreSpare, HasWorthy}
+use Rattle.at_evaluate.specs.Sparing.{AreSpare, HasWorthy}
 use Rattle.at_demand.specs.Turns.{HaveMet, IsSparingTurns, IsStanding, IsStandingPlainly, under_way}
 use Rattle.at_demand.proofs.of_levels.CameBetween.{others_before}
 use Rattle.at_demand.proofs.of_levels.ChainCircle.{circle_worthy}

@@ -18,10 +18,11 @@ use Rattle.at_demand.specs.Answerable.{IsBasis}
 use Rattle.at_demand.specs.Answered.{GainsAtMost, HasTurnedOn, HasTurnedWith, HasWorthyFor}
 use Rattle.at_demand.specs.Covering.{AreWhole}
 use Rattle.at_demand.specs.KeptTrials.{Fit, FitAt}
-use Rattle.at_demand.specs.Known.{FoundKept, answer_view, equations, kept_values, meaning}
+use Rattle.at_demand.specs.Known.{FoundKept, answer_view}
+use Rattle.at_evaluate.specs.Valued.{equations, kept_values, meaning}
 use Rattle.at_demand.specs.Levels.{LevelCode, StandsFor, asked_by}
 use Rattle.at_demand.specs.Sound.{AreSound}
-use Rattle.at_demand.specs.Sparing.{AreSpare}
+use Rattle.at_evaluate.specs.Sparing.{AreSpare}
 use Rattle.at_demand.specs.Turns.{HasTurnedBy, IsSparingTurns, IsStanding, passed_of, under_way}
 use Rattle.at_demand.proofs.Standing.{asked_typed}
 use Rattle.at_demand.proofs.of_levels.Wholes.{one_turn}

@@ -34,15 +34,16 @@ use Rattle.at_demand.specs.Attempts.{IsGoing}
 use Rattle.at_demand.specs.ChainSteps.{IsDeeper}
 use Rattle.at_demand.specs.Covering.{AreWhole}
 use Rattle.at_demand.specs.Forming.{waits_for}
-use Rattle.at_demand.specs.Known.{FoundKept, KeepsEntries, equations, kept_values, meaning}
+use Rattle.at_demand.specs.Known.{FoundKept}
+use Rattle.at_evaluate.specs.Valued.{KeepsEntries, equations, kept_values, meaning}
 use Rattle.at_demand.specs.KeptTrials.{AreTrials, Fit, FitAt}
 use Rattle.at_demand.specs.LastTried.{IsDeeperLast}
 use Rattle.at_demand.specs.Levels.{LevelCode, StandsFor, known_to, level_of, levels_of, root_in}
 use Rattle.at_demand.specs.Only.{AreLean}
 use Rattle.at_demand.specs.Searches.{IsTried, TurnsBy}
-use Rattle.at_demand.specs.Sparing.{AreSettled}
+use Rattle.at_demand.specs.Worth.{AreSettled}
 use Rattle.at_demand.specs.Turns.{HaveMet, IsSparingTurns, IsStanding, found_of, passed_of, under_way}
-use Rattle.at_demand.proofs.Entered.{is_there, not_none, value_on}
+use Rattle.at_evaluate.proofs.Entered.{is_there, not_none, value_on}
 use Rattle.at_demand.proofs.Fitting.{noted_same, push_trial}
 use Rattle.at_demand.proofs.Keys.{keys_push, no_key}
 use Rattle.at_demand.proofs.Recalling.{known_kept}

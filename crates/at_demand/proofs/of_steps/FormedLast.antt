@@ -16,12 +16,12 @@ use Rattle.at_demand.specs.declared.answer.Answer.{Answer}
 use Rattle.at_demand.specs.declared.question.Question.{Question}
 use Rattle.at_demand.specs.declared.trials.Trials.{Trials}
 use Rattle.at_demand.specs.ChainSteps.{HasEnded}
-use Rattle.at_demand.specs.Known.{meaning}
+use Rattle.at_evaluate.specs.Valued.{meaning}
 use Rattle.at_demand.specs.LastTried.{CanForm, HasFormed}
 use Rattle.at_demand.specs.Levels.{IsFormOf, IsUsed, seen_in}
 use Rattle.at_demand.specs.Searches.{CanGoAlong, HasGoneAlong}
 use Rattle.at_demand.specs.Turns.{IsMet, IsSettledBy}
-use Rattle.at_demand.proofs.Entered.{entered, not_none}
+use Rattle.at_evaluate.proofs.Entered.{entered, not_none}
 use Rattle.at_demand.proofs.of_levels.Behind.{IsFormHere}
 use Rattle.at_demand.proofs.of_levels.EndedLast.{can_along_behind, gains_behind, leaves_behind, turns_behind}
 use Rattle.at_demand.proofs.of_levels.GainedBetween.{gains_nothing}

@@ -17,25 +17,25 @@ use Rattle.at_demand.specs.declared.trials.Trials.{Trials}
 use Rattle.at_demand.specs.Answerable.{IsBasis}
 use Rattle.at_demand.specs.Again.{HasKeptAgain, KeepsAgain}
 use Rattle.at_demand.specs.Answered.{GainsAtMost, HasTurnedOften, HasTurnedWith, HasWorthyFor, most_turns}
-use Rattle.at_demand.specs.Inner.{Gains}
-use Rattle.at_demand.specs.Known.{ArePlain, answer_view, equations, kept_values, meaning}
+use Rattle.at_evaluate.specs.Inner.{Gains}
+use Rattle.at_evaluate.specs.Valued.{ArePlain, equations, kept_values, meaning}
+use Rattle.at_demand.specs.Known.{answer_view}
 use Rattle.at_demand.specs.Levels.{StandsFor, asked_by}
-use Rattle.at_demand.specs.Right.{AreRight, IsThere}
+use Rattle.at_evaluate.specs.Right.{AreRight, IsThere}
 use Rattle.at_demand.specs.Sound.{AreSound}
-use Rattle.at_demand.specs.Sparing.{AddsWorthy, AreSpare, Counts}
-use Rattle.at_demand.specs.Traces.{AreJustified}
-use Rattle.at_demand.specs.Reasons.{AreLed}
+use Rattle.at_evaluate.specs.Sparing.{AddsWorthy, AreSpare, Counts}
+use Rattle.at_evaluate.specs.Traces.{AreJustified}
+use Rattle.at_evaluate.specs.Led.{AreLed}
 use Rattle.at_demand.specs.Turns.{AreTurns, AreTurnsOfChain, IsSparingTurns, IsStanding, under_way}
 use Rattle.at_demand.specs.Turns as turns
-use Rattle.at_demand.proofs.Counting.{counts_more, counts_none}
-use Rattle.at_demand.proofs.Gaining.{worthy_none}
+use Rattle.at_evaluate.proofs.Counting.{counts_more, counts_none}
+use Rattle.at_evaluate.proofs.of_nesting.InnerGains.{worthy_none, gains_up, known_none}
 use Rattle.at_demand.proofs.Standing.{answers_right, asked_same, last_led, sound_after, worthy_both}
-use Rattle.at_demand.proofs.of_nesting.InnerGains.{gains_up, known_none}
 use Rattle.at_demand.proofs.of_steps.Grown.{spares_grown, stands_grown, stands_more}
 use Rattle.at_demand.proofs.of_steps.KeptAgain.{again_before, gains_again}
 use Rattle.at_demand.proofs.of_steps.Turning.{gains_none}
-use Rattle.at_demand.proofs.of_traces.Justified.{stay_justified}
-use Rattle.at_demand.proofs.of_traces.Settled.{LastKept, settled_demanded}
+use Rattle.at_evaluate.proofs.of_traces.Justified.{stay_justified}
+use Rattle.at_evaluate.proofs.of_traces.Settled.{LastKept, settled_demanded}
 
 -- So many turns were given, and the question stands.
 pub record HasGivenSo (rules : Rules) (s : Shown) (m : Memories) (first now : Entries) (w x given : ℕ) (old new : Question) : Type 0 where

@@ -12,12 +12,13 @@ use Rattle.at_cache.specs.Kept.{Entries}
 use Rattle.at_demand.proofs.of_levels.Followed.{followed_same}
 use Rattle.at_demand.specs.declared.evaluation.Find.{Find}
 use Rattle.at_demand.specs.declared.question.Question.{Question}
-use Rattle.at_demand.specs.Known.{IsKept, KeepsEntries, found_values, kept_values, meaning}
+use Rattle.at_evaluate.specs.Valued.{IsKept, KeepsEntries, kept_values, meaning}
+use Rattle.at_demand.specs.Known.{found_values}
 use Rattle.at_demand.specs.Levels.{IsLevel, LevelCode, StandsFor, fault_in, known_to, root_in, seen_in, todo_in}
-use Rattle.at_demand.specs.Meant.{AreRightValues}
+use Rattle.at_evaluate.specs.Meant.{AreRightValues}
 use Rattle.at_demand.specs.Sound.{AreSound}
 use Rattle.at_demand.specs.Turns.{IsSparingTurns, IsStanding}
-use Rattle.at_demand.proofs.Entered.{entered_on, is_there, kept_on, not_none, there, value_on, valued_on}
+use Rattle.at_evaluate.proofs.Entered.{entered_on, is_there, kept_on, not_none, there, value_on, valued_on}
 use Rattle.at_demand.proofs.of_searches.OnceTold.{covered_on}
 use Rattle.at_demand.proofs.of_levels.Resolving.{still_known}
 use Rattle.at_demand.proofs.of_steps.Met.{have_more, met_more}

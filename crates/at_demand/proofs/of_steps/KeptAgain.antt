@@ -11,15 +11,15 @@ use Rattle.at_body.specs.Same.{same_instance}
 use Rattle.at_cache.specs.Kept.{Entries, PutsBy}
 use Rattle.at_cache.specs.Traced.{IsNext, Memories, Settled, StayTraced, TracesNothing, below, itself, nothing, one_more}
 use Rattle.at_demand.specs.Again.{HasKeptAgain, KeepsAgain}
-use Rattle.at_demand.specs.Inner.{AreKnown, Gains}
-use Rattle.at_demand.specs.Known.{KeepsEntries}
-use Rattle.at_demand.specs.Traces.{AreJustified}
+use Rattle.at_evaluate.specs.Inner.{AreKnown, Gains}
+use Rattle.at_evaluate.specs.Valued.{KeepsEntries}
+use Rattle.at_evaluate.specs.Traces.{AreJustified}
 use Rattle.at_demand.specs.Turns.{AreTurns, AreTurnsOfChain}
 use Rattle.at_demand.specs.Turns as turns
-use Rattle.at_demand.proofs.Entered.{not_none}
-use Rattle.at_demand.proofs.Sameness.{same_true}
-use Rattle.at_demand.proofs.of_traces.Justified.{stay_same}
-use Rattle.at_demand.proofs.of_traces.Settled.{LastKept, settled_gains}
+use Rattle.at_evaluate.proofs.Entered.{not_none}
+use Rattle.at_evaluate.proofs.Sameness.{same_true}
+use Rattle.at_evaluate.proofs.of_traces.Justified.{stay_same}
+use Rattle.at_evaluate.proofs.of_traces.Settled.{LastKept, settled_gains}
 
 -- from q on there is a way over memories that were more before, too
 next_before : (m n : Memories) (e : Entries) (q i : Instance ℕ) → StayTraced m n → IsNext n e q i → IsNext m e q i

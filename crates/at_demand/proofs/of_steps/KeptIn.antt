@@ -15,12 +15,12 @@ use Rattle.at_search.proofs.Meeting.{passes}
 use Rattle.at_demand.specs.declared.question.Question.{Question}
 use Rattle.at_demand.specs.declared.trials.Trials.{Trials}
 use Rattle.at_demand.specs.Answerable.{IsAnswerable}
-use Rattle.at_demand.specs.Known.{kept_values, meaning}
+use Rattle.at_evaluate.specs.Valued.{kept_values, meaning}
 use Rattle.at_demand.specs.KeptTrials.{IsNotedRight}
 use Rattle.at_demand.specs.Levels.{IsCovered, IsRooted, LevelCode, StandsFor, asked_by, fault_in, known_to, root_in, seen_in, todo_in}
 use Rattle.at_demand.specs.Searches.{CanGoAlong, StandsBetween}
 use Rattle.at_demand.specs.Turns.{IsStanding}
-use Rattle.at_demand.proofs.Entered.{is_there}
+use Rattle.at_evaluate.proofs.Entered.{is_there}
 use Rattle.at_demand.proofs.Fitting.{none_fit}
 use Rattle.at_demand.proofs.Marking.{told_among}
 use Rattle.at_demand.proofs.Recalling.{known_kept}

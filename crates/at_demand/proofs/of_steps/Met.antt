@@ -6,10 +6,10 @@ use Rattle.at_model.specs.of_fixpoints.Fixpoints.{HasValue}
 use Rattle.at_cache.specs.Kept.{Entries}
 use Rattle.at_demand.specs.declared.evaluation.Find.{Find}
 use Rattle.at_demand.specs.Covering.{Extends}
-use Rattle.at_demand.specs.Known.{KeepsEntries, meaning}
+use Rattle.at_evaluate.specs.Valued.{KeepsEntries, meaning}
 use Rattle.at_demand.specs.Levels.{LevelCode, root_in}
 use Rattle.at_demand.specs.Turns.{HasMet, HaveMet, IsMet, next_root}
-use Rattle.at_demand.proofs.Entered.{entered_on}
+use Rattle.at_evaluate.proofs.Entered.{entered_on}
 use Rattle.at_demand.proofs.Extending.{get_more}
 use Rattle.at_demand.proofs.Passing.{past_more}
 

@@ -20,10 +20,10 @@ use Rattle.at_demand.specs.declared.demand.searching.Resolved.{Resolved}
 use Rattle.at_demand.specs.declared.demand.searching.Resolved.TheVariants as resolved
 use Rattle.at_demand.specs.declared.question.Question.{Question}
 use Rattle.at_demand.specs.declared.trials.Trials.{Trials}
-use Rattle.at_demand.specs.Known.{meaning}
+use Rattle.at_evaluate.specs.Valued.{meaning}
 use Rattle.at_demand.specs.Searches.{HasResolved, IsResolved, NotesTold}
 use Rattle.at_demand.specs.KeptTrials.{HasNoted, IsNotedAs, IsNotedRight}
-use Rattle.at_demand.proofs.Sameness.{same_true}
+use Rattle.at_evaluate.proofs.Sameness.{same_true}
 
 abbrev Noted : Type 0
 Noted = List (Instance ℕ × Fault)

@@ -30,15 +30,16 @@ use Rattle.at_demand.specs.Answerable.{IsBasis}
 use Rattle.at_demand.specs.Answered.{HasTurnedOn, HasWorthyFor}
 use Rattle.at_demand.specs.ChainSteps.{HasPassedOn, IsPassedTo, IsUnchanged}
 use Rattle.at_demand.specs.Covering.{AreWhole}
-use Rattle.at_demand.specs.Known.{ArePlain, FoundKept, equations, kept_values, known_in, meaning}
+use Rattle.at_evaluate.specs.Valued.{ArePlain, equations, kept_values, meaning}
+use Rattle.at_demand.specs.Known.{FoundKept, known_in}
 use Rattle.at_demand.specs.KeptTrials.{AreTrials, Fit, FitAt, IsNotedRight}
 use Rattle.at_demand.specs.LastTried.{AwaitsLast, IsPassedOver}
 use Rattle.at_demand.specs.Levels.{LevelCode, StandsFor, asked_by, level_of, levels_of, root_in}
 use Rattle.at_demand.specs.Only.{AreLean}
 use Rattle.at_demand.specs.Sound.{AreSound}
-use Rattle.at_demand.specs.Sparing.{AreSettled}
+use Rattle.at_demand.specs.Worth.{AreSettled}
 use Rattle.at_demand.specs.Turns.{HasTurnedBy, HaveMet, IsSparingTurns, IsStanding, found_of, passed_of, under_way}
-use Rattle.at_demand.proofs.Entered.{is_there}
+use Rattle.at_evaluate.proofs.Entered.{is_there}
 use Rattle.at_demand.proofs.Fitting.{ended_fit, noted_same}
 use Rattle.at_demand.proofs.Gaining.{asked_kept}
 use Rattle.at_demand.proofs.Recalling.{known_kept}

@@ -12,7 +12,7 @@ use Rattle.at_model.proofs.of_formulas.PlainAnswers.{reaches_off, reaches_on}
 use Rattle.at_model.proofs.of_formulas.PlainForms.{holds_back_all, holds_on_all, plain_value}
 use Rattle.at_model.proofs.of_formulas.PlainRules.{rules_plain}
 use Rattle.at_rules.specs.Circular.{HasNoneCircular}
-use Rattle.at_demand.specs.Known.{equations, meaning}
+use Rattle.at_evaluate.specs.Valued.{equations, meaning}
 
 module _ (rules : Rules) (look : Contents ℕ) where
   off : (i j : Instance ℕ) → Comes look (plain_forms (equations rules)) i j → plain.Comes look (equations rules) i j

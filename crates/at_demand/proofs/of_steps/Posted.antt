@@ -23,15 +23,15 @@ use Rattle.at_cache.specs.Kept.{Entries}
 use Rattle.at_search.specs.declared.ended.Ended.{Ended}
 use Rattle.at_demand.specs.declared.evaluation.Find.{Find}
 use Rattle.at_demand.specs.declared.question.Question.{Question}
-use Rattle.at_demand.specs.Known.{equations, found_values, kept_values, known_in, meaning}
+use Rattle.at_evaluate.specs.Valued.{equations, kept_values, meaning}
+use Rattle.at_demand.specs.Known.{found_values, known_in, FoundKept}
 use Rattle.at_demand.specs.Levels.{IsAbout, IsLevel, IsSearch, LevelCode, StandsFor, asked_by, known_to, level_of, levels_of, root_in, todo_in}
 use Rattle.at_demand.specs.Sound.{AreSound}
 use Rattle.at_demand.specs.Turns.{HaveMet, IsBehind, IsSparingTurns, IsStanding, found_of, passed_of, under_way}
 use Rattle.at_demand.specs.Covering.{AreWhole}
-use Rattle.at_demand.specs.Known.{FoundKept}
 use Rattle.at_demand.specs.Only.{AreLean}
-use Rattle.at_demand.specs.Sparing.{AreSettled}
-use Rattle.at_demand.proofs.Entered.{there}
+use Rattle.at_demand.specs.Worth.{AreSettled}
+use Rattle.at_evaluate.proofs.Entered.{there}
 use Rattle.at_demand.proofs.Marking.{told_among}
 use Rattle.at_demand.proofs.of_searches.Reaching.{asked_at}
 use Rattle.at_demand.proofs.of_searches.Returning.{with_level}

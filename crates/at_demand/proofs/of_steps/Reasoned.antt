@@ -14,16 +14,17 @@ use Rattle.at_cache.specs.Traced.{Memories}
 use Rattle.at_demand.specs.declared.question.Question.{Question}
 use Rattle.at_demand.specs.Answerable.{CanBegin}
 use Rattle.at_demand.specs.Answered.{AddsMet, GainsBy}
-use Rattle.at_demand.specs.Known.{kept_values, meaning, KeepsEntries}
+use Rattle.at_evaluate.specs.Valued.{kept_values, meaning, KeepsEntries}
 use Rattle.at_demand.specs.Levels.{StandsFor}
-use Rattle.at_demand.specs.Meant.{AreRightValues}
-use Rattle.at_demand.specs.Reasons.{AreLed, HasReason, HasReasons}
+use Rattle.at_evaluate.specs.Meant.{AreRightValues}
+use Rattle.at_evaluate.specs.Led.{AreLed}
+use Rattle.at_demand.specs.Reasons.{HasReason, HasReasons}
 use Rattle.at_demand.specs.Sound.{AreSound}
-use Rattle.at_demand.specs.Sparing.{AddsWorthy, AreSpare}
+use Rattle.at_evaluate.specs.Sparing.{AddsWorthy, AreSpare}
 use Rattle.at_demand.specs.Turns.{AreTurns, GainsInTurn, HasTurnedBy}
 use Rattle.at_demand.specs.Turns as turns
 use Rattle.at_model.proofs.of_searching.Turned.{begun_on}
-use Rattle.at_demand.proofs.Entered.{entered, is_there, not_none, there}
+use Rattle.at_evaluate.proofs.Entered.{entered, is_there, not_none, there}
 use Rattle.at_demand.proofs.Marking.{told_among}
 use Rattle.at_demand.proofs.of_levels.Wholes.{stays_on, whole_led}
 use Rattle.at_demand.proofs.of_steps.Grown.{stands_more}

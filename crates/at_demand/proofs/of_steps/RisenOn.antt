@@ -29,17 +29,18 @@ use Rattle.at_demand.specs.declared.trying.Trying.{Trying}
 use Rattle.at_demand.specs.Answerable.{CanTurn}
 use Rattle.at_demand.specs.ChainSteps.{IsUnchanged}
 use Rattle.at_demand.specs.Covering.{AreWhole, Extends}
-use Rattle.at_demand.specs.Known.{FoundKept, IsFound, IsKept, KeepsEntries, answer_view, equations, kept_values, meaning}
+use Rattle.at_demand.specs.Known.{FoundKept, IsFound, answer_view}
+use Rattle.at_evaluate.specs.Valued.{IsKept, KeepsEntries, equations, kept_values, meaning}
 use Rattle.at_demand.specs.KeptTrials.{AreTrials, FitAt}
 use Rattle.at_demand.specs.Levels.{AreFactsOf, IsFormOf, IsUsed, StandsFor, asked_by, known_to, level_of, levels_of, root_in}
-use Rattle.at_demand.specs.Meant.{AreRightValues}
+use Rattle.at_evaluate.specs.Meant.{AreRightValues}
 use Rattle.at_demand.specs.Only.{AreLean}
 use Rattle.at_demand.specs.Searches.{TurnsBy}
 use Rattle.at_demand.specs.Sound.{AreSound}
-use Rattle.at_demand.specs.Sparing.{AreSettled}
+use Rattle.at_demand.specs.Worth.{AreSettled}
 use Rattle.at_demand.specs.Turns.{HaveMet, IsSparingTurns, IsStanding, found_of, passed_of, under_way}
 use Rattle.at_body.specs.Typed.{class_shown}
-use Rattle.at_demand.proofs.Entered.{is_there, kept_on, there, value_on}
+use Rattle.at_evaluate.proofs.Entered.{is_there, kept_on, there, value_on}
 use Rattle.at_demand.proofs.Extending.{get_more}
 use Rattle.at_demand.proofs.Standing.{asked_typed, last_led, plain_holds}
 use Rattle.at_demand.proofs.Turned.{last_two, with_view}

@@ -20,12 +20,13 @@ use Rattle.at_demand.specs.Answerable.{IsBasis}
 use Rattle.at_demand.specs.Answered.{HasTurnedOn, HasWorthyFor}
 use Rattle.at_demand.specs.Groups.{KeepsGroups}
 use Rattle.at_demand.specs.KeptTrials.{FitAfter}
-use Rattle.at_demand.specs.Known.{IsFound, IsKept, KeepsEntries, answer_view, equations, found_values, kept_values}
+use Rattle.at_demand.specs.Known.{IsFound, answer_view, found_values}
+use Rattle.at_evaluate.specs.Valued.{IsKept, KeepsEntries, equations, kept_values}
 use Rattle.at_demand.specs.Searches.{GainsBetween, HasSpoilt, LeavesSo, StaysSo, TurnsBy, WasSeenBy}
 use Rattle.at_demand.specs.Sound.{AreSound}
-use Rattle.at_demand.specs.Sparing.{AreSpare}
+use Rattle.at_evaluate.specs.Sparing.{AreSpare}
 use Rattle.at_demand.specs.Turns.{HasTurnedBy, IsSparingTurns, IsStanding, under_way}
-use Rattle.at_demand.proofs.Entered.{entered, kept_on}
+use Rattle.at_evaluate.proofs.Entered.{entered, kept_on}
 use Rattle.at_demand.proofs.of_levels.CameBetween.{others_before, value_found}
 use Rattle.at_demand.proofs.of_levels.GainedBetween.{gains_then}
 use Rattle.at_demand.proofs.of_levels.LevelOver.{known_as_found}

@@ -21,7 +21,7 @@ use Rattle.at_demand.specs.declared.trying.Going.{Going}
 use Rattle.at_demand.specs.declared.trying.Trying.{Trying}
 use Rattle.at_demand.specs.Attempts.{IsGoing}
 use Rattle.at_demand.specs.Forming.{waits_for}
-use Rattle.at_demand.specs.Known.{meaning}
+use Rattle.at_evaluate.specs.Valued.{meaning}
 use Rattle.at_demand.specs.Searches.{CanSpoil, HasResolved}
 use Rattle.at_demand.specs.Turns.{HasMetAll, IsMet}
 use Rattle.at_demand.proofs.of_levels.Followed.{comes_waiting}

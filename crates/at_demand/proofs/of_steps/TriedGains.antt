@@ -25,17 +25,19 @@ use Rattle.at_demand.specs.declared.trying.Going.{Going}
 use Rattle.at_demand.specs.declared.trying.Tried.{Tried}
 use Rattle.at_demand.specs.InTurns.{PutsInTurns}
 use Rattle.at_demand.specs.Answered.{GainsAtMost}
-use Rattle.at_demand.specs.Known.{IsFound, IsKept, found_values, kept_values, meaning}
+use Rattle.at_demand.specs.Known.{IsFound, found_values, AreThere}
+use Rattle.at_evaluate.specs.Valued.{IsKept, kept_values, meaning}
 use Rattle.at_demand.specs.Levels.{StandsFor, asked_by, known_to, level_of}
-use Rattle.at_demand.specs.Right.{AreRight, AreThere, IsThere}
+use Rattle.at_evaluate.specs.Right.{AreRight, IsThere}
 use Rattle.at_demand.specs.Searches.{GainsBetween, WasSeenBy}
-use Rattle.at_demand.specs.Sparing.{IsWorthy, MayGain}
+use Rattle.at_evaluate.specs.Sparing.{IsWorthy}
+use Rattle.at_demand.specs.Worth.{MayGain}
 use Rattle.at_demand.specs.Tries.{HasCarriedOn}
 use Rattle.at_demand.specs.Turns.{GainsInChain, IsStanding, MayComeIn, found_of, passed_of, under_way}
-use Rattle.at_demand.proofs.Entered.{entered, entered_on, is_there, kept_on, there, valued_on}
-use Rattle.at_demand.proofs.Leading.{leads_on}
+use Rattle.at_evaluate.proofs.Entered.{entered, entered_on, is_there, kept_on, there, valued_on}
+use Rattle.at_evaluate.proofs.LeadingOn.{leads_on}
 use Rattle.at_demand.proofs.Standing.{last_led}
-use Rattle.at_demand.proofs.There.{led_there}
+use Rattle.at_evaluate.proofs.There.{led_there}
 use Rattle.at_demand.proofs.of_levels.CameBetween.{others_before, value_found}
 use Rattle.at_demand.proofs.of_levels.GainedBetween.{gains_then}
 use Rattle.at_demand.proofs.of_levels.LevelOver.{known_as_found}

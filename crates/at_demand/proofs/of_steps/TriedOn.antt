@@ -26,13 +26,14 @@ use Rattle.at_demand.specs.Answerable.{CanTurn, CanTurnWith, IsAnswerable}
 use Rattle.at_demand.specs.Attempts.{IsGoing}
 use Rattle.at_demand.specs.Forming.{waits_for}
 use Rattle.at_demand.specs.Groups.{Tells}
-use Rattle.at_demand.specs.Known.{IsKept, kept_values, known_in, meaning}
+use Rattle.at_evaluate.specs.Valued.{IsKept, kept_values, meaning}
+use Rattle.at_demand.specs.Known.{known_in}
 use Rattle.at_demand.specs.KeptTrials.{AreTrials, Fit, FitAt}
 use Rattle.at_demand.specs.Levels.{StandsFor, all_levels, asked_by, known_to, level_of, levels_of, root_in}
 use Rattle.at_demand.specs.Searches.{AreSoundFinds, CanResolve, CanTryLast, GainsBetween, HasResolved, WasSeenBy}
 use Rattle.at_demand.specs.Sound.{AreSound}
 use Rattle.at_demand.specs.Turns.{HaveMet, IsSparingTurns, IsStanding, IsStandingPlainly, passed_of}
-use Rattle.at_demand.proofs.Entered.{is_there, not_none, there, value_on}
+use Rattle.at_evaluate.proofs.Entered.{is_there, not_none, there, value_on}
 use Rattle.at_demand.proofs.Fitting.{going_more, more_trials}
 use Rattle.at_demand.proofs.Recalling.{known_kept}
 use Rattle.at_demand.proofs.of_levels.FromTry.{led_levels}

@@ -17,11 +17,11 @@ use Rattle.at_cache.specs.Traced.{Memories}
 use Rattle.at_demand.proofs.of_levels.Followed.{followed_same}
 use Rattle.at_demand.specs.declared.question.Question.{Question}
 use Rattle.at_demand.specs.Groups.{Tells}
-use Rattle.at_demand.specs.Known.{kept_values, meaning}
+use Rattle.at_evaluate.specs.Valued.{kept_values, meaning}
 use Rattle.at_demand.specs.Levels.{IsAbout, IsLevel, LevelCode, StandsFor, all_levels, asked_by, fault_in, known_to, level_of, levels_of, root_in, seen_in, todo_in}
 use Rattle.at_demand.specs.Searches.{CanResolve}
 use Rattle.at_demand.specs.Turns.{IsFollowed}
-use Rattle.at_demand.proofs.Entered.{is_there, kept_on, there, value_on}
+use Rattle.at_evaluate.proofs.Entered.{is_there, kept_on, there, value_on}
 use Rattle.at_demand.proofs.Recalling.{known_kept}
 use Rattle.at_demand.proofs.of_levels.FromTry.{led_levels}
 use Rattle.at_demand.proofs.of_searches.OnceTold.{IsToldOf, adds_told, covered_on, found_as, told_in, told_is, told_of}

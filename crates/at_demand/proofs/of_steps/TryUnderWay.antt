@@ -14,7 +14,7 @@ use Rattle.at_demand.specs.declared.trials.Trials.{Trials}
 use Rattle.at_demand.specs.declared.trying.Going.{Going}
 use Rattle.at_demand.specs.Attempts.{IsGoing}
 use Rattle.at_demand.specs.KeptTrials.{FitAt, IsNotedRight}
-use Rattle.at_demand.specs.Known.{kept_values, meaning}
+use Rattle.at_evaluate.specs.Valued.{kept_values, meaning}
 use Rattle.at_demand.specs.Levels.{StandsFor, all_levels, asked_by, known_to}
 use Rattle.at_demand.specs.Answerable.{CanTurnWith}
 use Rattle.at_demand.specs.Searches.{GainsBetween, StaysOn, WasSeenBy}

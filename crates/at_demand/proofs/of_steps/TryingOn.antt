@@ -30,13 +30,13 @@ use Rattle.at_demand.specs.Answerable.{CanTurn}
 use Rattle.at_demand.specs.Answered.{HasTurnedOn}
 use Rattle.at_demand.specs.Forming.{waits_for}
 use Rattle.at_demand.specs.Groups.{Tells}
-use Rattle.at_demand.specs.Known.{meaning}
+use Rattle.at_evaluate.specs.Valued.{meaning}
 use Rattle.at_demand.specs.LastTried.{CanForm, HasFormed, IsDeeperLast}
 use Rattle.at_demand.specs.Levels.{IsFormOf, all_levels, known_to}
 use Rattle.at_demand.specs.Searches.{CanClose, CanResolve, CanSpoil, HasClosed, HasResolved, HasSpoilt, IsResolved}
 use Rattle.at_demand.specs.Tries.{CanCarryOn, HasCarriedOn, NeedsOther}
 use Rattle.at_demand.specs.Turns.{GainsInChain, HasMetAll, under_way}
-use Rattle.at_demand.proofs.Entered.{not_none}
+use Rattle.at_evaluate.proofs.Entered.{not_none}
 use Rattle.at_demand.proofs.Keys.{absent, no_key}
 use Rattle.at_demand.proofs.of_levels.Resolving.{keeps_groups, still_known}
 use Rattle.at_demand.proofs.of_steps.CircleFrom.{can_close, circle_last}

@@ -16,13 +16,14 @@ use Rattle.at_demand.specs.declared.answer.Answer.TheVariants as answer
 use Rattle.at_demand.specs.declared.question.Question.{Question}
 use Rattle.at_demand.specs.declared.trials.Trials.{Trials}
 use Rattle.at_demand.specs.Answered.{GainsAtMost, HasTurnedOn, HasTurnedWith, IsCounted}
-use Rattle.at_demand.specs.Known.{ArePlain, kept_values, meaning}
+use Rattle.at_evaluate.specs.Valued.{ArePlain, kept_values, meaning}
 use Rattle.at_demand.specs.Levels.{asked_by}
-use Rattle.at_demand.specs.Meant.{AreRightValues}
+use Rattle.at_evaluate.specs.Meant.{AreRightValues}
 use Rattle.at_demand.specs.Turns.{IsStanding, under_way}
-use Rattle.at_demand.proofs.Counting.{counts_none}
-use Rattle.at_demand.proofs.Entered.{is_there}
-use Rattle.at_demand.proofs.Gaining.{asked_kept, worthy_none}
+use Rattle.at_evaluate.proofs.Counting.{counts_none}
+use Rattle.at_evaluate.proofs.Entered.{is_there}
+use Rattle.at_demand.proofs.Gaining.{asked_kept}
+use Rattle.at_evaluate.proofs.of_nesting.InnerGains.{worthy_none}
 use Rattle.at_demand.proofs.Standing.{plain_asked, plain_holds}
 
 -- under another condition

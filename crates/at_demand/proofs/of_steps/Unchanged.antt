@@ -16,10 +16,11 @@ use Rattle.at_demand.proofs.of_levels.Followed.{followed_same}
 use Rattle.at_demand.specs.declared.question.Question.{Question}
 use Rattle.at_demand.specs.ChainSteps.{IsUnchanged}
 use Rattle.at_demand.specs.Covering.{AreWhole}
-use Rattle.at_demand.specs.Known.{FoundKept, equations, known_in, meaning}
+use Rattle.at_demand.specs.Known.{FoundKept, known_in}
+use Rattle.at_evaluate.specs.Valued.{equations, meaning}
 use Rattle.at_demand.specs.Levels.{IsAbout, IsLevel, LeadsToFault, LevelCode, StandsFor, all_levels, asked_by, known_to, level_of, levels_of, root_in, todo_in}
 use Rattle.at_demand.specs.Only.{AreLean}
-use Rattle.at_demand.specs.Sparing.{AreSettled}
+use Rattle.at_demand.specs.Worth.{AreSettled}
 use Rattle.at_demand.specs.Turns.{HaveMet, IsSparingTurns, IsStanding, IsStandingPlainly, found_of, passed_of, under_way}
 use Rattle.at_demand.proofs.of_searches.Moving.{asked_same}
 use Rattle.at_demand.proofs.of_levels.Resolving.{asked_moved, facts_same, same_levels}

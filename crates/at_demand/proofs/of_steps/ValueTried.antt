@@ -33,26 +33,27 @@ use Rattle.at_demand.specs.Answered.{HasTurnedOn, HasWorthyFor}
 use Rattle.at_demand.specs.Attempts.{HasFound}
 use Rattle.at_demand.specs.ChainSteps.{IsEnded, IsPassedTo, IsSettledTo}
 use Rattle.at_demand.specs.Covering.{AreWhole, Extends, IsDemanded}
-use Rattle.at_demand.specs.Known.{AreValued, FoundKept, IsFound, IsKept, KeepsEntries, answer_view, equations, found_values, kept_values, known_in, meaning}
+use Rattle.at_evaluate.specs.Valued.{AreValued, IsKept, KeepsEntries, equations, kept_values, meaning}
+use Rattle.at_demand.specs.Known.{FoundKept, IsFound, answer_view, found_values, known_in}
 use Rattle.at_demand.specs.KeptTrials.{Fit, FitAt, IsNotedRight}
 use Rattle.at_demand.specs.LastTried.{AwaitsLast, IsPassedLast, IsSettledLast}
 use Rattle.at_demand.specs.Levels.{asked_by, known_to, root_in}
-use Rattle.at_demand.specs.Meant.{AreRightValues}
+use Rattle.at_evaluate.specs.Meant.{AreRightValues}
 use Rattle.at_demand.specs.Only.{AreLean}
-use Rattle.at_demand.specs.Sparing.{AreSettled, AreSpare, IsWorthy}
+use Rattle.at_demand.specs.Worth.{AreSettled}
+use Rattle.at_evaluate.specs.Sparing.{AreSpare, IsWorthy}
 use Rattle.at_demand.specs.Tries.{HasCarriedOn}
 use Rattle.at_demand.specs.Turns.{IsSparingTurns, IsStanding, found_of, passed_of, under_way}
 use Rattle.at_demand.proofs.Attempted.{whole_alone}
-use Rattle.at_demand.proofs.Entered.{entered, is_there, not_none, valued_on, value_on}
+use Rattle.at_evaluate.proofs.Entered.{entered, is_there, not_none, valued_on, value_on}
 use Rattle.at_demand.proofs.Extending.{among_at}
 use Rattle.at_demand.proofs.Gaining.{is_kept, known_below}
-use Rattle.at_demand.proofs.Keys.{goes_last, lookup_push, no_key}
+use Rattle.at_demand.proofs.Keys.{goes_last, lookup_push, no_key, found_once}
 use Rattle.at_demand.proofs.Leading.{valueless}
 use Rattle.at_demand.proofs.OnlyLemmas.{lean_push}
 use Rattle.at_demand.proofs.Orderly.{neither}
 use Rattle.at_demand.proofs.Passing.{whole_push}
 use Rattle.at_demand.proofs.Recalling.{known_found, known_kept}
-use Rattle.at_demand.proofs.There.{found_once}
 use Rattle.at_demand.proofs.Turned.{one_found, one_passed, passed_one, with_view}
 use Rattle.at_demand.proofs.of_levels.Plain.{comes_by_demand}
 use Rattle.at_demand.proofs.of_steps.Counted.{answered_so, broken_on, counted_so}

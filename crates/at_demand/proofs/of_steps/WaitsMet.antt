@@ -16,9 +16,9 @@ use Rattle.at_demand.specs.declared.trying.Trying.TheVariants as trying
 use Rattle.at_demand.specs.Attempts.{IsGoing}
 use Rattle.at_demand.specs.Covering.{IsTold}
 use Rattle.at_demand.specs.Forming.{waits_for}
-use Rattle.at_demand.specs.Known.{meaning}
+use Rattle.at_evaluate.specs.Valued.{meaning}
 use Rattle.at_demand.specs.Turns.{HasMet, IsMet}
-use Rattle.at_demand.proofs.Entered.{is_there, not_none, there}
+use Rattle.at_evaluate.proofs.Entered.{is_there, not_none, there}
 use Rattle.at_demand.proofs.Passing.{past_more}
 use Rattle.at_demand.proofs.of_levels.FailedMet.{met_demanded}
 use Rattle.at_demand.proofs.of_levels.Plain.{past_formula}

@@ -7,7 +7,7 @@ use Rattle.at_store.specs.Shown.{Shown}
 use Rattle.at_cache.specs.Kept.{Entries}
 use Rattle.at_cache.specs.Traced.{Memories, SparesAtEdit, Trace}
 use Rattle.at_demand.specs.InTurns.{CountsKept, PutsInTurns}
-use Rattle.at_demand.specs.Made.{Makes}
+use Rattle.at_evaluate.specs.Made.{Makes}
 use Rattle.at_demand.specs.Touched.{Touches}
 use Rattle.at_demand.specs.Went.{
   HasCause,

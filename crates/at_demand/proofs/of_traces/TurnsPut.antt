@@ -10,13 +10,13 @@ use Rattle.at_cache.specs.Kept.{Entries}
 use Rattle.at_cache.specs.Traced.{AreAlike, Memories, PutsTrace, SparesAtEdit, SparesOthers, StayTraced, Trace}
 use Rattle.at_cache.specs.declared.keeper.Order.TheVariants as order
 use Rattle.at_demand.specs.InTurns.{CountsKept, PutsInTurns, WasPut, another, earlier, itself, nothing, one_more}
-use Rattle.at_demand.specs.Made.{Makes}
-use Rattle.at_demand.specs.Sparing.{Counts}
+use Rattle.at_evaluate.specs.Made.{Makes}
+use Rattle.at_evaluate.specs.Sparing.{Counts}
 use Rattle.at_demand.specs.Touched.{Touches}
 use Rattle.at_demand.specs.Went.{Went, asked, begun, edited, turned}
-use Rattle.at_demand.proofs.Sameness.{same_refl, same_true}
-use Rattle.at_demand.proofs.of_traces.Justified.{stay_any, stay_same, stay_then}
-use Rattle.at_demand.proofs.of_traces.Making.{makes_alike}
+use Rattle.at_evaluate.proofs.Sameness.{same_refl, same_true}
+use Rattle.at_evaluate.proofs.of_traces.Justified.{stay_any, stay_same, stay_then}
+use Rattle.at_evaluate.proofs.of_traces.Making.{makes_alike}
 
 pub puts_same : (m : Memories) → PutsInTurns m m
 puts_same m = nothing

@@ -12,13 +12,13 @@ use Rattle.at_model.proofs.of_edits.NoDrawer.{touched_as_before}
 use Rattle.at_store.specs.Shown.{Shown, IsIdle, contents, path, tree}
 use Rattle.at_store.specs.Preparing.{IsCommitted}
 use Rattle.at_cache.specs.Traced.{Trace, Memories, FlushesTraces}
-use Rattle.at_demand.specs.Known.{equations}
-use Rattle.at_demand.specs.Inner.{is_inner}
+use Rattle.at_evaluate.specs.Valued.{equations}
+use Rattle.at_evaluate.specs.Inner.{is_inner}
 use Rattle.at_demand.specs.Touched.{Touches}
-use Rattle.at_demand.specs.Traces.{IsJustified, IsRemembered}
+use Rattle.at_evaluate.specs.Traces.{IsJustified, IsRemembered}
 use Rattle.at_demand.proofs.of_keeping.Staying.{Stays, IsOver, Untouched, alike_there, node_stays, named_later}
 use Rattle.at_demand.proofs.of_keeping.StayingRight.{over}
-use Rattle.at_demand.proofs.of_traces.Justified.{stays_justified}
+use Rattle.at_evaluate.proofs.of_traces.Justified.{stays_justified}
 
 abbrev Way : Type 0
 Way = ℕ × ℕ

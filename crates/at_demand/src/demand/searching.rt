@@ -7,8 +7,7 @@ ghost use Rattle.at_model.specs.Run.{Contents};
 ghost use Rattle.at_model.specs.of_fixpoints.Formulas.{Forms};
 ghost use Rattle.at_search.specs.Recorded.{AreFacts, AreWhole, IsMarked};
 ghost use Rattle.at_demand.specs.Levels.{known_to};
-ghost use Rattle.at_demand.specs.Searches.{CanClose, CanGoAlong, CanLeave, CanResolve, CanSearch, CanSolveLevel, HasClosed, HasFallen, HasGoneAlong};
-ghost use Rattle.at_demand.specs.Searches.{HasLeft, HasLookedAt, IsLastUnseen};
+ghost use Rattle.at_demand.specs.Searches.{CanClose, CanGoAlong, CanLeave, CanResolve, CanSearch, CanSolveLevel, HasClosed, HasFallen, HasGoneAlong, HasLeft, HasLookedAt, IsLastUnseen};
 ghost use Rattle.at_demand.specs.Searches.{HasResolved, HasRisenTo, HasSearched, HasSearchedOn, HasSolvedLevel, IsMetFault, look_of};
 
 use super::Demand;

@@ -21,7 +21,7 @@ ghost use Rattle.at_demand.specs.Tries.{CanCarryOn, HasCarriedOn};
 ghost use Rattle.at_demand.specs.KeptTrials.{Fit, IsNotedRight};
 ghost use Rattle.at_demand.specs.LastTried.{CanForm, HasFormed, IsDeeperLast, IsPassedLast, IsPassedOver, IsSettledLast};
 ghost use Rattle.at_demand.specs.InTurns.{PutsAndCounts, PutsInTurns, PutsSo};
-ghost use Rattle.at_demand.specs.Traces.{AreJustified};
+ghost use Rattle.at_evaluate.specs.Traces.{AreJustified};
 
 use super::Demand;
 use super::searching::Resolved;

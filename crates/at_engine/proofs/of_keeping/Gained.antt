@@ -14,13 +14,13 @@ use Rattle.at_store.proofs.Found.{path_injective}
 use Rattle.at_store.proofs.Relabelled.{contents_alike}
 use Rattle.at_cache.specs.Kept.{Entries}
 use Rattle.at_demand.specs.Answered.{AddsMet}
-use Rattle.at_demand.specs.Known.{kept_values, IsKept}
-use Rattle.at_demand.specs.Sparing.{AddsWorthy, Counts}
+use Rattle.at_evaluate.specs.Valued.{kept_values, IsKept}
+use Rattle.at_evaluate.specs.Sparing.{AddsWorthy, Counts}
 use Rattle.at_demand.specs.Called.{KeptBy}
 use Rattle.at_demand.proofs.of_keeping.CalledAsked.{one_number, one_path, worth_on}
 use Rattle.at_engine.specs.KeptOver.{Grows}
-use Rattle.at_demand.proofs.Counting.{came_worth}
-use Rattle.at_demand.proofs.Entered.{kept_on, not_none}
+use Rattle.at_demand.proofs.Working.{came_worth}
+use Rattle.at_evaluate.proofs.Entered.{kept_on, not_none}
 use Rattle.at_demand.proofs.Naming.{name_all}
 
 -- kept or not

@@ -25,9 +25,9 @@ use Rattle.at_store.specs.declared.edit.Refusal.{Refusal as EditRefusal}
 use Rattle.at_store.specs.declared.edit.Refusal.TheVariants as reason
 use Rattle.at_cache.specs.Kept.{Entries, Kept, KeepsAll}
 use Rattle.at_cache.specs.Traced.{Memories}
-use Rattle.at_demand.specs.Known.{IsKept}
-use Rattle.at_demand.specs.Sparing.{AreSpare}
-use Rattle.at_demand.proofs.Entered.{entered}
+use Rattle.at_evaluate.specs.Valued.{IsKept}
+use Rattle.at_evaluate.specs.Sparing.{AreSpare}
+use Rattle.at_evaluate.proofs.Entered.{entered}
 use Rattle.at_demand.specs.Called.{Keeps}
 use Rattle.at_demand.specs.Groups.{KeepsGroups}
 use Rattle.at_demand.specs.declared.demand.Demand.{Demand}

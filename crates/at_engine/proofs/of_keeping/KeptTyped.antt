@@ -25,13 +25,13 @@ use Rattle.at_body.specs.Typed.{class_shown}
 use Rattle.at_cache.specs.Kept.{Entries, LeavesUntouched, value_at}
 use Rattle.at_cache.specs.Traced.{Memories}
 use Rattle.at_demand.specs.Answerable.{IsBasis}
-use Rattle.at_demand.specs.Known.{IsKept, kept_values, meaning}
-use Rattle.at_demand.specs.Meant.{AreRightValues}
-use Rattle.at_demand.specs.Right.{AreRight}
+use Rattle.at_evaluate.specs.Valued.{IsKept, kept_values, meaning}
+use Rattle.at_evaluate.specs.Meant.{AreRightValues}
+use Rattle.at_evaluate.specs.Right.{AreRight}
 use Rattle.at_demand.specs.Sound.{AreSound}
-use Rattle.at_demand.specs.Sparing.{AddsWorthy}
+use Rattle.at_evaluate.specs.Sparing.{AddsWorthy}
 use Rattle.at_demand.specs.Touched.{Touches}
-use Rattle.at_demand.proofs.Entered.{entered, is_there, there}
+use Rattle.at_evaluate.proofs.Entered.{entered, is_there, there}
 use Rattle.at_demand.proofs.of_keeping.Staying.{Stays, instance_stays, named_later}
 use Rattle.at_demand.proofs.of_keeping.StayingRight.{over}
 use Rattle.at_demand.proofs.of_levels.Wholes.{whole_led}

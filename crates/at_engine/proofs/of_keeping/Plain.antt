@@ -6,7 +6,7 @@ use Rattle.at_model.specs.Run.{Contents, Instance}
 use Rattle.at_rules.specs.Circular.{HasNoneCircular}
 use Rattle.at_cache.specs.Kept.{Entries}
 use Rattle.at_demand.specs.Answered.{HasWorthyFor}
-use Rattle.at_demand.specs.Sparing.{HasWorthy}
+use Rattle.at_evaluate.specs.Sparing.{HasWorthy}
 use Rattle.at_engine.specs.Keeping.{KeepsWhole}
 
 -- all that is worthy of the question is kept, whatever the answer is

@@ -2,8 +2,8 @@
 use Rattle.at_model.specs.Rules.{Rules}
 use Rattle.at_store.specs.Shown.{Shown, contents}
 use Rattle.at_cache.specs.Traced.{Memories, StayTraced}
-use Rattle.at_demand.specs.Traces.{IsRemembered}
-use Rattle.at_demand.proofs.of_traces.Justified.{stay_justified, stay_there}
+use Rattle.at_evaluate.specs.Traces.{IsRemembered}
+use Rattle.at_evaluate.proofs.of_traces.Justified.{stay_justified, stay_there}
 
 pub remembered_still : (rules : Rules) (s : Shown) (before later : Memories) → StayTraced before later
     → IsRemembered rules s before → IsRemembered rules s later

@@ -15,7 +15,7 @@ use Rattle.at_store.specs.Shown.{Shown, path, tree}
 use Rattle.at_cache.specs.Kept.{Entries}
 use Rattle.at_cache.specs.Traced.{Memories}
 use Rattle.at_demand.specs.Groups.{KeepsGroups}
-use Rattle.at_demand.specs.Meant.{AreCircularWell}
+use Rattle.at_evaluate.specs.Meant.{AreCircularWell}
 use Rattle.at_demand.specs.declared.demand.Demand.{Demand}
 use Rattle.at_demand.specs.declared.question.Question.{Question}
 use Rattle.at_rules.specs.Circular.{HasNoneCircular}

@@ -14,9 +14,9 @@ use Rattle.at_protocol.specs.declared.reply.Form.{Form as FormValue}
 use Rattle.at_store.specs.Shown.{Shown, contents, path, tree}
 use Rattle.at_cache.specs.Kept.{Entries}
 use Rattle.at_cache.specs.Traced.{Memories}
-use Rattle.at_demand.specs.Right.{AreRight}
-use Rattle.at_demand.specs.Traces.{IsRemembered}
-use Rattle.at_demand.specs.Sparing.{AreSpare}
+use Rattle.at_evaluate.specs.Right.{AreRight}
+use Rattle.at_evaluate.specs.Traces.{IsRemembered}
+use Rattle.at_evaluate.specs.Sparing.{AreSpare}
 use Rattle.at_demand.specs.declared.question.Question.{Question}
 use Rattle.at_demand.proofs.of_steps.Grown.{spares_grown, stands_grown}
 use Rattle.at_engine.specs.Holding.{AreKeptTyped, HasBegun, IsPostedOn, IsSoundWith, state_in}

@@ -8,7 +8,8 @@ use Rattle.at_store.specs.Shown.{Shown, contents}
 use Rattle.at_cache.specs.Kept.{Entries}
 use Rattle.at_cache.specs.Traced.{Memories}
 use Rattle.at_demand.specs.Answered.{HasTurnedOften, most_turns}
-use Rattle.at_demand.specs.Known.{answer_view, meaning}
+use Rattle.at_demand.specs.Known.{answer_view}
+use Rattle.at_evaluate.specs.Valued.{meaning}
 use Rattle.at_demand.specs.Levels.{StandsFor, asked_by}
 use Rattle.at_demand.specs.Sound.{AreSound}
 use Rattle.at_demand.specs.Turns.{HasGivenBy, IsStanding}

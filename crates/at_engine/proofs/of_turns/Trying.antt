@@ -22,7 +22,7 @@ use Rattle.at_demand.specs.Answerable.{CanTurn as CanBeTurned, IsBasis}
 use Rattle.at_demand.specs.Answered.{HasTurnedOften}
 use Rattle.at_demand.specs.Groups.{KeepsGroups}
 use Rattle.at_demand.specs.Levels.{asked_by}
-use Rattle.at_demand.specs.Right.{IsThere}
+use Rattle.at_evaluate.specs.Right.{IsThere}
 use Rattle.at_demand.specs.Sound.{AreSound}
 use Rattle.at_demand.specs.Turns.{IsSparingTurns}
 use Rattle.at_demand.specs.declared.answer.Answer.{Answer as AnswerCode}

@@ -5,7 +5,7 @@ ghost use Rattle.at_model.specs.Classes.{AreSound};
 ghost use Rattle.at_model.specs.Trees.{conforms};
 ghost use Rattle.at_store.specs.Shown.{IsIdle, path, tree};
 ghost use Rattle.at_engine.specs.Marks.{AreThere};
-ghost use Rattle.at_demand.specs.OneProof.{idle_prop};
+ghost use Rattle.at_evaluate.specs.OneProof.{idle_prop};
 ghost use Rattle.at_engine.specs.OneProof.{classes_prop, there_prop};
 
 use crate::marks::Lookup;

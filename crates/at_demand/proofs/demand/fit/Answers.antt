@@ -1,4 +1,4 @@
-use Rattle.at_demand.proofs.of_traces.Justified.{stay_same}
+use Rattle.at_evaluate.proofs.of_traces.Justified.{stay_same}
 use Rattle.at_demand.proofs.of_traces.Forgetting.{within}
 use Rattle.at_demand.proofs.demand.fit.Goals as goal
 

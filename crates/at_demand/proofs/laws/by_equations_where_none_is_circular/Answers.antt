@@ -8,7 +8,7 @@ use Rattle.at_model.specs.of_fixpoints.Resting.{Leads, Supports}
 use Rattle.at_model.proofs.of_formulas.PlainAnswers.{answers_on, answers_off, leads_on, leads_off, supports_on, supports_off}
 use Rattle.at_model.proofs.of_formulas.PlainForms.{holds_on_all, holds_back_all}
 use Rattle.at_model.proofs.of_formulas.PlainRules.{rules_plain}
-use Rattle.at_demand.specs.Known.{equations}
+use Rattle.at_evaluate.specs.Valued.{equations}
 use Rattle.at_demand.proofs.laws.by_equations_where_none_is_circular.Goals as goal
 
 pub returns-clause-outcomes : goal.returns-clause-outcomes

@@ -1,5 +1,5 @@
 use Rattle.at_store.specs.Shown.{contents}
-use Rattle.at_demand.proofs.of_traces.Justified.{stay_justified, stay_there}
+use Rattle.at_evaluate.proofs.of_traces.Justified.{stay_justified, stay_there}
 use Rattle.at_demand.proofs.laws.what_stays_traced_is_right.Goals as goal
 
 pub returns-clause-justified : goal.returns-clause-justified

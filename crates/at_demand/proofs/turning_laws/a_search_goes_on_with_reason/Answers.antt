@@ -1,6 +1,6 @@
 use Rattle.std.proofs.Common.{None, refl}
 use Rattle.at_store.specs.Shown.{contents}
-use Rattle.at_demand.specs.Known.{meaning}
+use Rattle.at_evaluate.specs.Valued.{meaning}
 use Rattle.at_demand.proofs.of_levels.Wholes.{whole_led}
 use Rattle.at_demand.proofs.of_searches.ReasonedTurns.{reasons_more, reasons_posted, turn_reasons}
 use Rattle.at_demand.proofs.of_searches.Stepping.{whole_valued}

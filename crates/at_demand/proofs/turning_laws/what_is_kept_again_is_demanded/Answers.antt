@@ -1,5 +1,5 @@
 use Rattle.std.proofs.Common.{[]}
-use Rattle.at_demand.proofs.of_traces.Settled.{settled_demanded}
+use Rattle.at_evaluate.proofs.of_traces.Settled.{settled_demanded}
 use Rattle.at_demand.proofs.turning_laws.what_is_kept_again_is_demanded.Goals as goal
 
 pub returns : goal.returns

@@ -1,4 +1,4 @@
-use Rattle.at_demand.specs.Known.{kept_values}
+use Rattle.at_evaluate.specs.Valued.{kept_values}
 use Rattle.at_model.specs.of_fixpoints.Searching.{posted}
 use Rattle.at_demand.proofs.of_steps.Reasoned.{kept_reasoned, posted_reasoned}
 use Rattle.at_demand.proofs.turning_laws.what_turns_let_come_was_met.Goals as goal

@@ -2,7 +2,7 @@ use Rattle.std.proofs.Common.{ℕ, Some, inl, inr, refl, sym, ap, ◌∙◌}
 use Rattle.at_model.specs.Run.{Instance}
 use Rattle.at_body.specs.Same.{same_instance}
 use Rattle.at_demand.proofs.Keys.{key_passes}
-use Rattle.at_demand.proofs.Sameness.{same_true}
+use Rattle.at_evaluate.proofs.Sameness.{same_true}
 use Rattle.at_demand.proofs.demand.Demand.add_use.Goals as goal
 
 pub returns-in_ok-push-in-Some-get_full : goal.returns-in_ok-push-in-Some-get_full

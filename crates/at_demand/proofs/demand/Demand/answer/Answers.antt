@@ -3,9 +3,9 @@ use Rattle.std.proofs.lemmas.Result.{err_from_is_err_and}
 use Rattle.at_model.specs.Run.{Value}
 use Rattle.at_store.specs.Shown.{contents}
 use Rattle.at_demand.specs.Went.{begun}
-use Rattle.at_demand.proofs.of_nesting.InnerAnswered.{answered_by, answered_kept, met_none}
-use Rattle.at_demand.proofs.of_nesting.InnerGains.{gains_none, known_none}
-use Rattle.at_demand.proofs.of_traces.Making.{makes_none}
+use Rattle.at_demand.proofs.InnerAnswered.{answered_by, answered_kept, met_none}
+use Rattle.at_evaluate.proofs.of_nesting.InnerGains.{gains_none, known_none}
+use Rattle.at_evaluate.proofs.of_traces.Making.{makes_none}
 use Rattle.at_demand.proofs.demand.Demand.answer.Goals as goal
 
 pub returns-in-Some : goal.returns-in-Some

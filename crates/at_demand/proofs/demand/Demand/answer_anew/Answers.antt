@@ -5,14 +5,14 @@ use Rattle.at_model.specs.of_fixpoints.Fixpoints.{HasValue}
 use Rattle.at_store.specs.Shown.{contents}
 use Rattle.at_body.specs.Values.{value_view}
 use Rattle.at_body.specs.declared.value.Value.{Value as ValueCode}
-use Rattle.at_demand.specs.Known.{meaning}
-use Rattle.at_demand.specs.Sparing.{HasWorthy}
+use Rattle.at_evaluate.specs.Valued.{meaning}
+use Rattle.at_evaluate.specs.Sparing.{HasWorthy}
 use Rattle.at_demand.proofs.Standing.{sound_more}
-use Rattle.at_demand.proofs.of_nesting.InnerAnswered.{answered_after, answered_by}
-use Rattle.at_demand.proofs.of_nesting.InnerGains.{known_none}
+use Rattle.at_demand.proofs.InnerAnswered.{answered_after, answered_by}
+use Rattle.at_evaluate.proofs.of_nesting.InnerGains.{known_none}
 use Rattle.at_demand.proofs.of_steps.Reasoned.{led_met}
 use Rattle.at_demand.proofs.of_traces.TurnsPut.{went_made, went_then}
-use Rattle.at_demand.proofs.of_traces.Putting.{traced_then}
+use Rattle.at_evaluate.proofs.of_traces.Putting.{traced_then}
 use Rattle.at_demand.proofs.demand.Demand.answer_anew.Goals as goal
 
 pub returns-in-Some : goal.returns-in-Some

@@ -14,12 +14,12 @@ use Rattle.at_demand.specs.Answered.{HasTurnedWith}
 use Rattle.at_demand.specs.Levels.{IsSearch, StandsFor}
 use Rattle.at_demand.specs.Went.{begun}
 use Rattle.at_demand.proofs.Fitting.{fit_grown, none_fit, none_noted}
-use Rattle.at_demand.proofs.of_nesting.InnerAnswered.{answered_by, met_none}
-use Rattle.at_demand.proofs.of_nesting.InnerGains.{gains_none, known_none}
+use Rattle.at_demand.proofs.InnerAnswered.{answered_by, met_none}
+use Rattle.at_evaluate.proofs.of_nesting.InnerGains.{gains_none, known_none}
 use Rattle.at_demand.proofs.of_steps.Ahead.{broken_ahead, posted_asked, so_answered, so_broken, so_ended, so_turned, sound_ahead, stands_ahead, state_of}
 use Rattle.at_demand.proofs.of_steps.Reasoned.{begun_reasoned}
 use Rattle.at_demand.proofs.of_levels.Resolving.{keeps_groups}
-use Rattle.at_demand.proofs.of_traces.Putting.{traced_same}
+use Rattle.at_evaluate.proofs.of_traces.Putting.{traced_same}
 use Rattle.at_demand.proofs.demand.Demand.answer_looking_ahead.Goals as goal
 
 pub loop-given-init : goal.loop-given-init

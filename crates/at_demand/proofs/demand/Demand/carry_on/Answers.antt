@@ -6,7 +6,7 @@ use Rattle.at_demand.specs.declared.evaluation.Frame.{Frame}
 use Rattle.at_demand.specs.declared.formation.Formation.{Formation}
 use Rattle.at_demand.specs.declared.trying.Going.{Going}
 use Rattle.at_demand.specs.Attempts.{HasComeTo, HasFormedTo, IsGoing}
-use Rattle.at_demand.proofs.Counting.{counts_none}
+use Rattle.at_evaluate.proofs.Counting.{counts_none}
 use Rattle.at_demand.proofs.of_levels.Carried.{formed_idle, formed_settles, none_gained, none_worthy, value_idle, value_settles, value_tried}
 use Rattle.at_demand.proofs.of_levels.FormingOn.{formed_tried}
 use Rattle.at_demand.proofs.demand.Demand.carry_on.Goals as goal

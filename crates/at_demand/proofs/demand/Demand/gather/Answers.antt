@@ -1,6 +1,6 @@
 use Rattle.std.proofs.Common.{refl}
 use Rattle.std.proofs.lemmas.Result.{err_from_is_err_and}
-use Rattle.at_demand.proofs.Entered.{entered_on, valued_on}
+use Rattle.at_evaluate.proofs.Entered.{entered_on, valued_on}
 use Rattle.at_demand.proofs.Entering.{founds_on, shares_none}
 use Rattle.at_demand.proofs.of_traces.TurnsPut.{puts_same}
 use Rattle.at_demand.proofs.demand.Demand.gather.Goals as goal

@@ -8,12 +8,14 @@ use Rattle.at_cache.specs.Kept.{Entries}
 use Rattle.at_body.specs.declared.value.Value.{Value as ValueCode}
 use Rattle.at_demand.specs.declared.evaluation.Demanded.{Demanded}
 use Rattle.at_demand.specs.Keeping.{SaysKept}
-use Rattle.at_demand.specs.Known.{known_in, AreValued}
+use Rattle.at_demand.specs.Known.{known_in}
+use Rattle.at_evaluate.specs.Valued.{AreValued}
 use Rattle.at_demand.specs.UnderWay.{HasStepped, IsOpen}
 use Rattle.at_demand.specs.Covering.{HasPassedTo}
 use Rattle.at_demand.specs.Attempts.{HasFound}
-use Rattle.at_demand.proofs.Gaining.{gain_none, settled_still, worthy_none}
-use Rattle.at_demand.proofs.Counting.{counts_none}
+use Rattle.at_demand.proofs.Gaining.{gain_none, settled_still}
+use Rattle.at_evaluate.proofs.of_nesting.InnerGains.{worthy_none}
+use Rattle.at_evaluate.proofs.Counting.{counts_none}
 use Rattle.at_demand.proofs.Attempted.{has_found, has_failed, has_needed, right_added, right_stays, worthy_added, spare_added, settled_added}
 use Rattle.at_demand.proofs.of_traces.TurnsPut.{puts_same}
 use Rattle.at_demand.proofs.demand.Demand.go_on.Goals as goal

@@ -3,8 +3,8 @@ use Rattle.std.proofs.lemmas.Result.{err_from_is_err_and}
 use Rattle.at_store.specs.Located.{loc_view}
 use Rattle.at_body.specs.Values.{value_view}
 use Rattle.at_cache.specs.Kept.{AreKept}
-use Rattle.at_demand.proofs.Entered.{absent, all_entered}
-use Rattle.at_demand.proofs.Gaining.{told_lazy}
+use Rattle.at_evaluate.proofs.Entered.{absent, all_entered}
+use Rattle.at_evaluate.proofs.of_traces.Lazily.{told_lazy}
 use Rattle.at_demand.proofs.Putting.{keeps_failed, keeps_found, left_out, none_below, placed_alone, placed_with, put_as, unplaced, unplaced_with, valued, valued_with}
 use Rattle.at_demand.proofs.of_traces.TurnsPut.{puts_same}
 use Rattle.at_demand.proofs.demand.Demand.keep.Goals as goal

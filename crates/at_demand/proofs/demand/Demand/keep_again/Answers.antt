@@ -1,5 +1,5 @@
 use Rattle.std.proofs.Common.{refl}
-use Rattle.at_demand.proofs.Counting.{counted_more}
+use Rattle.at_evaluate.proofs.Counting.{counted_more}
 use Rattle.at_demand.proofs.demand.Demand.keep_again.Goals as goal
 
 pub returns : goal.returns

@@ -4,7 +4,7 @@ use Rattle.std.proofs.lemmas.Bool.{ltb-true}
 use Rattle.std.proofs.lemmas.Option.{same_Some}
 use Rattle.at_model.specs.Run.{Instance}
 use Rattle.at_demand.specs.Levels.{known_to}
-use Rattle.at_demand.proofs.Entered.{none_entered}
+use Rattle.at_evaluate.proofs.Entered.{none_entered}
 use Rattle.at_demand.proofs.Grouped.{get_at}
 use Rattle.at_demand.proofs.of_groups.KeptOrFound.{known_after, no_ok}
 use Rattle.at_demand.proofs.demand.Demand.keep_other.Goals as goal

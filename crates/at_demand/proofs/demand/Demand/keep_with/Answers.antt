@@ -3,8 +3,8 @@ use Rattle.std.proofs.lemmas.Result.{err_from_is_err_and}
 use Rattle.at_store.specs.Located.{loc_view}
 use Rattle.at_body.specs.Values.{value_view}
 use Rattle.at_cache.specs.Kept.{AreKept}
-use Rattle.at_demand.proofs.Counting.{counts_after, counts_shared}
-use Rattle.at_demand.proofs.Entered.{absent}
+use Rattle.at_evaluate.proofs.Counting.{counts_after, counts_shared}
+use Rattle.at_evaluate.proofs.Entered.{absent}
 use Rattle.at_demand.proofs.Putting.{put_as}
 use Rattle.at_demand.proofs.Entering.{shares_none, shares_on}
 use Rattle.at_demand.proofs.of_traces.TurnsPut.{puts_then}

@@ -1,7 +1,7 @@
 use Rattle.std.proofs.Common.{[]}
-use Rattle.at_demand.specs.InParts.{held}
-use Rattle.at_demand.proofs.of_nesting.Grown.{held_after}
-use Rattle.at_demand.proofs.of_nesting.GrownAhead.{grown_again, grown_at_once}
+use Rattle.at_evaluate.specs.InParts.{held}
+use Rattle.at_evaluate.proofs.of_nesting.Grown.{held_after}
+use Rattle.at_demand.proofs.GrownAhead.{grown_again, grown_at_once}
 use Rattle.at_demand.proofs.demand.Demand.look_ahead.Goals as goal
 
 pub answer_at_once-requires-clause-held : goal.answer_at_once-requires-clause-held

@@ -1,7 +1,7 @@
 use Rattle.std.proofs.Common.{Ok, inl, inr, sym, ◌∙◌}
 use Rattle.at_demand.specs.Levels.{known_to, seen_in}
 use Rattle.at_demand.specs.declared.demand.searching.Look.TheVariants as look_is
-use Rattle.at_demand.proofs.Entered.{none_entered}
+use Rattle.at_evaluate.proofs.Entered.{none_entered}
 use Rattle.at_demand.proofs.of_levels.Resolving.{among_off, among_on, looked_ok, nothing_looked}
 use Rattle.at_demand.proofs.demand.Demand.look_at.Goals as goal
 use Rattle.at_demand.proofs.demand.Demand.look_at.Goals.{then-has_seen-via-then-has_seen, then-has_seen-via-else-has_seen+then-is_known}

@@ -4,7 +4,7 @@ use Rattle.at_model.specs.Run.{Instance, Value}
 use Rattle.at_store.specs.Located.{loc_view}
 use Rattle.at_body.specs.Values.{value_view}
 use Rattle.at_cache.specs.Kept.{Puts}
-use Rattle.at_demand.proofs.Counting.{counts_none, counts_put, counts_same}
+use Rattle.at_evaluate.proofs.Counting.{counts_none, counts_put, counts_same}
 use Rattle.at_demand.proofs.of_traces.TurnsPut.{puts_one, puts_same}
 use Rattle.at_demand.proofs.demand.Demand.put.Goals as goal
 

@@ -3,7 +3,7 @@ use Rattle.std.proofs.lemmas.Result.{err_from_is_err_and}
 use Rattle.std.specs.Map.{keys_of}
 use Rattle.at_demand.specs.declared.demand.searching.Resolved.TheVariants as resolved
 use Rattle.at_demand.specs.Levels.{known_to}
-use Rattle.at_demand.proofs.Entered.{none_entered}
+use Rattle.at_evaluate.proofs.Entered.{none_entered}
 use Rattle.at_demand.proofs.of_levels.Resolving.{closure_solvable, failed_resolved, nothing_resolved, solved_resolved, spoilt_then}
 use Rattle.at_demand.proofs.demand.Demand.resolve_ended.Goals as goal
 

@@ -1,6 +1,6 @@
 use Rattle.std.proofs.Common.{false, refl, sym}
-use Rattle.at_demand.proofs.Gaining.{told_lazy}
-use Rattle.at_demand.proofs.Entered.{none_entered}
+use Rattle.at_evaluate.proofs.of_traces.Lazily.{told_lazy}
+use Rattle.at_evaluate.proofs.Entered.{none_entered}
 use Rattle.at_demand.proofs.Entering.{shares_none}
 use Rattle.at_demand.proofs.of_traces.TurnsPut.{puts_same}
 use Rattle.at_demand.proofs.demand.Demand.share.Goals as goal

@@ -7,8 +7,7 @@ use Rattle.at_demand.specs.declared.trying.Tried.{Tried}
 use Rattle.at_demand.specs.Searches.{HasResolved}
 use Rattle.at_demand.specs.Tries.{HasCarriedOn}
 use Rattle.at_demand.proofs.of_steps.TriedOn.{begins_trying}
-use Rattle.at_demand.proofs.of_steps.TryingOn.{can_carry, can_close_last, can_fail_last, can_form_last, can_resolve, can_spoil_last}
-use Rattle.at_demand.proofs.of_steps.TryingOn.{carry_fails, closed_last, deeper_from, fails_last, forms_last, known_fewer, known_goes, resolve_fails, spoilt_last}
+use Rattle.at_demand.proofs.of_steps.TryingOn.{can_carry, can_close_last, can_fail_last, can_form_last, can_resolve, can_spoil_last, carry_fails, closed_last, deeper_from, fails_last, forms_last, known_fewer, known_goes, resolve_fails, spoilt_last}
 use Rattle.at_demand.proofs.of_steps.TryUnderWay.{IsTrying, trying_with}
 use Rattle.at_demand.proofs.of_steps.Counted.{broken_on}
 use Rattle.at_demand.proofs.of_steps.Turning.{gains_none}

@@ -1,7 +1,7 @@
 use Rattle.std.proofs.Common.{ℕ, Some, sym, ap, ◌∙◌}
 use Rattle.std.proofs.lemmas.Result.{err_from_is_err_and}
 use Rattle.at_model.specs.Run.{Instance}
-use Rattle.at_demand.specs.Known.{kept_values}
+use Rattle.at_evaluate.specs.Valued.{kept_values}
 use Rattle.at_demand.proofs.of_levels.Resolving.{keeps_groups}
 use Rattle.at_demand.proofs.of_steps.Turning.{answered_on, broken_off, counted_on, gains_none, kept_off}
 use Rattle.at_demand.proofs.of_traces.TurnsPut.{puts_same}

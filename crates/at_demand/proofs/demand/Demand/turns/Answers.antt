@@ -10,7 +10,7 @@ use Rattle.at_demand.proofs.of_steps.Given.{below_most, given_all, given_answere
 use Rattle.at_demand.proofs.of_steps.KeptAgain.{again_stays}
 use Rattle.at_demand.proofs.of_levels.Resolving.{keeps_groups}
 use Rattle.at_demand.proofs.of_traces.TurnsPut.{puts_stay, went_on}
-use Rattle.at_demand.proofs.of_traces.Justified.{stay_same, stay_then}
+use Rattle.at_evaluate.proofs.of_traces.Justified.{stay_same, stay_then}
 use Rattle.at_demand.proofs.demand.Demand.turns.Goals as goal
 
 pub loop-given-init : goal.loop-given-init

@@ -5,7 +5,7 @@ use Rattle.at_body.specs.Same.{same_instance}
 use Rattle.at_body.specs.Values.{value_view}
 use Rattle.at_demand.specs.declared.evaluation.Demanded.{Demanded}
 use Rattle.at_demand.proofs.Keys.{key_passes}
-use Rattle.at_demand.proofs.Sameness.{same_true}
+use Rattle.at_evaluate.proofs.Sameness.{same_true}
 use Rattle.at_demand.proofs.Passing.{takes_kept, takes_found}
 use Rattle.at_demand.proofs.Recalling.{known_kept, known_found, none_found, unknown, kept_push}
 use Rattle.at_demand.proofs.evaluation.Demanded.recall.Goals as goal

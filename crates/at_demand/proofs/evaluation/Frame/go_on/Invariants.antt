@@ -4,7 +4,7 @@ use Rattle.at_model.specs.Rules.{start_of}
 use Rattle.at_store.specs.Shown.{contents}
 use Rattle.at_body.specs.Rest.{left}
 use Rattle.at_body.specs.Typed.{IsTypedStep, class_shown}
-use Rattle.at_demand.specs.Known.{AreValued}
+use Rattle.at_evaluate.specs.Valued.{AreValued}
 use Rattle.at_demand.specs.UnderWay.{HasStepped}
 use Rattle.at_demand.specs.Covering.{HasPassedTo}
 use Rattle.at_demand.specs.Only.{TakesOnly}

@@ -5,7 +5,7 @@ use Rattle.at_body.specs.Forms.{left}
 use Rattle.at_body.specs.Typed.{class_shown}
 use Rattle.at_body.specs.TypedForms.{IsTypedProgress}
 use Rattle.at_demand.specs.Forming.{HasPassedToForm}
-use Rattle.at_demand.specs.Known.{AreValued}
+use Rattle.at_evaluate.specs.Valued.{AreValued}
 use Rattle.at_demand.specs.Only.{TakesOnly}
 use Rattle.at_demand.proofs.formation.Formation.go_on.Given as goal
 

@@ -1,5 +1,5 @@
 use Rattle.std.proofs.lemmas.Result.{err_from_is_err_and}
-use Rattle.at_demand.proofs.Entered.{all_entered}
+use Rattle.at_evaluate.proofs.Entered.{all_entered}
 use Rattle.at_demand.proofs.Orderly.{added_kept, used_kept}
 use Rattle.at_demand.proofs.Gathered.{adds_one, adds_used_after}
 use Rattle.at_demand.proofs.OnlyLemmas.{adds_only_one, adds_only_used_after}

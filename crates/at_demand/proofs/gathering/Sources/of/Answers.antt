@@ -4,7 +4,7 @@ use Rattle.at_model.specs.Run.{Instance}
 use Rattle.std.proofs.Common.{ℕ}
 use Rattle.at_cache.specs.Kept.{AreKept}
 use Rattle.at_demand.specs.declared.gathering.Sources.{Sources}
-use Rattle.at_demand.proofs.Entered.{all_entered}
+use Rattle.at_evaluate.proofs.Entered.{all_entered}
 use Rattle.at_demand.proofs.Gathered.{visited_first, visited_next, visited_all}
 use Rattle.at_demand.proofs.OnlyLemmas.{from_first, from_next}
 use Rattle.at_demand.proofs.gathering.Sources.of.Goals as goal

@@ -1,6 +1,7 @@
 use Rattle.std.proofs.Common.{◌-◌, ◌^◌}
 use Rattle.at_cache.specs.Kept.{AreKept}
-use Rattle.at_demand.specs.Known.{AreValued, FoundKept}
+use Rattle.at_evaluate.specs.Valued.{AreValued}
+use Rattle.at_demand.specs.Known.{FoundKept}
 use Rattle.at_demand.specs.Only.{IsFrom}
 use Rattle.at_demand.proofs.Gathered.{IsVisited}
 use Rattle.at_demand.proofs.gathering.Sources.of.Given as goal

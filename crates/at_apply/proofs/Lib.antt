@@ -1,4 +1,0 @@
-mod Begun
-mod Compared
-mod Nearby
-mod Passed

@@ -1,6 +1,0 @@
-use Rattle.at_apply.specs.Place.{place_at}
-use Rattle.at_apply.proofs.Compared.{near_named}
-use Rattle.at_apply.proofs.comparing.near.Goals as goal
-
-pub returns-in-Name : goal.returns-in-Name
-returns-in-Name c = near_named (place_at c.args.here.now) c.args.body.now c.in-Name.position c.get.result c.in-Name.is c.get.ensures

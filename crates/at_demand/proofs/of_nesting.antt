@@ -1,9 +1,0 @@
-pub mod Ground
-pub mod Remembered
-pub mod InnerPuts
-pub mod InnerGains
-pub mod InnerAnswered
-pub mod Asked
-pub mod Grown
-pub mod Demanding
-pub mod GrownAhead

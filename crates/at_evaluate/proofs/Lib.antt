@@ -1,0 +1,13 @@
+mod Begun
+mod Compared
+mod Nearby
+mod Passed
+pub mod Sameness
+pub mod Entered
+pub mod Tests
+pub mod LeadingOn
+pub mod There
+pub mod Counting
+pub mod of_nesting
+mod of_parts
+pub mod of_traces

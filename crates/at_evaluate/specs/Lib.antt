@@ -1,0 +1,16 @@
+pub mod Valued
+pub mod Meant
+pub mod Right
+pub mod Sparing
+pub mod Led
+pub mod Made
+pub mod Traces
+pub mod Looking
+pub mod Place
+pub mod Parts
+pub mod Forms
+pub mod Near
+pub mod Passing
+pub mod Inner
+pub mod InParts
+pub mod OneProof
