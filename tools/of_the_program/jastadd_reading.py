@@ -1,0 +1,461 @@
+"""What the manual says of reading an aspect file of JastAdd's own language, by itself: whether it is read, or the code and the place of its
+fault. It has no limits, which are too far away for the small files of tests."""
+from __future__ import annotations
+
+import re
+from dataclasses import dataclass
+from typing import List, Optional, Sequence, Tuple, Union
+
+SYNTAX, LEFT_OUT, KIND = "J1 syntax", "J10 form left out", "J4 kind"
+RESERVED = frozenset(
+    "abstract aspect syn inh eq lazy circular nta return true false null this instanceof exists first sum int boolean String".split())
+MODIFIERS = frozenset(("public", "protected", "private", "final"))
+KINDS, FOLDS, VALUES = ("int", "boolean", "String"), ("exists", "first", "sum"), ("true", "false", "null", "this")
+# Words of Java that begin an operand that is left out.
+OTHER_OPERANDS = ("new", "super", "switch")
+# What a kind goes on with that is left out: its arguments, an array, the package before it.
+BEHIND_KIND = ("<", "[", ".")
+# Operators, from the weakest row to the strongest; `instanceof` stands in that of `<`.
+ROWS: Sequence[Tuple[str, ...]] = (("||",), ("&&",), ("==", "!="), ("<", "<=", ">", ">=", "instanceof"), ("+", "-"), ("*", "/", "%"))
+GREATEST = 2_147_483_647
+BLANKS = re.compile(r"(?:[ \t\r\n]|//[^\n]*|/\*.*?\*/)*", re.S)
+TOKEN = re.compile(r'(?P<word>[^\W\d]\w*)|(?P<number>[0-9]+)|(?P<text>"(?:[^"\\\n\t]|\\["\\nt])*")'
+                   r"|(?P<sign>::=|==|!=|<=|>=|&&|\|\||[:;*\[\]<>/.(){},=!\-+?%])")
+# What stands between quotes before a tab or a wrong escape.
+UNFINISHED = re.compile(r'"(?:[^"\\\n\t]|\\["\\nt])*(?=[\t\\])')
+
+
+@dataclass(frozen=True)
+class Refused(Exception):
+    """A fault, by its code and the offset where it stands."""
+
+    code: str
+    at: int
+
+
+@dataclass(frozen=True)
+class Token:
+    """A word, number, text or sign, or the end; and its offset."""
+
+    kind: str
+    text: str
+    at: int
+
+    def is_name(self) -> bool:
+        """Whether it may name something."""
+        return self.kind == "word" and self.text not in RESERVED
+
+    def is_sign(self, text: str) -> bool:
+        """Whether it is that sign."""
+        return (self.kind, self.text) == ("sign", text)
+
+
+def cut(text: str) -> List[Token]:
+    """The tokens of a text, with the end behind them. Raises Refused where it can't be cut."""
+    found: List[Token] = []
+    at = 0
+    while True:
+        blanks = BLANKS.match(text, at)
+        at = blanks.end() if blanks else at
+        if at == len(text):
+            return [*found, Token("end", "", at)]
+        token = TOKEN.match(text, at)
+        if token is None or text.startswith("/*", at):
+            raise Refused(SYNTAX, uncut_at(text, at))
+        found.append(Token(token.lastgroup or "", token[0], at))
+        at = token.end()
+
+
+def uncut_at(text: str, at: int) -> int:
+    """Where a text can't be cut whose tokens end before this offset: at what can't stand between quotes, or here."""
+    begun = UNFINISHED.match(text, at)
+    return begun.end() if begun else at
+
+
+@dataclass(frozen=True)
+class Return:
+    """`return E;`, and whether a fold stands in E."""
+
+    has_fold: bool
+
+
+@dataclass(frozen=True)
+class If:
+    """`if (E) S else S`, at its offset; where no `else` is written, the last one is `;`."""
+
+    at: int
+    then: Statement
+    other: Statement
+
+
+@dataclass(frozen=True)
+class Each:
+    """`for (K x : E) S`, at its offset."""
+
+    at: int
+    body: Statement
+
+
+# A block is its statements, and `;` is None.
+Statement = Union[Return, If, Each, List["Statement"], None]
+
+
+def returns(statement: Statement) -> bool:
+    """Whether a `return` stands in the statement."""
+    if isinstance(statement, list):
+        return any(map(returns, statement))
+    if isinstance(statement, If):
+        return returns(statement.then) or returns(statement.other)
+    return returns(statement.body) if isinstance(statement, Each) else statement is not None
+
+
+def alone(statement: Statement) -> Statement:
+    """The statement, out of blocks of its own."""
+    while isinstance(statement, list) and len(statement) == 1:
+        statement = statement[0]
+    return statement
+
+
+def is_search(loop: Each) -> bool:
+    """Whether the loop looks for an element: its body is `if (E) return E;`, and no fold stands in the value."""
+    test = alone(loop.body)
+    if not isinstance(test, If) or test.other is not None:
+        return False
+    value = alone(test.then)
+    return isinstance(value, Return) and not value.has_fold
+
+
+def is_open(statement: Statement, rest: bool) -> bool:
+    """Whether the end behind the statement can be reached, where that of its rest can or can't. Raises Refused where it means nothing."""
+    if isinstance(statement, list):
+        for it in reversed(statement):
+            rest = is_open(it, rest)
+        return rest
+    if isinstance(statement, Return):
+        return False
+    if isinstance(statement, If):
+        if not returns(statement):
+            raise Refused(LEFT_OUT, statement.at)
+        behind = is_open(statement.other, rest)
+        return is_open(statement.then, rest) or behind
+    if isinstance(statement, Each) and not is_search(statement):
+        raise Refused(LEFT_OUT, statement.at)
+    return rest
+
+
+class Row:
+    """Tokens, of which one is next."""
+
+    def __init__(self, text: str) -> None:
+        """Of a text. Raises Refused where it can't be cut."""
+        self.tokens, self.at = cut(text), 0
+
+    @property
+    def next(self) -> Token:
+        """The next token; the end stays."""
+        return self.tokens[self.at]
+
+    def ahead(self, count: int) -> List[Token]:
+        """So many tokens from the next one on, with the end in the place of those behind it."""
+        return [self.tokens[min(self.at + it, len(self.tokens) - 1)] for it in range(count)]
+
+    def is_next(self, *texts: str) -> bool:
+        """Whether one of these words or signs is next."""
+        return self.next.kind in ("word", "sign") and self.next.text in texts
+
+    def take(self, *texts: str) -> Optional[Token]:
+        """Steps over one of these words or signs, if it is next."""
+        token = self.next
+        if not self.is_next(*texts):
+            return None
+        self.at += 1
+        return token
+
+    def wrong(self, code: str = SYNTAX) -> Refused:
+        """The fault at the next token."""
+        return Refused(code, self.next.at)
+
+    def want(self, *texts: str) -> Token:
+        """The same as `take`. Raises Refused where another token is next."""
+        token = self.take(*texts)
+        if token is None:
+            raise self.wrong()
+        return token
+
+    def other(self) -> Refused:
+        """The fault where no form begins that is read: a word begins one that is left out."""
+        return self.wrong(LEFT_OUT if self.next.kind == "word" else SYNTAX)
+
+    def name(self) -> Token:
+        """Steps over a name. Raises Refused where none is next."""
+        token = self.next
+        if not token.is_name():
+            raise self.wrong()
+        self.at += 1
+        return token
+
+
+class Expressions(Row):
+    """Reads expressions: whether a fold stands in each. Raises Refused."""
+
+    def expression(self) -> bool:
+        found = self.row(0)
+        if self.take("?"):
+            found |= self.expression()
+            self.want(":")
+            found |= self.expression()
+        return found
+
+    def row(self, number: int) -> bool:
+        if number == len(ROWS):
+            return self.unary()
+        found = self.row(number + 1)
+        while True:
+            operator = self.take(*ROWS[number])
+            if operator is None:
+                return found
+            if operator.text == "instanceof":
+                self.name()
+            else:
+                found |= self.row(number + 1)
+
+    def unary(self) -> bool:
+        if self.take("!"):
+            return self.unary()
+        if self.take("-"):
+            return self.calls(self.number(GREATEST + 1)) if self.next.kind == "number" else self.unary()
+        if self.is_cast():
+            self.at += 3
+            return self.unary()
+        return self.calls(self.operand())
+
+    def is_cast(self) -> bool:
+        opening, name, closing, behind = self.ahead(4)
+        is_pair = opening.is_sign("(") and name.is_name() and closing.is_sign(")")
+        return is_pair and (behind.is_name() or behind.is_sign("(") or (behind.kind == "word" and behind.text in ("this", "null", *FOLDS)))
+
+    def number(self, most: int) -> bool:
+        text = self.next.text
+        if int(text) > most or (text[0] == "0" and text != "0"):
+            raise self.wrong()
+        self.at += 1
+        return False
+
+    def operand(self) -> bool:
+        if self.next.kind == "number":
+            return self.number(GREATEST)
+        if self.next.kind == "text":
+            self.at += 1
+            return False
+        if self.is_next(*OTHER_OPERANDS):
+            raise self.wrong(LEFT_OUT)
+        if self.take(*VALUES):
+            return False
+        if self.take("("):
+            found = self.expression()
+            self.want(")")
+            return found
+        return self.fold() if self.is_fold() else self.named()
+
+    def is_fold(self) -> bool:
+        _, opening, name, colon = self.ahead(4)
+        return self.is_next(*FOLDS) and opening.is_sign("(") and name.is_name() and colon.is_sign(":")
+
+    def fold(self) -> bool:
+        """`WORD ( NAME : LIST ) { E }`"""
+        self.at += 4
+        self.calls(self.operand())
+        self.want(")")
+        self.want("{")
+        self.expression()
+        self.want("}")
+        return True
+
+    def named(self) -> bool:
+        """A name, or a call without a receiver."""
+        token = self.called()
+        if self.is_next("(") or not token.is_name():
+            return self.arguments()
+        return False
+
+    def called(self) -> Token:
+        """The name of a call, which may be a word of a fold."""
+        return self.take(*FOLDS) or self.name()
+
+    def calls(self, found: bool) -> bool:
+        """The calls behind a receiver."""
+        while self.take("."):
+            self.called()
+            found |= self.arguments()
+        return found
+
+    def arguments(self) -> bool:
+        self.want("(")
+        if self.take(")"):
+            return False
+        found = self.expression()
+        while not self.take(")"):
+            self.want(",")
+            found |= self.expression()
+        return found
+
+
+class Statements(Expressions):
+    """Reads statements, kinds and parameters. Raises Refused."""
+
+    def kind(self) -> Token:
+        found = self.take(*KINDS) or self.name()
+        if self.is_next(*BEHIND_KIND):
+            raise Refused(LEFT_OUT, found.at)
+        return found
+
+    def variable(self) -> Token:
+        """`[final] KIND NAME`: the kind."""
+        self.take("final")
+        found = self.kind()
+        self.name()
+        return found
+
+    def parameters(self, of: Token) -> List[Token]:
+        """The kinds of the parameters of what has this name."""
+        self.want("(")
+        if of.text == "getChild" and self.is_next("int"):
+            raise self.wrong(LEFT_OUT)
+        if self.take(")"):
+            return []
+        found = [self.variable()]
+        while not self.take(")"):
+            self.want(",")
+            found.append(self.variable())
+        return found
+
+    def statement(self) -> Statement:
+        first = self.next
+        if self.take("return"):
+            value = Return(self.expression())
+            self.want(";")
+            return value
+        if self.take("if"):
+            self.want("(")
+            self.expression()
+            self.want(")")
+            then = self.statement()
+            return If(first.at, then, self.statement() if self.take("else") else None)
+        if self.take("for"):
+            return self.loop(first)
+        if self.take("{"):
+            return self.block()[0]
+        if self.take(";"):
+            return None
+        raise self.other()
+
+    def loop(self, first: Token) -> Each:
+        """What stands behind a `for`; where it isn't `( KIND NAME :`, another loop is left out there."""
+        try:
+            self.want("(")
+            self.variable()
+            self.want(":")
+        except Refused:
+            raise Refused(LEFT_OUT, first.at) from None
+        self.expression()
+        self.want(")")
+        return Each(first.at, self.statement())
+
+    def block(self) -> Tuple[List[Statement], Token]:
+        """Statements up to the closing brace, and that."""
+        found: List[Statement] = []
+        while not self.is_next("}"):
+            found.append(self.statement())
+        return found, self.want("}")
+
+
+class Aspects(Statements):
+    """Reads a file. Raises Refused."""
+
+    def file(self) -> None:
+        while self.take("import"):
+            while not self.take(";"):
+                if self.next.kind == "end":
+                    raise self.wrong()
+                self.at += 1
+        while self.next.kind != "end":
+            if not self.take("aspect"):
+                raise self.other()
+            self.name()
+            self.want("{")
+            while not self.take("}"):
+                self.declaration()
+
+    def declaration(self) -> None:
+        while self.take(*MODIFIERS):
+            pass
+        if self.take("syn"):
+            self.head()
+            if not self.take(";"):
+                self.body()
+        elif self.take("inh"):
+            self.head()
+            self.want(";")
+        elif self.take("eq"):
+            self.equation()
+        elif self.is_method():
+            self.kind()
+            self.target()
+            self.want("{")
+            self.statements()
+        else:
+            raise self.other()
+
+    def is_method(self) -> bool:
+        """Whether `KIND NAME . NAME (` is next, and no `void`."""
+        kind, of, dot, name, opening = self.ahead(5)
+        is_kind = kind.text != "void" and (kind.is_name() or self.is_next(*KINDS))
+        return is_kind and of.is_name() and dot.is_sign(".") and name.is_name() and opening.is_sign("(")
+
+    def target(self) -> List[Token]:
+        """`CLASS . NAME ( PARAMETERS )`: the kinds of the parameters."""
+        self.name()
+        self.want(".")
+        return self.parameters(self.name())
+
+    def head(self) -> None:
+        """What stands behind `syn` or `inh`, up to its ending."""
+        while self.take("lazy", "final"):
+            pass
+        if self.is_next("nta"):
+            raise self.wrong(LEFT_OUT)
+        kind = self.kind()
+        self.target()
+        circular = self.take("circular")
+        if circular and not (kind.text == "boolean" and self.take("[") and self.take("true", "false") and self.take("]")):
+            raise Refused(LEFT_OUT, circular.at)
+
+    def equation(self) -> None:
+        kinds = self.target()
+        if [it.text for it in kinds] in ([], ["int"]) and self.take("."):
+            self.parameters(self.name())
+        self.body()
+
+    def body(self) -> None:
+        if self.take("="):
+            self.expression()
+            self.want(";")
+        else:
+            self.want("{")
+            self.statements()
+
+    def statements(self) -> None:
+        """A body of statements, behind its opening brace: what they mean is looked at once all are read."""
+        found, end = self.block()
+        if is_open(found, True):
+            raise Refused(KIND, end.at)
+
+
+def fault_of(text: str) -> Optional[str]:
+    """The fault that reading the file meets, with its place as the program tells it; None where there is none."""
+    try:
+        Aspects(text).file()
+    except Refused as fault:
+        line = text.count("\n", 0, fault.at) + 1
+        return f"{fault.code} at {line}:{fault.at - text.rfind(chr(10), 0, fault.at)}"
+    return None
