@@ -153,7 +153,7 @@ bench: build
 	python3 bench/clients.py
 	python3 bench/editor.py
 	python3 bench/hub.py
-	@status=0; for it in evaluation in_flight kept bounded cliff fixpoints realistic sizes; do python3 bench/$$it.py || status=1; done; \
+	@status=0; for it in evaluation in_flight kept bounded cliff fixpoints jastadd realistic sizes; do python3 bench/$$it.py || status=1; done; \
 	if [ -n "$(WRITE)" ]; then python3 bench/history.py --write || status=1; fi; exit $$status
 
 tools:
