@@ -1,7 +1,7 @@
 # attrd: `make` alone prints what there is.
 SHELL := /bin/bash
 PREFIX ?= /usr/local
-PAGES := README.md docs/ATTRIBUTE_GRAMMARS.md docs/MANUAL.md tests/pages/EDGES.md tests/pages/REFUSALS.md tests/pages/JASTADD.md docs/TUTORIAL.md docs/FROM_JASTADD.md samples/calculator samples/objects samples/machines samples/grammars samples/flow samples/states
+PAGES := README.md docs/ATTRIBUTE_GRAMMARS.md docs/MANUAL.md tests/pages/EDGES.md tests/pages/REFUSALS.md tests/pages/JASTADD.md docs/TUTORIAL.md docs/FROM_JASTADD.md samples/calculator samples/objects samples/machines samples/grammars samples/flow samples/states samples/simplic
 
 # What examples, program and clients test: PROGRAM=.., else ./attrd where it stands, else a program with no proof.
 QUICK := .quick/attrd
