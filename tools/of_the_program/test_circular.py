@@ -3,6 +3,7 @@ import os
 from dataclasses import replace
 from typing import List, Optional, Tuple
 
+from tools.of_the_program.circular_aspects import Aspects
 from tools.of_the_program.circular_sessions import Case, Expected, Unfit, made, shorter
 from tools.of_the_program.circular_trees import GRAMMAR
 from tools.of_the_program.circular_work import Work
@@ -45,11 +46,14 @@ WORKED = [
 
 
 class Circular(KeepingTest):
-    """Sessions by chance with each keeper."""
+    """Sessions by chance with each keeper, over aspects of that sort, for which the program is given that option."""
+
+    forms, sort, sessions = FORMS, Aspects, SESSIONS
 
     def setUp(self) -> None:
         super().setUp()
-        self.count, self.seed = (int(os.environ.get(f"ATTRD_CIRCULAR_{name}", usual)) for name, usual in (("SESSIONS", SESSIONS), ("SEED", SEED)))
+        usual = {"SESSIONS": self.sessions, "SEED": SEED}
+        self.count, self.seed = (int(os.environ.get(f"ATTRD_CIRCULAR_{name}", number)) for name, number in usual.items())
 
     def told_of(self, case: Case, keeper: str, turns: int) -> Tuple[List[str], str]:
         """The replies to the case's lines, and what is told of the work."""
@@ -60,8 +64,8 @@ class Circular(KeepingTest):
     def circular(self, keeper: str, turns: int, files: List[str], lines: str) -> Tuple[str, str]:
         """The replies to the lines, and what is told of the work, where circular attributes are read."""
         if keeper in OTHERS:
-            return self.told([self.starve, *FORMS, keeper, str(turns), *files], "memory 0\n", lines)
-        return self.played_with([*FORMS, *OPTIONS[keeper]], turns, files, lines)
+            return self.told([self.starve, *self.forms, keeper, str(turns), *files], "memory 0\n", lines)
+        return self.played_with([*self.forms, *OPTIONS[keeper]], turns, files, lines)
 
     def wrong(self, case: Case, keeper: str, turns: int) -> Optional[str]:
         """What is replied wrong, if anything is."""
@@ -89,14 +93,14 @@ class Circular(KeepingTest):
 
     def test_replies_are_by_meaning(self) -> None:
         for number in range(self.count):
-            case = made(f"{self.seed}.{number}", LINES)
+            case = made(f"{self.seed}.{number}", LINES, self.sort)
             for keeper in self.keepers:
                 with self.subTest(f"{self.seed}.{number}"):
                     self.assert_right(case, keeper, SLICES[number % len(SLICES)])
 
     def test_work_is_what_was_not_kept(self) -> None:
         for number in range(self.count):
-            case = self.at_once(made(f"{self.seed}.work.{number}", LINES))
+            case = self.at_once(made(f"{self.seed}.work.{number}", LINES, self.sort))
             with self.subTest(number):
                 if self.differs_in_work(case):
                     case = shorter(case, self.differs_in_work)
