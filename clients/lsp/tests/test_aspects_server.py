@@ -1,6 +1,7 @@
 """The language server for grammars and aspects, by its protocol."""
 from __future__ import annotations
 
+import shutil
 import sys
 import tempfile
 import unittest
@@ -8,6 +9,8 @@ from pathlib import Path
 from typing import Any, Dict, List
 
 from aspects_support import AspectsClient, write_small
+
+SAMPLE = Path(__file__).resolve().parents[3] / "samples" / "simplic"
 
 
 class OfPlaces(unittest.TestCase):
@@ -126,6 +129,55 @@ class OfPlaces(unittest.TestCase):
         client.open("kinds.jrag")
         self.assertIn("it can't be started", client.shown())
         self.assertIn("KindUse ::=", str(client.ask("textDocument/hover", client.place("kinds.jrag", "KindUse"))))
+
+
+class OfStatements(unittest.TestCase):
+    """What is answered of places in bodies of statements, in the sample that is written as users of JastAdd write it."""
+
+    def setUp(self) -> None:
+        temporary = tempfile.TemporaryDirectory(prefix="attrd-aspects-")
+        self.addCleanup(temporary.cleanup)
+        for file in SAMPLE.iterdir():
+            if file.suffix in (".ast", ".jrag"):
+                shutil.copy(file, temporary.name)
+        self.client = AspectsClient(Path(temporary.name), None, "--forms", "jastadd")
+        self.addCleanup(self.client.close)
+        self.client.open("names.jrag")
+        self.client.open("functions.jrag")
+
+    def told(self, *place: Any) -> str:
+        return str(self.client.ask("textDocument/hover", self.client.place(*place))["contents"]["value"])
+
+    def lines(self, method: str, *place: Any) -> List[str]:
+        return self.client.stretches(self.client.ask(f"textDocument/{method}", self.client.place(*place)))
+
+    def labels(self, *place: Any) -> List[str]:
+        return [it["label"] for it in self.client.ask("textDocument/completion", self.client.place(*place))]
+
+    def test_faults(self) -> None:
+        self.assertEqual(self.client.diagnoses("names.jrag"), [])
+        self.client.change("names.jrag", "return p;", "p.find(); return p;")
+        self.assertEqual(self.client.diagnoses("names.jrag"), ["25 J10"])
+
+    def test_hover(self) -> None:
+        self.assertEqual(self.told("names.jrag", "f : get"), "Function f")
+        self.assertEqual(self.told("names.jrag", "Param p"), "Param ::= IdDecl;")
+        self.assertEqual(self.told("names.jrag", "getParamList", 0), "Function ::= Param*\nParam getParam(int)\nint getNumParam()\nParam* getParamList()")
+        self.assertEqual(self.told("functions.jrag", "f.reaches", 0), "Function f")
+        self.assertIn("syn boolean Function.reaches(Function to)", self.told("functions.jrag", "reaches(to)", 0))
+
+    def test_definitions_and_references(self) -> None:
+        self.assertEqual(self.lines("definition", "names.jrag", "f.getIdDecl()", 0), ["names.jrag:13 f"])
+        self.assertEqual(self.lines("definition", "names.jrag", "Param p"), ["simplic.ast:4 Param"])
+        self.assertEqual(self.lines("definition", "names.jrag", "lookupBehind(name);"), ["names.jrag:34 lookupBehind"])
+        self.assertEqual(self.lines("references", "names.jrag", "p : get"), ["names.jrag:24 p", "names.jrag:25 p", "names.jrag:25 p"])
+
+    def test_completion(self) -> None:
+        self.client.change("names.jrag", "    if (i == 0) return lookup(name);\n", "    \n    if (i == 0) return lookup(name).\n")
+        self.assertEqual(self.labels("names.jrag", "    \n", 0, 4), ["else", "for", "if", "return"])
+        self.assertEqual({"getID", "isTwice"} - set(self.labels("names.jrag", "lookup(name).", 0, len("lookup(name)."))), set())
+        self.client.change("names.jrag", "for (Function", "for (Func")
+        self.assertIn("Function", self.labels("names.jrag", "for (Func", 0, len("for (Func")))
 
 
 if __name__ == "__main__":

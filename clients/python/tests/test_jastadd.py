@@ -1,7 +1,7 @@
 """Aspects as users of JastAdd write them, where `--forms jastadd` has the program read them: what the client reads of them."""
 import unittest
 
-from attrd.authoring import Source, Specification, check, completions
+from attrd.authoring import Names, Source, Specification, check, completions
 from attrd.authoring.aspect_tree import Form
 from attrd.authoring.jastadd_reader import read_aspects
 from support import PROGRAM
@@ -80,6 +80,11 @@ def only(text):
     return found[0]
 
 
+def completed(text, forms="jastadd"):
+    """The names that may stand at the mark in a text."""
+    return set(completions(Specification(GRAMMAR, [Source("x.jrag", text.replace("|", ""))], forms), "x.jrag", text.index("|")))
+
+
 class Reading(unittest.TestCase):
 
     def test_bodies_mean_expressions(self):
@@ -122,6 +127,44 @@ class Reading(unittest.TestCase):
         specification = Specification(GRAMMAR, [Source("x.jrag", text)], "jastadd")
         self.assertIn("getName", completions(specification, "x.jrag", text.index("getName")))
         self.assertLessEqual({"x", "n", "m", "getOn"}, set(completions(specification, "x.jrag", text.index("x.getName"))))
+
+    def test_heads_of_loops_have_meanings(self):
+        text = "aspect X { boolean A.m() { for (final B x : getBList()) if (x.getName().equals(\"\")) return true; return false; } }"
+        specification = Specification(GRAMMAR, [Source("x.jrag", text)], "jastadd")
+        names = Names(specification)
+        kind, name, used = (names.at("x.jrag", text.index(it)) for it in ("B x", "x :", "x.get"))
+        self.assertEqual((kind.key, kind.declared[0].file), (("class", "B"), "g.ast"))
+        self.assertEqual((name.told, name.declared), ("B x", used.declared))
+        self.assertEqual([text[it.start:it.end] for it in names.references(used)], ["x", "x"])
+
+    def test_what_stands_in_bodies_where_no_expression_does_is_completed(self):
+        words = {"return", "if", "else", "for"}
+        bodies = {"{ | }": words, "{ if (on()) | }": words, "{ if (on()) return 1; el| }": words, "{ { return 1; } ret|": words,
+                  "{ for (| }": {"A", "B"}, "{ for (final |": {"A", "B"}, "{ for (B |": set()}
+        for body, wanted in bodies.items():
+            with self.subTest(body):
+                self.assertEqual(completed(f"aspect X {{ int A.m() {body}"), wanted)
+
+    def test_what_stands_behind_a_statement_that_is_not_read_is_known(self):
+        for body in ("int n = 0; return getB(n).|", "final B d = getB(0); return d.|", "while (on()) return getB(0).|", "do ; while (getB(0).|",
+                     "for (int i = 0; i < 3; i++) if (getB(i).|) return 1;", "if (on()) { int n = 1; } else return getB(0).|",
+                     "Set<B> s = new HashSet<B>(); s.add(getB(0).|", "switch (1) { case 1: return getB(0).|", "n = getB(0).|"):
+            with self.subTest(body):
+                self.assertEqual(completed(f"aspect X {{ int A.m() {{ {body} }} }}"), {"getName"})
+        text = "aspect X { int A.m() { int n = 0; B d = getB(n); return d.k(new B()); } }"
+        declared, used = (Names(Specification(GRAMMAR, [Source("x.jrag", text)], "jastadd")).at("x.jrag", text.index(it)) for it in ("d =", "d.k"))
+        self.assertEqual((declared.told, used.declared), ("B d", declared.declared))
+        self.assertEqual([it.sort for it in only("int A.m() { int n = 0; return new B(); }").pieces], ["local"])
+
+    def test_heads_of_methods_are_completed(self):
+        self.assertLessEqual({"public", "syn", "int", "B"}, completed("aspect X { | }"))
+        self.assertLessEqual({"int", "boolean", "A", "B"}, completed("aspect X { public | }"))
+        for front in "public int A.|", "B A.|", "int A.m() { return 1; } final B A.|":
+            with self.subTest(front):
+                self.assertLessEqual({"getOn", "n"}, completed(f"aspect X {{ {front} }} aspect Y {{ int A.n() {{ return 2; }} }}"))
+
+    def test_without_the_word_a_body_begins_by_return(self):
+        self.assertEqual(completed("aspect X { syn int A.m() { |", ""), {"return"})
 
 
 if __name__ == "__main__":

@@ -30,6 +30,8 @@ class AspectReader(JavaReader):
         self.bound: Tuple[Binding, ...] = ()
         self.made: List[Expression] = []
         self.pieces: List[Piece] = []
+        self.locals: List[Tuple[Word, Binding]] = []
+        self.untaken: List[int] = []
 
     def file(self) -> List[Declaration]:
         """All declarations, those that this profile doesn't take among them."""
@@ -47,6 +49,7 @@ class AspectReader(JavaReader):
         first, begun = self.next, self.at
         declared = Declaration(self.form(), first.at)
         self.bound, self.made, self.pieces = (), declared.made, declared.pieces
+        self.locals, self.untaken = declared.locals, declared.untaken
         declared.sort = self.sort() if declared.form == "other" else ""
         try:
             self._read(declared)

@@ -89,8 +89,10 @@ class Declaration:
 
     `of` is its class and `name` its attribute; an equation for a component has its accessor in `getter` (`getStmt`), and perhaps the
     name of an `index`. `is_circular` is whether it says `circular [..]`. `pieces` are stretches that this profile leaves out
-    (`circular [..]`, `nta`, types of Java). `made` are all expressions that were read, whole ones and those of what could not be read to
-    its end. Of the form other, `sort` says what it is in JastAdd2: method, field, coll and the like, or nothing where that isn't known.
+    (`circular [..]`, `nta`, types of Java). `locals` are the names that are bound in its body, each behind the kind that is written in
+    front of it, and `untaken` the offsets of statements in it that aren't taken. `made` are all expressions that were read, whole ones and
+    those of what could not be read to its end. Of the form other, `sort` says what it is in JastAdd2: method, field, coll and the like, or
+    nothing where that isn't known.
     """
 
     form: str
@@ -107,6 +109,8 @@ class Declaration:
     body: Optional[Expression] = None
     is_circular: bool = False
     pieces: List[Piece] = field(default_factory=list)
+    locals: List[Tuple[Word, Binding]] = field(default_factory=list)
+    untaken: List[int] = field(default_factory=list)
     made: List[Expression] = field(default_factory=list)
     sort: str = ""
 

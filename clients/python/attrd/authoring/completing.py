@@ -4,13 +4,20 @@ from __future__ import annotations
 import re
 from typing import Dict, List, Optional, Tuple
 
+from ..scanning import Scan
 from .aspect_tree import Declaration, Expression, Form
-from .jastadd_reader import read_aspects
+from .jastadd_reader import PLAIN, read_aspects
 from .java_reader import KINDS
 from .specification import Source, Specification
 
 _BEGUN = re.compile(r"\w*\Z")
-_HEAD = re.compile(r"\b(syn|inh|eq)\s+[^;=]*\Z")
+_HEAD = re.compile(r"\b(syn|inh|eq)\s+[^;={}]*\Z")
+# The same where methods are read, which begin by a modifier or by their kind.
+_JASTADD_HEAD = re.compile(rf"\b(syn|inh|eq|{'|'.join((*PLAIN, *KINDS))})\s+[^;={{}}]*\Z")
+_OWNER = re.compile(r"(\w+)\s*\.\s*\Z")
+# Where the class of a loop's element stands, and where a statement begins.
+_LOOP = re.compile(r"\bfor\s*\(\s*(?:final\s+)?\Z")
+_STATEMENT = re.compile(r"(?:[;{})]|\belse)\s*\Z")
 HERE = "here__"
 
 
@@ -30,8 +37,10 @@ class Completing:
             return self._classes()
         found = self._here()
         if found is None:
-            return self._in_head()
+            return self._in_body() if self._depth() > 1 else self._in_head()
         declaration, call = found
+        if call.receiver is None and call.start in declaration.untaken:
+            return self._in_body()
         if call.receiver is not None:
             return self._on(self.specification.kind_of(call.receiver, declaration))
         of = declaration.of.text if declaration.of is not None else None
@@ -50,6 +59,22 @@ class Completing:
                 return declaration, call
         return None
 
+    def _depth(self) -> int:
+        """How many braces are open at the place: that of the aspect, and those of a body."""
+        signs = [it.text for it in Scan(self.front, is_lenient=True).words() if it.kind == "sign"]
+        return signs.count("{") - signs.count("}")
+
+    def _is_jastadd(self) -> bool:
+        return "jastadd" in self.specification.forms
+
+    def _in_body(self) -> Dict[str, str]:
+        """What stands in a body where no expression does: the class of a loop's element, or a word with which a statement begins."""
+        if self._is_jastadd() and _LOOP.search(self.front):
+            return self._classes()
+        if _STATEMENT.search(self.front) is None:
+            return {}
+        return {it: "" for it in (("return", "if", "else", "for") if self._is_jastadd() else ("return",))}
+
     def _on(self, kind: Optional[str]) -> Dict[str, str]:
         """What can be asked of a value of a kind; the attributes of all classes where it isn't known."""
         if kind == "String":
@@ -65,12 +90,13 @@ class Completing:
 
     def _in_head(self) -> Dict[str, str]:
         """The names in the head of a declaration: of a class, or behind its dot of what it may declare or have an equation for."""
-        head = _HEAD.search(self.front)
-        if head is None:
-            return {it: "" for it in ("syn", "inh", "eq", "lazy", "aspect")}
-        owner = re.search(r"(\w+)\s*\.\s*\Z", head[0])
+        head, owner = (_JASTADD_HEAD if self._is_jastadd() else _HEAD).search(self.front), _OWNER.search(self.front)
+        kinds = {**self._classes(), **{it: "" for it in KINDS}}
+        if head is None and not (owner and self._is_jastadd()):
+            words = {it: "" for it in ("syn", "inh", "eq", "lazy", "aspect")}
+            return {**words, **{it: "" for it in PLAIN}, **kinds} if self._is_jastadd() else words
         if owner is None:
-            return {**self._classes(), **({it: "" for it in KINDS} if head[1] != "eq" else {})}
+            return self._classes() if head and head[1] == "eq" else kinds
         getters = {name: it.kind for name, it in self.specification.accessors(owner[1]).items() if name == "get" + it.part.name}
         attributes = {} if owner[1] not in self.specification.grammar else self._on(owner[1])
         own = {name: told for name, told in attributes.items() if name not in self.specification.accessors(owner[1])}

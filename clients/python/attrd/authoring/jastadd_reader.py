@@ -2,25 +2,20 @@
 statements, each of which is read as the expression that it means."""
 from __future__ import annotations
 
-from dataclasses import replace
-from typing import List, Optional
+from typing import List
 
 from ..scanning import Word
 from .aspect_reader import FOLDS, AspectReader
-from .aspect_tree import Binding, Declaration, Expression
+from .aspect_tree import Declaration, Expression
 from .java_reader import BEGINNINGS
-from .statements import Choice, Each, Statement, meaning, searched
+from .statement_reader import StatementReader
 
 # Words in front of a declaration that mean nothing.
 PLAIN = ("public", "protected", "private", "final")
 
 
-class JastAddReader(AspectReader):
+class JastAddReader(StatementReader):
     """Reads the declarations of a file of JastAdd's own language."""
-
-    def __init__(self, text: str, forms: str = "") -> None:
-        super().__init__(text, forms)
-        self._not_taken = ""
 
     def form(self) -> str:
         at = self._behind_plain()
@@ -67,84 +62,6 @@ class JastAddReader(AspectReader):
 
     def reserved_call(self, word: Word) -> Expression:
         return self.call(word.at, word, [])
-
-    def body(self, declared: Declaration) -> None:
-        if self.next.text != "{":
-            super().body(declared)
-            return
-        begun, first = self.at, self.next
-        statements = self.block()
-        if statements is None:
-            self.at = self.end_of(begun)
-            self.left_out(first, self._not_taken, None)
-            return
-        body = meaning(statements, None)
-        is_written = body is None or body in self.made
-        declared.body = body if body is None or is_written else replace(body, start=first.at, end=self.words[self.at - 1].end)
-
-    def block(self) -> Optional[List[Statement]]:
-        """The statements between braces; None before one that isn't taken. Raises GrammarFault."""
-        self.want("sign", "{")
-        found: List[Statement] = []
-        while not self.take("sign", "}"):
-            one = self.one_statement()
-            if one is None:
-                return None
-            found.append(one)
-        return found
-
-    def one_statement(self) -> Optional[Statement]:
-        """The next statement; None where it isn't taken, of which it is noted what it is. Raises GrammarFault."""
-        first = self.next
-        if self.next.text == "{":
-            return self.block()
-        if self.take("sign", ";"):
-            return []
-        if self.take("reserved", "return"):
-            value = self.expression()
-            self.want("sign", ";")
-            return value
-        if self.take("name", "if"):
-            return self._choice(first)
-        if self.take("name", "for"):
-            return self._each(first)
-        self._not_taken = self.statement()
-        return None
-
-    def _choice(self, first: Word) -> Optional[Statement]:
-        self.want("sign", "(")
-        condition = self.expression()
-        self.want("sign", ")")
-        then = self.one_statement()
-        other: Optional[Statement] = []
-        if then is not None and self.take("name", "else"):
-            other = self.one_statement()
-        return None if then is None or other is None else Choice(first, condition, then, other)
-
-    def _each(self, first: Word) -> Optional[Statement]:
-        binding, outer = self._head(), self.bound
-        if binding is None:
-            self._not_taken = "for"
-            return None
-        self.want("sign", ")")
-        self.bound += (binding,)
-        inner = self.one_statement()
-        self.bound = outer
-        each = None if inner is None else Each(first, binding, inner)
-        if each is None or searched(each) is not None:
-            return each
-        self._not_taken = "for"
-        return None
-
-    def _head(self) -> Optional[Binding]:
-        """The name of a loop with its list; None where the loop has another form. Raises GrammarFault."""
-        self.want("sign", "(")
-        self.final()
-        kind = self.java_kind()
-        name = None if kind is None or kind.kind == "java" else self.take("name")
-        if name is None or not self.take("sign", ":"):
-            return None
-        return Binding(name, None, self.expression())
 
 
 def read_aspects(text: str, forms: str = "") -> List[Declaration]:

@@ -63,6 +63,7 @@ class Names:
     def _of_aspects(self) -> Iterator[Meaning]:
         for placed in self.specification.declarations:
             yield from self._header(placed)
+            yield from self._locals(placed)
             for expression in placed.declaration.made:
                 yield from self._expression(placed, expression)
 
@@ -79,6 +80,13 @@ class Names:
             yield from self._attribute(file, it.name, own)
         for binding in [*it.parameters, *([Binding(it.index)] if it.index is not None else [])]:
             yield self._bound(file, binding.name, binding, it)
+
+    def _locals(self, placed: Placed) -> Iterator[Meaning]:
+        """The class and the name where a name is bound in a body."""
+        file, declaration = placed
+        for kind, binding in declaration.locals:
+            yield from self._class(file, kind)
+            yield self._bound(file, binding.name, binding, declaration)
 
     def _expression(self, placed: Placed, it: Expression) -> Iterator[Meaning]:
         file, declaration = placed
