@@ -163,6 +163,13 @@ class Reading(unittest.TestCase):
             with self.subTest(front):
                 self.assertLessEqual({"getOn", "n"}, completed(f"aspect X {{ {front} }} aspect Y {{ int A.n() {{ return 2; }} }}"))
 
+    def test_equations_for_components_name_inherited_attributes(self):
+        declared = "aspect Y { inh int B.i(); inh boolean B.on(String n); eq A.getB().i() = 1; syn int B.s() = 2; }"
+        for forms in "", "jastadd":
+            for head in "A.getB().|", "A.getB(int i).o|", "A.getChild() . |":
+                with self.subTest(head, forms=forms):
+                    self.assertEqual(completed(f"aspect X {{ eq {head} }} {declared}", forms), {"i", "on"})
+
     def test_without_the_word_a_body_begins_by_return(self):
         self.assertEqual(completed("aspect X { syn int A.m() { |", ""), {"return"})
 

@@ -2,7 +2,7 @@
 from __future__ import annotations
 
 import re
-from typing import Dict, List, Optional, Tuple
+from typing import Dict, Iterable, Optional, Tuple
 
 from ..scanning import Scan
 from .aspect_tree import Declaration, Expression, Form
@@ -14,6 +14,8 @@ _BEGUN = re.compile(r"\w*\Z")
 _HEAD = re.compile(r"\b(syn|inh|eq)\s+[^;={}]*\Z")
 # The same where methods are read, which begin by a modifier or by their kind.
 _JASTADD_HEAD = re.compile(rf"\b(syn|inh|eq|{'|'.join((*PLAIN, *KINDS))})\s+[^;={{}}]*\Z")
+# Where the name of an inherited attribute stands in an equation for a component.
+_GIVEN = re.compile(r"\beq\s+\w+\s*\.\s*get\w+\s*\([^()]*\)\s*\.\s*\Z")
 _OWNER = re.compile(r"(\w+)\s*\.\s*\Z")
 # Where the class of a loop's element stands, and where a statement begins.
 _LOOP = re.compile(r"\bfor\s*\(\s*(?:final\s+)?\Z")
@@ -82,14 +84,14 @@ class Completing:
         if kind is None:
             return {name: "" for name in self.specification.attribute_names}
         found = {name: f"{it.kind} {name}" for name, it in self.specification.accessors(kind).items()}
-        for placed in self.specification.attributes_of(kind) if kind in self.specification.grammar else []:
-            it = placed.declaration
-            assert it.name is not None and it.kind is not None
-            found[it.name.text] = f"{it.kind.text} {it.name.text}({', '.join(_kinds(it))})"
-        return found
+        attributes = self.specification.attributes_of(kind) if kind in self.specification.grammar else []
+        return {**found, **_told(it.declaration for it in attributes)}
 
     def _in_head(self) -> Dict[str, str]:
         """The names in the head of a declaration: of a class, or behind its dot of what it may declare or have an equation for."""
+        if _GIVEN.search(self.front):
+            declared = (it.declaration for name in self.specification.attribute_names for it in self.specification.named(name))
+            return _told(it for it in declared if it.form == "inh")
         head, owner = (_JASTADD_HEAD if self._is_jastadd() else _HEAD).search(self.front), _OWNER.search(self.front)
         kinds = {**self._classes(), **{it: "" for it in KINDS}}
         if head is None and not (owner and self._is_jastadd()):
@@ -106,8 +108,14 @@ class Completing:
         return {name: "class" for name in self.specification.classes}
 
 
-def _kinds(it: Declaration) -> List[str]:
-    return [binding.kind.text for binding in it.parameters if binding.kind is not None]
+def _told(attributes: Iterable[Declaration]) -> Dict[str, str]:
+    """The names of attributes, each with its kind and those of its parameters."""
+    found: Dict[str, str] = {}
+    for it in attributes:
+        assert it.name is not None and it.kind is not None
+        kinds = [binding.kind.text for binding in it.parameters if binding.kind is not None]
+        found[it.name.text] = f"{it.kind.text} {it.name.text}({', '.join(kinds)})"
+    return found
 
 
 def completions(specification: Specification, file: str, offset: int) -> Dict[str, str]:
