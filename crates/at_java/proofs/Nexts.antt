@@ -1,6 +1,5 @@
 -- What is read by the token that is next.
 use Rattle.std.proofs.Common.{◌≡◌, ℕ, List, [], ◌∷◌, Bool, true, false, cond, refl, ap, ◌∙◌}
-use Rattle.std.specs.Prelude.{Result, Ok, Err, IfOk, IfErr}
 use Rattle.std.specs.Str.{bytes_eq}
 use Rattle.std.proofs.lemmas.Slice.Eq.{bytes_eq-Decides}
 use Rattle.at_text.specs.Rows.{Row, sign, word, is_sign, is_word, next_is}
@@ -45,19 +44,6 @@ pub sign_not : {A : Type 0} (text : List ℕ) (row : Row) (next : Place → Row 
     → next_is (is_sign text) row ≡ false → after_sign text row next other ≡ other
 sign_not text [] next other h = refl
 sign_not text (t ∷ ts) next other h = cond_false (is_sign text t) (next t.at ts) other h
-
--- ---- what another reader answers
-
--- what is read by what answers the same
-pub read_as : {R A : Type 0} (result : Result R (Failure Breach)) (view : R → A) (read other : Read A) (rest : Row) → read ≡ other
-    → IfOk result (λ r. other ≡ got (view r) rest) → IfOk result (λ r. read ≡ got (view r) rest)
-read_as (Ok r) view read other rest same found = same ∙ found
-read_as (Err e) view read other rest same found = found
-
-pub fault_as : {R A : Type 0} (result : Result R (Failure Breach)) (read other : Read A) (rest : Row) → read ≡ other
-    → IfErr result (λ e. Fails e rest other) → IfErr result (λ e. Fails e rest read)
-fault_as (Ok r) read other rest same fault = fault
-fault_as (Err e) read other rest same fault = fails_as e rest read other same fault
 
 -- ---- another fault in its place
 

@@ -4,7 +4,7 @@ use Rattle.std.proofs.lemmas.Result.{err_from_is_err_and}
 use Rattle.at_text.specs.Rows.{left}
 use Rattle.at_java.specs.View.{statement_view}
 use Rattle.at_java.specs.Statements.{statement}
-use Rattle.at_java.proofs.Nexts.{read_as, fault_as}
+use Rattle.at_java.proofs.Exits.{found_as, fault_as}
 use Rattle.at_java.proofs.Nestings.{none_nest, one_nests}
 use Rattle.at_java.proofs.ItemLists.{items_end, items_too_many, item_fails, item_read}
 use Rattle.at_java.proofs.reader.Reader.+statement.Goals as goal
@@ -16,7 +16,7 @@ statement-returns-then-depth-eq0-clause-fault t c = none_nest c.args.depth _ (om
 
 pub statement-returns-clause-found : goal.statement-returns-clause-found
 statement-returns-clause-found t c =
-    read_as c.formed.result statement_view _ _ _ (one_nests c.args.depth _ (omega (arith, c.if-depth-eq0.false))) c.formed.ensures.found
+    found_as c.formed.result statement_view _ _ _ (one_nests c.args.depth _ (omega (arith, c.if-depth-eq0.false))) c.formed.ensures.found
 
 pub statement-returns-clause-fault : goal.statement-returns-clause-fault
 statement-returns-clause-fault t c =
