@@ -17,3 +17,4 @@ pub mod Counted
 pub mod Blocks
 pub mod Rewritten
 pub mod Small
+pub mod Resolved

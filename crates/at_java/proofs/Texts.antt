@@ -1,7 +1,8 @@
 -- A text's tokens, and what is told of them.
 use Rattle.std.proofs.Common.{◌≡◌, ℕ, List, [], sym, ap, subst, ◌∙◌, inl, inr}
 use Rattle.at_text.specs.Symbols.{HasTokens}
-use Rattle.at_text.specs.Rows.{Row}
+use Rattle.at_text.specs.Rows.{Row, left}
+use Rattle.at_text.specs.declared.placed.Placed.{Placed}
 use Rattle.at_text.specs.Faults.{FaultsAt}
 use Rattle.at_text.specs.declared.scan.ScanFault.{ScanFault}
 use Rattle.at_text.specs.declared.scan.ScanFault.TheVariants as scan
@@ -10,27 +11,37 @@ use Rattle.at_text.specs.declared.fault.Fault.TheVariants.{Refused, Memory}
 use Rattle.at_jrag.specs.Syntax.{Aspect}
 use Rattle.at_java.specs.declared.JavaCode.{JavaCode}
 use Rattle.at_java.specs.Read.{Read, got}
-use Rattle.at_java.specs.Files.{aspects_in, uncut, IsFaultOf, Holds, IsFault}
+use Rattle.at_java.specs.Aliases.{Alias, resolved_row}
+use Rattle.at_java.specs.Files.{aspects_in, aspects_of, uncut, IsFaultOf, Holds, IsFault}
 use Rattle.at_text.proofs.TextTokens.{one_row}
 
-pub held : (text : List ℕ) (tokens rest : Row) (aspects : List Aspect) → HasTokens text tokens → aspects_in tokens ≡ got aspects rest → rest ≡ [] → Holds text aspects
-held text tokens rest aspects has found end = record { tokens = tokens; cut = has; is = found ∙ ap (got aspects) end }
+-- what is read of tokens that were written over is their row as it is meant
+pub read_as_meant : (names : List Alias) {read meant lent tokens : List Placed} → read ≡ meant → left meant ≡ resolved_row names (left lent)
+    → lent ≡ tokens → left read ≡ resolved_row names (left tokens)
+read_as_meant names is means same = ap left is ∙ means ∙ ap (λ ts. resolved_row names (left ts)) same
 
--- the row of the text is the one that was read
-pub held_only : (text : List ℕ) (ts us rest : Row) (aspects : List Aspect) → HasTokens text ts → HasTokens text us → aspects_in ts ≡ got aspects rest → rest ≡ []
-    → aspects_in us ≡ got aspects []
-held_only text ts us rest aspects h k found end = ap aspects_in (one_row text us ts k h) ∙ found ∙ ap (got aspects) end
+-- the row that was read is that of the text, with the names as they are read
+module _ (names : List Alias) (text : List ℕ) (ts row : Row) (has : HasTokens text ts) (is : row ≡ resolved_row names ts) where
+  pub held : (rest : Row) (aspects : List Aspect) → aspects_in row ≡ got aspects rest → rest ≡ [] → Holds names text aspects
+  held rest aspects found end = record { tokens = ts; cut = has; is = ap aspects_in (sym is) ∙ found ∙ ap (got aspects) end }
 
-pub fault_only : (text : List ℕ) (ts us : Row) (e : Fault JavaCode) → HasTokens text ts → HasTokens text us → IsFaultOf text (aspects_in ts) e → IsFaultOf text (aspects_in us) e
-fault_only text ts us e h k f = subst (λ (x : Row). IsFaultOf text (aspects_in x) e) (one_row text ts us h k) f
+  pub held_only : (us rest : Row) (aspects : List Aspect) → HasTokens text us → aspects_in row ≡ got aspects rest → rest ≡ []
+      → aspects_of names us ≡ got aspects []
+  held_only us rest aspects k found end =
+      ap (aspects_of names) (one_row text us ts k has) ∙ ap aspects_in (sym is) ∙ found ∙ ap (got aspects) end
 
-pub fault_read : (text : List ℕ) (ts : Row) (e : Fault JavaCode) → HasTokens text ts → IsFaultOf text (aspects_in ts) e → IsFault text e
-fault_read text ts (Refused code at) h f = inr (ts, h, f)
-fault_read text ts Memory h f = f
+  pub fault_only : (us : Row) (e : Fault JavaCode) → HasTokens text us → IsFaultOf text (aspects_in row) e → IsFaultOf text (aspects_of names us) e
+  fault_only us e k f =
+      subst (λ (x : Row). IsFaultOf text (aspects_in x) e) (is ∙ ap (resolved_row names) (one_row text ts us has k)) f
 
-pub fault_uncut : (text : List ℕ) (f : ScanFault) (e : Fault JavaCode) → FaultsAt text f → e ≡ uncut text f → IsFault text e
-fault_uncut text f (Refused code at) h s = inl (f, h, sym s)
-fault_uncut text f Memory h s = tt
+  pub fault_read : (e : Fault JavaCode) → IsFaultOf text (aspects_in row) e → IsFault names text e
+  fault_read (Refused code at) f = inr (ts, has, subst (λ (x : Row). IsFaultOf text (aspects_in x) (Refused code at)) is f)
+  fault_read Memory f = f
+
+pub fault_uncut : (names : List Alias) (text : List ℕ) (f : ScanFault) (e : Fault JavaCode) → FaultsAt text f → e ≡ uncut text f
+    → IsFault names text e
+fault_uncut names text f (Refused code at) h s = inl (f, h, sym s)
+fault_uncut names text f Memory h s = tt
 
 -- a text that is cut into tokens has no fault but want of memory
 pub uncut_only : {A : Type 0} (text : List ℕ) (f : ScanFault) (e : Fault JavaCode) (read : Read A) → f ≡ scan.Memory → e ≡ uncut text f → IsFaultOf text read e

@@ -15,6 +15,7 @@ use Rattle.at_java.specs.Read.{Read, Fault, got, fails, here, at_place, then_rea
 use Rattle.at_java.specs.Tokens.{sign_here, name}
 use Rattle.at_java.specs.Next.{after_word, other_code}
 use Rattle.at_java.specs.Items.{items_until}
+use Rattle.at_java.specs.Aliases.{Alias, resolved_row}
 use Rattle.at_java.specs.Declarations.{declaration}
 use Rattle.at_java.specs.declared.JavaCode.{JavaCode}
 use Rattle.at_java.specs.declared.JavaCode.TheVariants.{Syntax, Limit}
@@ -53,6 +54,10 @@ imports false (t ∷ ts) = cond (is_word (codes "import") t) (imports true ts) (
 abbrev pub aspects_in : Row → Read (List Aspect)
 aspects_in row = then_read (imports false row) (λ u rest. aspects most_aspects rest)
 
+-- the same, where names stand for others
+abbrev pub aspects_of : List Alias → Row → Read (List Aspect)
+aspects_of aliases row = aspects_in (resolved_row aliases row)
+
 -- ---- faults
 
 -- the code and the place by which a fault is told
@@ -79,13 +84,13 @@ IsFaultOf text read (Refused code at) = (fault : Fault) × (read ≡ fails fault
 -- ---- texts
 
 -- the aspects that the text holds
-pub record Holds (text : List ℕ) (aspects : List Aspect) : Type 0 where
+pub record Holds (aliases : List Alias) (text : List ℕ) (aspects : List Aspect) : Type 0 where
   pub tokens : List PlacedToken
   pub cut : HasTokens text tokens
-  pub is : aspects_in tokens ≡ got aspects []
+  pub is : aspects_of aliases tokens ≡ got aspects []
 
 -- the fault of the text: it can't be cut into tokens, or these hold no aspects; of want of memory nothing is said
-abbrev pub IsFault : List ℕ → text_fault.Fault JavaCode → Type 0
-IsFault text Memory = Unit {0}
-IsFault text (Refused code at) = ((fault : ScanFault) × FaultsAt text fault × (uncut text fault ≡ Refused code at))
-    ⊎ ((tokens : List PlacedToken) × HasTokens text tokens × IsFaultOf text (aspects_in tokens) (Refused code at))
+abbrev pub IsFault : List Alias → List ℕ → text_fault.Fault JavaCode → Type 0
+IsFault aliases text Memory = Unit {0}
+IsFault aliases text (Refused code at) = ((fault : ScanFault) × FaultsAt text fault × (uncut text fault ≡ Refused code at))
+    ⊎ ((tokens : List PlacedToken) × HasTokens text tokens × IsFaultOf text (aspects_of aliases tokens) (Refused code at))

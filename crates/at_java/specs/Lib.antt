@@ -13,6 +13,7 @@ pub mod Statements
 pub mod Rewriting
 pub mod Declarations
 pub mod Seen
+pub mod Aliases
 pub mod Files
 pub mod Naming
 pub mod Found

@@ -3,8 +3,10 @@
 //!
 //! **Its specs:** `Read` is what a reader takes of a row of tokens, and `Tokens`, `Next` and `Items` what several forms share;
 //! `Operands`, `Operators` and `Expressions`, `Kinds`, `Statements` and `Declarations` say of each form what is read, by recursive
-//! descent; `Written` is a body as it is written, and `Rewriting` the expression that it means; `Files` is the whole: the aspects of
-//! a text, or its fault. `View` and `Seen` are what the program's values stand for.
+//! descent; `Written` is a body as it is written, and `Rewriting` the expression that it means, over `Naming`, which counts forms and
+//! puts expressions in the place of names; `Aliases` are names that stand for those of accessors; `Files` is the whole: the aspects
+//! of a text, or its fault. `View`, `OperatorView`, `Seen`, `Found`, `Searching` and `Rests` are what the program's values stand for,
+//! and `Refusals` says that a result of rewriting is what is meant, or its refusal.
 //!
 //! **Where to begin:** `parse_java`, below, and `reader.rt`.
 //!
@@ -22,14 +24,17 @@ ghost use Rattle.at_text.specs.declared.fault.Fault.TheVariants.{Refused, Memory
 ghost use Rattle.at_jrag.specs.Syntax as syntax;
 ghost use Rattle.at_jrag.specs.View.{aspect_view};
 ghost use Rattle.at_java.specs.Read.{Read, got, Fails};
-ghost use Rattle.at_java.specs.Files.{aspects_in, uncut, IsUncutAt, IsFaultOf, Holds, IsFault};
+ghost use Rattle.at_java.specs.Files.{aspects_of, uncut, IsUncutAt, IsFaultOf, Holds, IsFault};
 ghost use Rattle.at_java.specs.declared.JavaCode.TheVariants.{Syntax};
 
+mod aliases;
 pub mod laws;
 mod reader;
 mod rewriting;
 mod written;
 
+pub use aliases::Alias;
+use aliases::resolve;
 use at_jrag::Aspect;
 use at_text::cursor::Cursor;
 use at_text::fault::{Failure, Fault};
@@ -96,7 +101,7 @@ fn breached(text: &str, cursor: &Cursor<'_>, breach: Breach) -> JavaFault
     }
 }
 
-/// The aspects that the text holds, in order.
+/// The aspects that the text holds, in order, where these names stand for others.
 ///
 /// # Errors
 ///
@@ -104,21 +109,27 @@ fn breached(text: &str, cursor: &Cursor<'_>, breach: Breach) -> JavaFault
 /// body is rewritten once it is read: `Syntax` at the token with which no form goes on, or at the end of the text; `LeftOut` at the
 /// first word of a form that isn't read; `Limit` at the first token of the declaration whose parts are too many or nest too deep;
 /// `NoValue` at the closing brace of a body whose end can be reached. `Memory` for want of memory.
-pub fn parse_java(alloc: Global, text: &str) -> Result<Vec<Aspect>, JavaFault>
-    ensures found { IfOk result (λ v. Holds text.now (map aspect_view v.items)) }
+pub fn parse_java<'a>(
+    alloc: Global,
+    text: &'a str,
+    aliases: &'a [Alias],
+) -> Result<Vec<Aspect>, JavaFault>
+    ensures found { IfOk result (λ v. Holds aliases.now text.now (map aspect_view v.items)) }
     // A text that can't be cut into tokens is refused where that is met, whatever stands before it.
     ensures uncut { (fault : ScanFault) (at : Place) → IsUncutAt text.now at fault
         → MatchResult result (λ v. ⊥) (λ e. (e ≡ Memory) ⊎ (e ≡ Refused Syntax at)) }
     // What is answered for a text of tokens is what they spell, or the fault there, unless memory runs out.
     ensures only { (tokens : List PlacedToken) → HasTokens text.now tokens
-        → MatchResult result (λ v. aspects_in tokens ≡ got (map aspect_view v.items) []) (IsFaultOf text.now (aspects_in tokens)) }
-    ensures fault { IfErr result (IsFault text.now) }
+        → MatchResult result (λ v. aspects_of aliases.now tokens ≡ got (map aspect_view v.items) [])
+        (IsFaultOf text.now (aspects_of aliases.now tokens)) }
+    ensures fault { IfErr result (IsFault aliases.now text.now) }
 {
     let tokens = match lexemes(alloc, text) {
         Ok(tokens) => tokens,
         Err(fault) => return Err(scan_fault(text, fault)),
     };
-    let tokens = place_all(alloc, text, &tokens)?;
+    let mut tokens = place_all(alloc, text, &tokens)?;
+    resolve(&mut tokens, aliases);
     let mut reader = Reader::new(alloc, &tokens);
     match reader.file() {
         Ok(aspects) => Ok(aspects),

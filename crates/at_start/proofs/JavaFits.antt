@@ -22,6 +22,7 @@ use Rattle.at_java.specs.Statements as statements
 use Rattle.at_java.specs.Statements.{returned, condition, otherwise, conditional, element, loop, block}
 use Rattle.at_java.specs.Rewriting.{Meaning, Means, Open, Refused, rewritten}
 use Rattle.at_java.specs.Declarations.{Target, target, laziness, is_boolean, start, circular, Head, head, meant, block_body, body, ending, synthesized, inherited, own_equation, child_equation, equation, begins_method, method, declared, limited, first_declared, behind_modifiers, declaration}
+use Rattle.at_java.specs.Aliases.{Alias, resolved_row}
 use Rattle.at_java.specs.Files.{named_aspect, aspect, aspects, imports, aspects_in, most_aspects, most_declarations}
 use Rattle.at_java.specs.declared.JavaCode.TheVariants.{Syntax, LeftOut, Limit, NoValue}
 use Rattle.at_typing.proofs.Literals.{AreInts, AreIntsIn}
@@ -272,21 +273,22 @@ file_fits file (a ∷ as') fit =
     subst (AllByRecursion LocatedFits) (sym (flat_map-cons (from_aspect file) a as'))
     (all_both LocatedFits (from_aspect file a) (from_file file as') (all_map LocatedFits _ a.decls fit.0) (file_fits file as' fit.1))
 
-hold_fits : (n : ℕ) (files : List (List ℕ)) (aspects : List (List Aspect)) → AllHold JastAdd files aspects
-    → AllByRecursion LocatedFits (located n aspects)
-hold_fits n [] [] hold = tt
-hold_fits n [] (a ∷ as') hold = absurd hold
-hold_fits n (f ∷ fs) [] hold = absurd hold
-hold_fits n (f ∷ fs) (a ∷ as') hold =
-    all_both LocatedFits (from_file n a) (located (n + 1) as')
-    (file_fits n a (read_fits hold.0.written.tokens a [] hold.0.written.is)) (hold_fits (n + 1) fs as' hold.1)
+module _ (names : List Alias) where
+  hold_fits : (n : ℕ) (files : List (List ℕ)) (aspects : List (List Aspect)) → AllHold JastAdd names files aspects
+      → AllByRecursion LocatedFits (located n aspects)
+  hold_fits n [] [] hold = tt
+  hold_fits n [] (a ∷ as') hold = absurd hold
+  hold_fits n (f ∷ fs) [] hold = absurd hold
+  hold_fits n (f ∷ fs) (a ∷ as') hold =
+      all_both LocatedFits (from_file n a) (located (n + 1) as')
+      (file_fits n a (read_fits (resolved_row names hold.0.written.tokens) a [] hold.0.written.is)) (hold_fits (n + 1) fs as' hold.1)
 
-pub hold_ints : (n : ℕ) (files : List (List ℕ)) (aspects : List (List Aspect)) → AllHold JastAdd files aspects
-    → AllByRecursion AreIntsIn (located n aspects)
-hold_ints n files aspects hold =
-    all_more LocatedFits AreIntsIn (located n aspects) (λ d fits. fits.0) (hold_fits n files aspects hold)
+  pub hold_ints : (n : ℕ) (files : List (List ℕ)) (aspects : List (List Aspect)) → AllHold JastAdd names files aspects
+      → AllByRecursion AreIntsIn (located n aspects)
+  hold_ints n files aspects hold =
+      all_more LocatedFits AreIntsIn (located n aspects) (λ d fits. fits.0) (hold_fits n files aspects hold)
 
-pub hold_booleans : (n : ℕ) (files : List (List ℕ)) (aspects : List (List Aspect)) → AllHold JastAdd files aspects
-    → AllByRecursion IsBooleanIn (located n aspects)
-hold_booleans n files aspects hold =
-    all_more LocatedFits IsBooleanIn (located n aspects) (λ d fits. fits.1) (hold_fits n files aspects hold)
+  pub hold_booleans : (n : ℕ) (files : List (List ℕ)) (aspects : List (List Aspect)) → AllHold JastAdd names files aspects
+      → AllByRecursion IsBooleanIn (located n aspects)
+  hold_booleans n files aspects hold =
+      all_more LocatedFits IsBooleanIn (located n aspects) (λ d fits. fits.1) (hold_fits n files aspects hold)

@@ -1,4 +1,5 @@
 mod Naming
+mod Listing
 mod Declaring
 mod TermFiles
 mod Ruled

@@ -20,8 +20,10 @@ use Rattle.at_tree.proofs.TextLaws.{one_term_each}
 use Rattle.at_typing.specs.Building.{rules_of}
 use Rattle.at_typing.specs.Located.{located}
 use Rattle.at_start.specs.GrammarFiles.{Declares, GivesClasses, declared}
-use Rattle.at_java.specs.Files.{aspects_in}
+use Rattle.at_java.specs.Aliases.{Alias}
+use Rattle.at_java.specs.Files.{aspects_of}
 use Rattle.at_java.specs.Read.{got}
+use Rattle.at_start.specs.Lists.{aliases_in}
 use Rattle.at_start.specs.AspectFiles.{AllHold, GivesRules, IsWritten}
 use Rattle.at_start.specs.declared.language.Language.{Language}
 use Rattle.at_start.specs.declared.language.Language.TheVariants.{Profile, JastAdd}
@@ -47,30 +49,31 @@ named_apart bytes cs h = subst AreNamedApart (sym h.built) (classes_apart h.decl
 got_once : (as' bs : List Aspect) (rest : Row) → got as' rest ≡ got bs rest → as' ≡ bs
 got_once as' bs rest e = cc
 
-written_once : (language : Language) (text : List ℕ) (as' bs : List Aspect) → IsWritten language text as'
-    → IsWritten language text bs → as' ≡ bs
-written_once (Profile forms) text as' bs h k =
+written_once : (language : Language) (names : List Alias) (text : List ℕ) (as' bs : List Aspect) → IsWritten language names text as'
+    → IsWritten language names text bs → as' ≡ bs
+written_once (Profile forms) names text as' bs h k =
     let rows = one_row text h.tokens k.tokens h.cut k.cut in
     one_file forms as' bs k.tokens (subst (λ (row : Row). File forms as' row []) rows h.spells) k.spells
-written_once JastAdd text as' bs h k =
+written_once JastAdd names text as' bs h k =
     let rows = one_row text h.tokens k.tokens h.cut k.cut in
-    got_once as' bs [] (sym h.is ∙ ap aspects_in rows ∙ k.is)
+    got_once as' bs [] (sym h.is ∙ ap (aspects_of names) rows ∙ k.is)
 
-all_held_once : (language : Language) (files : List (List ℕ)) (as' bs : List (List Aspect)) → AllHold language files as'
-    → AllHold language files bs → as' ≡ bs
-all_held_once language [] [] [] h k = refl
-all_held_once language [] [] (b ∷ bs) h k = absurd k
-all_held_once language [] (a ∷ as') bs h k = absurd h
-all_held_once language (f ∷ fs) [] bs h k = absurd h
-all_held_once language (f ∷ fs) (a ∷ as') [] h k = absurd k
-all_held_once language (f ∷ fs) (a ∷ as') (b ∷ bs) h k =
-    ap₂ (λ x xs. x ∷ xs) (written_once language f a b h.0.written k.0.written) (all_held_once language fs as' bs h.1 k.1)
+all_held_once : (language : Language) (names : List Alias) (files : List (List ℕ)) (as' bs : List (List Aspect))
+    → AllHold language names files as' → AllHold language names files bs → as' ≡ bs
+all_held_once language names [] [] [] h k = refl
+all_held_once language names [] [] (b ∷ bs) h k = absurd k
+all_held_once language names [] (a ∷ as') bs h k = absurd h
+all_held_once language names (f ∷ fs) [] bs h k = absurd h
+all_held_once language names (f ∷ fs) (a ∷ as') [] h k = absurd k
+all_held_once language names (f ∷ fs) (a ∷ as') (b ∷ bs) h k =
+    ap₂ (λ x xs. x ∷ xs) (written_once language names f a b h.0.written k.0.written) (all_held_once language names fs as' bs h.1 k.1)
 
 pub rules_once : (language : Language) (cs ds : Classes) (files : List (List ℕ)) (rules others : Rules) → cs ≡ ds
     → GivesRules language cs files rules → GivesRules language ds files others → rules ≡ others
 rules_once language cs ds files rules others same h k =
+    let held = subst (λ (c : Classes). AllHold language (aliases_in language c) files h.aspects) same h.hold in
     h.built.1 ∙ ap₂ (λ c as'. rules_of c (located 1 as')) same
-    (all_held_once language files h.aspects k.aspects h.hold k.hold) ∙ sym k.built.1
+    (all_held_once language (aliases_in language ds) files h.aspects k.aspects held k.hold) ∙ sym k.built.1
 
 -- ---- the tree
 

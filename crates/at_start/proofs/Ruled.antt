@@ -11,6 +11,8 @@ use Rattle.at_typing.specs.Building.{Builds}
 use Rattle.at_typing.specs.Located.{declarations_in, located}
 use Rattle.at_jrag.specs.View.{aspect_view}
 use Rattle.at_jrag.specs.declared.syntax.Aspect.{Aspect as AspectValue}
+use Rattle.at_java.specs.Aliases.{Alias}
+use Rattle.at_start.specs.Lists.{aliases_in}
 use Rattle.at_start.specs.AspectFiles.{GivesRules, Holds, AllHold, IsReadingFaultOf, IsUnread, IsAspectFault, IsRuleFault, rule_code, no_file, breaks}
 use Rattle.at_start.specs.declared.code.Code.{Code}
 use Rattle.at_start.specs.declared.language.Language.{Language}
@@ -23,12 +25,12 @@ use Rattle.at_start.specs.declared.fault.StartFault.{StartFault}
 use Rattle.at_start.specs.declared.fault.StartFault.TheVariants.{Refused, Memory}
 
 -- one more file
-hold_more : (language : Language) (fs : List (List ℕ)) (as' : List (List Aspect)) (f : List ℕ) (a : List Aspect)
-    → AllHold language fs as' → Holds language f a → AllHold language (fs ++ f ∷ []) (as' ++ a ∷ [])
-hold_more language [] [] f a h k = (k, tt)
-hold_more language [] (b ∷ bs) f a h k = absurd h
-hold_more language (g ∷ gs) [] f a h k = absurd h
-hold_more language (g ∷ gs) (b ∷ bs) f a h k = (h.0, hold_more language gs bs f a h.1 k)
+hold_more : (language : Language) (names : List Alias) (fs : List (List ℕ)) (as' : List (List Aspect)) (f : List ℕ) (a : List Aspect)
+    → AllHold language names fs as' → Holds language names f a → AllHold language names (fs ++ f ∷ []) (as' ++ a ∷ [])
+hold_more language names [] [] f a h k = (k, tt)
+hold_more language names [] (b ∷ bs) f a h k = absurd h
+hold_more language names (g ∷ gs) [] f a h k = absurd h
+hold_more language names (g ∷ gs) (b ∷ bs) f a h k = (h.0, hold_more language names gs bs f a h.1 k)
 
 front_more : {X : Type 0} (xs : List X) (i : ℕ) (x : X) → i < length xs → x ≡ get_or xs i x → take (i + 1) xs ≡ take i xs ++ x ∷ []
 front_more xs i x within is = take_more xs i x within ∙ ap (λ y. take i xs ++ y ∷ []) (sym is)
@@ -40,22 +42,22 @@ abbrev pub aspects_of : Vec AspectValue Global → List Aspect
 aspects_of v = map aspect_view v.items
 
 -- one more file was read
-pub one_more_read : (language : Language) (sources : List Source) (i : ℕ) (x : Source) (all : List (Vec AspectValue Global))
+pub one_more_read : (language : Language) (names : List Alias) (sources : List Source) (i : ℕ) (x : Source) (all : List (Vec AspectValue Global))
     (v : Vec AspectValue Global) → i < length sources → x ≡ get_or sources i x
-    → AllHold language (aspect_bytes (take i sources)) (map aspects_of all) → Holds language x.bytes.items (aspects_of v)
-    → AllHold language (aspect_bytes (take (i + 1) sources)) (map aspects_of (all ++ v ∷ []))
-one_more_read language sources i x all v within is h k =
+    → AllHold language names (aspect_bytes (take i sources)) (map aspects_of all) → Holds language names x.bytes.items (aspects_of v)
+    → AllHold language names (aspect_bytes (take (i + 1) sources)) (map aspects_of (all ++ v ∷ []))
+one_more_read language names sources i x all v within is h k =
     let files : aspect_bytes (take (i + 1) sources) ≡ aspect_bytes (take i sources) ++ x.bytes.items ∷ [] = ap aspect_bytes (front_more sources i x within is) ∙ map-append (λ (s : Source). s.bytes.items) (take i sources) (x ∷ []) in
     let read : map aspects_of (all ++ v ∷ []) ≡ map aspects_of all ++ aspects_of v ∷ [] = map-append aspects_of all (v ∷ []) in
-    rw (files, read) (hold_more language (aspect_bytes (take i sources)) (map aspects_of all) x.bytes.items
+    rw (files, read) (hold_more language names (aspect_bytes (take i sources)) (map aspects_of all) x.bytes.items
     (aspects_of v) h k)
 
 -- the file at that position is the first that could not be read
-pub unread_at : (language : Language) (sources : List Source) (i : ℕ) (x : Source) (aspects : List (List Aspect))
+pub unread_at : (language : Language) (names : List Alias) (sources : List Source) (i : ℕ) (x : Source) (aspects : List (List Aspect))
     (f : Fault Code) → i < length sources → x ≡ get_or sources i x
-    → AllHold language (aspect_bytes (take i sources)) aspects → IsReadingFaultOf language x.bytes.items f
-    → IsUnread language (aspect_bytes sources) (of_file (i + 1) f)
-unread_at language sources i x aspects (fault.Refused c at) within is h k = record {
+    → AllHold language names (aspect_bytes (take i sources)) aspects → IsReadingFaultOf language names x.bytes.items f
+    → IsUnread language names (aspect_bytes sources) (of_file (i + 1) f)
+unread_at language names sources i x aspects (fault.Refused c at) within is h k = record {
   front = aspect_bytes (take i sources);
   rest = aspect_bytes (drop (i + 1) sources);
   bytes = x.bytes.items;
@@ -65,10 +67,10 @@ unread_at language sources i x aspects (fault.Refused c at) within is h k = reco
   refuses = k;
   number = ap (λ n. n + 1) (sym (length-map (take i sources) (λ (s : Source). s.bytes.items) ∙ length-take-le i sources (omega (arith, within))));
 }
-unread_at language sources i x aspects fault.Memory within is h k = tt
+unread_at language names sources i x aspects fault.Memory within is h k = tt
 
 pub unread_refuses : (language : Language) (classes : Classes) (files : List (List ℕ)) (e : StartFault)
-    → IsUnread language files e
+    → IsUnread language (aliases_in language classes) files e
     → IsAspectFault language classes files e
 unread_refuses language classes files (Refused file c (Some at)) h = no_file file c at h
 unread_refuses language classes files (Refused file c None) h = h
@@ -77,7 +79,7 @@ unread_refuses language classes files Memory h = h
 -- the rules are those of files that were read
 pub given_by : (language : Language) (classes : Classes) (files : List (List ℕ)) (read : List (Vec AspectValue Global))
     (result : Result Rules StartFault)
-    → AllHold language files (map aspects_of read)
+    → AllHold language (aliases_in language classes) files (map aspects_of read)
     → IfOk result (λ r. Builds classes (declarations_in read) (Ok r))
     → IfOk result (λ r. GivesRules language classes files r)
 given_by language classes files read (Ok r) h built = record { aspects = map aspects_of read; hold = h; built = built }
@@ -85,7 +87,7 @@ given_by language classes files read (Err e) h built = built
 
 rule_refuses : (language : Language) (classes : Classes) (files : List (List ℕ)) (aspects : List (List Aspect))
     (e : StartFault)
-    → AllHold language files aspects → IsRuleFault classes (located 1 aspects) e → IsAspectFault language classes files e
+    → AllHold language (aliases_in language classes) files aspects → IsRuleFault classes (located 1 aspects) e → IsAspectFault language classes files e
 rule_refuses language classes files aspects (Refused n c at) h (f, first, of_number, of_code, of_place) =
     let placed = subst (λ (o : Option Place). IsAspectFault language classes files (Refused f.file (rule_code f.code) o))
     (sym of_place) (breaks aspects f h first) in
@@ -96,7 +98,7 @@ rule_refuses language classes files aspects Memory h says = tt
 -- a rule's fault is one of files that were read
 pub refused_by : (language : Language) (classes : Classes) (files : List (List ℕ)) (read : List (Vec AspectValue Global))
     (result : Result Rules StartFault)
-    → AllHold language files (map aspects_of read)
+    → AllHold language (aliases_in language classes) files (map aspects_of read)
     → IfErr result (IsRuleFault classes (declarations_in read)) → IfErr result (IsAspectFault language classes files)
 refused_by language classes files read (Ok r) h says = says
 refused_by language classes files read (Err e) h says = rule_refuses language classes files (map aspects_of read) e h says

@@ -16,6 +16,8 @@ use Rattle.at_typing.specs.Located.{IsSpelled, from_file, located}
 use Rattle.at_typing.proofs.BuiltWellFormed.{built_well_formed, built_plain, declared_well_formed}
 use Rattle.at_typing.proofs.Starting.{file_plain}
 use Rattle.at_evaluate.specs.Meant.{AreCircularWell}
+use Rattle.at_java.specs.Aliases.{Alias}
+use Rattle.at_start.specs.Lists.{aliases_in}
 use Rattle.at_start.specs.AspectFiles.{GivesRules, AllHold, reads_circular}
 use Rattle.at_start.specs.declared.language.Language.{Language}
 use Rattle.at_start.specs.declared.language.Language.TheVariants.{Profile, JastAdd}
@@ -23,22 +25,24 @@ use Rattle.at_start.specs.declared.fault.StartFault.{StartFault}
 use Rattle.at_start.proofs.JavaFits.{hold_booleans, hold_ints}
 
 -- each file of the profile that holds aspects spells them
-hold_spelled : (forms : Forms) (files : List (List ℕ)) (aspects : List (List Aspect)) → AllHold (Profile forms) files aspects
-    → AllByRecursion IsSpelled aspects
-hold_spelled forms [] [] hold = tt
-hold_spelled forms [] (a ∷ as') hold = absurd hold
-hold_spelled forms (f ∷ fs) [] hold = absurd hold
-hold_spelled forms (f ∷ fs) (a ∷ as') hold = ((forms, hold.0.written.tokens, hold.0.written.spells), hold_spelled forms fs as' hold.1)
+hold_spelled : (forms : Forms) (names : List Alias) (files : List (List ℕ)) (aspects : List (List Aspect))
+    → AllHold (Profile forms) names files aspects → AllByRecursion IsSpelled aspects
+hold_spelled forms names [] [] hold = tt
+hold_spelled forms names [] (a ∷ as') hold = absurd hold
+hold_spelled forms names (f ∷ fs) [] hold = absurd hold
+hold_spelled forms names (f ∷ fs) (a ∷ as') hold =
+    ((forms, hold.0.written.tokens, hold.0.written.spells), hold_spelled forms names fs as' hold.1)
 
 pub given_well_formed : (language : Language) (classes : Classes) (files : List (List ℕ)) (rules : Rules)
     → IsHierarchy classes
     → GivesRules language classes files rules → AreWellFormed rules
 given_well_formed (Profile forms) classes files rules hierarchy gives =
-    built_well_formed classes gives.aspects rules hierarchy (hold_spelled forms files gives.aspects gives.hold)
+    built_well_formed classes gives.aspects rules hierarchy (hold_spelled forms (aliases_in (Profile forms) classes) files gives.aspects gives.hold)
     gives.built
 given_well_formed JastAdd classes files rules hierarchy gives =
-    declared_well_formed classes (located 1 gives.aspects) rules hierarchy (hold_ints 1 files gives.aspects gives.hold)
-    (hold_booleans 1 files gives.aspects gives.hold) gives.built
+    declared_well_formed classes (located 1 gives.aspects) rules hierarchy
+    (hold_ints (aliases_in JastAdd classes) 1 files gives.aspects gives.hold)
+    (hold_booleans (aliases_in JastAdd classes) 1 files gives.aspects gives.hold) gives.built
 
 pub well_formed_by : (language : Language) (classes : Classes) (files : List (List ℕ)) (result : Result Rules StartFault)
     → IsHierarchy classes → IfOk result (λ r. GivesRules language classes files r) → IfOk result AreWellFormed
@@ -67,19 +71,19 @@ circular_by (Ok rules) lazy formed = circular_well rules lazy formed
 circular_by (Err e) lazy formed = tt
 
 -- each file that holds aspects declares none where the form isn't read
-hold_plain : (forms : Forms) → forms.circular ≡ false → (n : ℕ) (files : List (List ℕ)) (aspects : List (List Aspect))
-    → AllHold (Profile forms) files aspects → AllByRecursion IsNotCircular (located n aspects)
-hold_plain forms off n [] [] hold = tt
-hold_plain forms off n [] (a ∷ as') hold = absurd hold
-hold_plain forms off n (f ∷ fs) [] hold = absurd hold
-hold_plain forms off n (f ∷ fs) (a ∷ as') hold =
+hold_plain : (forms : Forms) (names : List Alias) → forms.circular ≡ false → (n : ℕ) (files : List (List ℕ)) (aspects : List (List Aspect))
+    → AllHold (Profile forms) names files aspects → AllByRecursion IsNotCircular (located n aspects)
+hold_plain forms names off n [] [] hold = tt
+hold_plain forms names off n [] (a ∷ as') hold = absurd hold
+hold_plain forms names off n (f ∷ fs) [] hold = absurd hold
+hold_plain forms names off n (f ∷ fs) (a ∷ as') hold =
     all_both IsNotCircular (from_file n a) (located (n + 1) as')
     (file_plain forms off n a hold.0.written.tokens [] hold.0.written.spells)
-    (hold_plain forms off (n + 1) fs as' hold.1)
+    (hold_plain forms names off (n + 1) fs as' hold.1)
 
 pub given_plain : (language : Language) → reads_circular language ≡ false → (classes : Classes) (files : List (List ℕ)) (rules : Rules)
     → GivesRules language classes files rules → HasNoneCircular rules
 given_plain (Profile forms) off classes files rules gives =
-    built_plain classes (located 1 gives.aspects) rules (hold_plain forms off 1 files gives.aspects gives.hold)
+    built_plain classes (located 1 gives.aspects) rules (hold_plain forms (aliases_in (Profile forms) classes) off 1 files gives.aspects gives.hold)
     gives.built
 given_plain JastAdd off classes files rules gives = absurd (true≢false off)

@@ -11,10 +11,12 @@ use Rattle.at_jrag.specs.Faults as profile
 use Rattle.at_jrag.specs.declared.Forms.{Forms}
 use Rattle.at_jrag.specs.declared.JragCode.{JragCode}
 use Rattle.at_jrag.specs.declared.JragCode.TheVariants as jrag
+use Rattle.at_java.specs.Aliases.{Alias}
 use Rattle.at_java.specs.Files as java_files
 use Rattle.at_java.specs.declared.JavaCode.{JavaCode}
 use Rattle.at_java.specs.declared.JavaCode.TheVariants as java
 use Rattle.at_start.specs.Files.{IsText, IsNoText, max_file}
+use Rattle.at_start.specs.Lists.{aliases_in}
 use Rattle.at_typing.specs.Building.{Builds}
 use Rattle.at_typing.specs.Located.{Located, located}
 use Rattle.at_typing.specs.declared.fault.Breach.{Breach}
@@ -37,10 +39,10 @@ pub record Spells (forms : Forms) (text : List ℕ) (aspects : List Aspect) : Ty
   pub spells : File forms aspects tokens []
   pub within : IsWithin aspects
 
--- the aspects are written in the text, in that language
-abbrev pub IsWritten : Language → (text : List ℕ) → List Aspect → Type 0
-IsWritten (Profile forms) text aspects = Spells forms text aspects
-IsWritten JastAdd text aspects = java_files.Holds text aspects
+-- the aspects are written in the text, in that language, where names stand for others
+abbrev pub IsWritten : Language → List Alias → (text : List ℕ) → List Aspect → Type 0
+IsWritten (Profile forms) names text aspects = Spells forms text aspects
+IsWritten JastAdd names text aspects = java_files.Holds names text aspects
 
 -- whether circular attributes are read in the language
 abbrev pub reads_circular : Language → Bool
@@ -48,16 +50,16 @@ reads_circular (Profile forms) = forms.circular
 reads_circular JastAdd = true
 
 -- the file is a text in which the aspects are written
-pub record Holds (language : Language) (bytes : List ℕ) (aspects : List Aspect) : Type 0 where
+pub record Holds (language : Language) (names : List Alias) (bytes : List ℕ) (aspects : List Aspect) : Type 0 where
   pub text : IsText max_file bytes
-  pub written : IsWritten language bytes aspects
+  pub written : IsWritten language names bytes aspects
 
 -- each file holds its aspects
-abbrev pub AllHold : Language → List (List ℕ) → List (List Aspect) → Type 0
-AllHold language [] [] = Unit {0}
-AllHold language [] (a ∷ as') = ⊥
-AllHold language (f ∷ fs) [] = ⊥
-AllHold language (f ∷ fs) (a ∷ as') = Holds language f a × AllHold language fs as'
+abbrev pub AllHold : Language → List Alias → List (List ℕ) → List (List Aspect) → Type 0
+AllHold language names [] [] = Unit {0}
+AllHold language names [] (a ∷ as') = ⊥
+AllHold language names (f ∷ fs) [] = ⊥
+AllHold language names (f ∷ fs) (a ∷ as') = Holds language names f a × AllHold language names fs as'
 
 abbrev pub jrag_code : JragCode → Code
 jrag_code jrag.Syntax = code.AspectSyntax
@@ -71,40 +73,40 @@ java_code java.Limit = code.AspectLimit
 java_code java.NoValue = code.Kind
 
 -- the file is refused by the code at the place: it is no text, or this is the fault of its text in the language
-pub data RefusesReading : Language → (bytes : List ℕ) → Code → Place → Type 0 where
-  no_text : {language : Language} {bytes : List ℕ} (c : Code) → IsNoText max_file bytes code.AspectLimit code.AspectSyntax c
-      → RefusesReading language bytes c first_place
-  no_aspects : {forms : Forms} {bytes : List ℕ} (c : JragCode) (at : Place) → IsText max_file bytes
-      → profile.IsFault forms bytes (fault.Refused c at) → RefusesReading (Profile forms) bytes (jrag_code c) at
-  no_java : {bytes : List ℕ} (c : JavaCode) (at : Place) → IsText max_file bytes → java_files.IsFault bytes (fault.Refused c at)
-      → RefusesReading JastAdd bytes (java_code c) at
+pub data RefusesReading : Language → List Alias → (bytes : List ℕ) → Code → Place → Type 0 where
+  no_text : {language : Language} {names : List Alias} {bytes : List ℕ} (c : Code)
+      → IsNoText max_file bytes code.AspectLimit code.AspectSyntax c → RefusesReading language names bytes c first_place
+  no_aspects : {forms : Forms} {names : List Alias} {bytes : List ℕ} (c : JragCode) (at : Place) → IsText max_file bytes
+      → profile.IsFault forms bytes (fault.Refused c at) → RefusesReading (Profile forms) names bytes (jrag_code c) at
+  no_java : {names : List Alias} {bytes : List ℕ} (c : JavaCode) (at : Place) → IsText max_file bytes
+      → java_files.IsFault names bytes (fault.Refused c at) → RefusesReading JastAdd names bytes (java_code c) at
 
 -- the fault is one by which the file is refused; of want of memory nothing is said
-abbrev pub IsReadingFaultOf : Language → List ℕ → Fault Code → Type 0
-IsReadingFaultOf language bytes (fault.Refused c at) = RefusesReading language bytes c at
-IsReadingFaultOf language bytes fault.Memory = Unit {0}
+abbrev pub IsReadingFaultOf : Language → List Alias → List ℕ → Fault Code → Type 0
+IsReadingFaultOf language names bytes (fault.Refused c at) = RefusesReading language names bytes c at
+IsReadingFaultOf language names bytes fault.Memory = Unit {0}
 
 -- The fault is that of the first file that can't be read, by its number from 1; of want of memory nothing is said.
-pub record IsUnreadAt (language : Language) (files : List (List ℕ)) (file : ℕ) (c : Code) (at : Place) : Type 0 where
+pub record IsUnreadAt (language : Language) (names : List Alias) (files : List (List ℕ)) (file : ℕ) (c : Code) (at : Place) : Type 0 where
   pub front : List (List ℕ)
   pub rest : List (List ℕ)
   pub bytes : List ℕ
   pub aspects : List (List Aspect)
   pub split : files ≡ front ++ bytes ∷ rest
-  pub hold : AllHold language front aspects
-  pub refuses : RefusesReading language bytes c at
+  pub hold : AllHold language names front aspects
+  pub refuses : RefusesReading language names bytes c at
   pub number : file ≡ length front + 1
 
-abbrev pub IsUnread : Language → List (List ℕ) → StartFault → Type 0
-IsUnread language files (start.Refused file c (Some at)) = IsUnreadAt language files file c at
-IsUnread language files (start.Refused file c None) = ⊥
-IsUnread language files start.Memory = Unit {0}
+abbrev pub IsUnread : Language → List Alias → List (List ℕ) → StartFault → Type 0
+IsUnread language names files (start.Refused file c (Some at)) = IsUnreadAt language names files file c at
+IsUnread language names files (start.Refused file c None) = ⊥
+IsUnread language names files start.Memory = Unit {0}
 
 -- The files in that language give the rules over the classes: each file holds aspects, and all their declarations together
 -- make the rules.
 pub record GivesRules (language : Language) (classes : Classes) (files : List (List ℕ)) (rules : Rules) : Type 0 where
   pub aspects : List (List Aspect)
-  pub hold : AllHold language files aspects
+  pub hold : AllHold language (aliases_in language classes) files aspects
   pub built : Builds classes (located 1 aspects) (Ok rules)
 
 -- a rule's code among those of all files
@@ -124,9 +126,9 @@ rule_code rule.EquationWithoutAttribute = code.EquationWithoutAttribute
 -- and it is the first fault of their declarations.
 pub data RefusesAspects (language : Language) (classes : Classes) (files : List (List ℕ)) : (file : ℕ) → Code → Place
     → Type 0 where
-  no_file : (file : ℕ) (c : Code) (at : Place) → IsUnreadAt language files file c at
+  no_file : (file : ℕ) (c : Code) (at : Place) → IsUnreadAt language (aliases_in language classes) files file c at
       → RefusesAspects language classes files file c at
-  breaks : (aspects : List (List Aspect)) (f : Breach) → AllHold language files aspects
+  breaks : (aspects : List (List Aspect)) (f : Breach) → AllHold language (aliases_in language classes) files aspects
       → Builds classes (located 1 aspects) (Err (For f))
       → RefusesAspects language classes files f.file (rule_code f.code) f.at
 

@@ -3,6 +3,7 @@ pub mod StartFaults
 pub mod Files
 pub mod GrammarFiles
 pub mod TreeFiles
+pub mod Lists
 pub mod AspectFiles
 pub mod Starts
 pub mod Whole

@@ -1,6 +1,7 @@
 //! The rules of aspect files.
 
-ghost use Rattle.std.specs.Prelude.{◌≡◌, map, Ok, IfOk, IfErr};
+ghost use Rattle.std.specs.Prelude.{◌≡◌, List, map, Ok, IfOk, IfErr};
+ghost use Rattle.at_java.specs.Aliases.{Alias};
 ghost use Rattle.at_jrag.specs.View.{aspect_view};
 ghost use Rattle.at_model.specs.WellFormed.{AreWellFormed, IsHierarchy};
 ghost use Rattle.at_rules.specs.Circular.{AreCircularLazy};
@@ -16,8 +17,9 @@ use super::fault::{StartFault, of_file};
 use super::files::{MAX_FILE, Source, text_of};
 use crate::code::Code;
 use crate::language::Language;
+use crate::lists::aliases_in;
 use at_class::ClassTable;
-use at_java::{JavaCode, parse_java};
+use at_java::{Alias, JavaCode, parse_java};
 use at_jrag::{Aspect, Forms, JragCode, parse_jrag};
 use at_kinds::RuleCode;
 use at_rules::Rules;
@@ -42,22 +44,24 @@ pub fn rules_of(
     ensures circular { IsHierarchy classes → IfOk result AreCircularWell }
     ensures refused { IfErr result (IsAspectFault language classes (aspect_bytes aspects.now)) }
 {
-    let aspects = read_all(alloc, language, aspects)?;
+    let names = aliases_in(alloc, language, &classes)?;
+    let aspects = read_all(alloc, language, &names, aspects)?;
     build(alloc, classes, &aspects)
 }
 
-/// The aspects of each file, in order.
+/// The aspects of each file, in order, where names stand for others.
 fn read_all(
     alloc: Global,
     language: Language,
+    names: &[Alias],
     aspects: &[Source],
 ) -> Result<Vec<Vec<Aspect>>, StartFault>
-    ensures hold { IfOk result (λ v. AllHold language (aspect_bytes aspects.now) (map (λ f. map aspect_view f.items) v.items)) }
-    ensures refused { IfErr result (IsUnread language (aspect_bytes aspects.now)) }
+    ensures hold { IfOk result (λ v. AllHold language names.now (aspect_bytes aspects.now) (map (λ f. map aspect_view f.items) v.items)) }
+    ensures refused { IfErr result (IsUnread language names.now (aspect_bytes aspects.now)) }
 {
     let mut all = Vec::new(alloc);
     for (i, source) in aspects.iter().enumerate() {
-        match read(alloc, language, &source.bytes) {
+        match read(alloc, language, names, &source.bytes) {
             Ok(aspects) => all.push(aspects)?,
             Err(fault) => return Err(of_file(i + 1, fault)),
         }
@@ -66,9 +70,14 @@ fn read_all(
 }
 
 /// The aspects of a file.
-fn read(alloc: Global, language: Language, bytes: &[u8]) -> Result<Vec<Aspect>, Fault<Code>>
-    ensures hold { IfOk result (λ v. Holds language bytes.now (map aspect_view v.items)) }
-    ensures refused { IfErr result (IsReadingFaultOf language bytes.now) }
+fn read(
+    alloc: Global,
+    language: Language,
+    names: &[Alias],
+    bytes: &[u8],
+) -> Result<Vec<Aspect>, Fault<Code>>
+    ensures hold { IfOk result (λ v. Holds language names.now bytes.now (map aspect_view v.items)) }
+    ensures refused { IfErr result (IsReadingFaultOf language names.now bytes.now) }
 {
     let text = match text_of(bytes, MAX_FILE, Code::AspectLimit, Code::AspectSyntax) {
         Ok(text) => text,
@@ -81,15 +90,15 @@ fn read(alloc: Global, language: Language, bytes: &[u8]) -> Result<Vec<Aspect>, 
     };
     match language {
         Language::Profile(forms) => read_profile(alloc, text, forms),
-        Language::JastAdd => read_java(alloc, text),
+        Language::JastAdd => read_java(alloc, text, names),
     }
 }
 
 /// The aspects of a text of the profile, where these forms are read.
 fn read_profile(alloc: Global, text: &str, forms: Forms) -> Result<Vec<Aspect>, Fault<Code>>
     requires { IsText max_file text.now }
-    ensures hold { IfOk result (λ v. Holds (Profile forms) text.now (map aspect_view v.items)) }
-    ensures refused { IfErr result (IsReadingFaultOf (Profile forms) text.now) }
+    ensures hold { IfOk result (λ v. (names : List Alias) → Holds (Profile forms) names text.now (map aspect_view v.items)) }
+    ensures refused { IfErr result (λ e. (names : List Alias) → IsReadingFaultOf (Profile forms) names text.now e) }
 {
     match parse_jrag(alloc, text, forms) {
         Ok(aspects) => Ok(aspects),
@@ -97,13 +106,13 @@ fn read_profile(alloc: Global, text: &str, forms: Forms) -> Result<Vec<Aspect>, 
     }
 }
 
-/// The aspects of a text as users of JastAdd write them.
-fn read_java(alloc: Global, text: &str) -> Result<Vec<Aspect>, Fault<Code>>
+/// The aspects of a text as users of JastAdd write them, where names stand for others.
+fn read_java(alloc: Global, text: &str, names: &[Alias]) -> Result<Vec<Aspect>, Fault<Code>>
     requires { IsText max_file text.now }
-    ensures hold { IfOk result (λ v. Holds JastAdd text.now (map aspect_view v.items)) }
-    ensures refused { IfErr result (IsReadingFaultOf JastAdd text.now) }
+    ensures hold { IfOk result (λ v. Holds JastAdd names.now text.now (map aspect_view v.items)) }
+    ensures refused { IfErr result (IsReadingFaultOf JastAdd names.now text.now) }
 {
-    match parse_java(alloc, text) {
+    match parse_java(alloc, text, names) {
         Ok(aspects) => Ok(aspects),
         Err(fault) => Err(fault.map_code(java_code)),
     }

@@ -2,8 +2,8 @@
 //! bytes of the files and of lines to the bytes that are written.
 //!
 //! **Its specs:** `Whole` is the theorem, to be read first; `Starts` is what files make, with a page for each kind of file
-//! (`GrammarFiles`, `AspectFiles`, `TreeFiles`) over their bytes (`Files`); `StartFaults` and `Codes` are what is printed of
-//! a file that is refused.
+//! (`GrammarFiles`, `AspectFiles`, `TreeFiles`) over their bytes (`Files`); `Lists` are the short names of lists, which aspects may
+//! have; `StartFaults` and `Codes` are what is printed of a file that is refused.
 //!
 //! **Where to begin:** `answer` in `serving.rt` is the whole, and `start`, below, its first half; `grammar.rt`, `aspects.rt`
 //! and `tree.rt` have what each kind of file gives, `fault.rt` why there is no engine.
@@ -26,6 +26,7 @@ mod files;
 mod grammar;
 mod language;
 pub mod laws;
+mod lists;
 mod serving;
 mod tree;
 

@@ -19,10 +19,10 @@ returns-in-Err-clause-refused c =
     let i = c.loop-i.i in
     let x = c.index-aspects-i.result in
     let within : i < length sources = grind (arith, nat_tests) in
-    let fault = subst (λ (b : List ℕ). IsReadingFaultOf c.args.language b c.in-Err.fault) c.deref.ensures.value
+    let fault = subst (λ (b : List ℕ). IsReadingFaultOf c.args.language c.args.names.now b c.in-Err.fault) c.deref.ensures.value
     c.in-Err.ensures.refused in
-    subst (IsUnread c.args.language (aspect_bytes sources)) (sym c.of_file.ensures)
-    (unread_at c.args.language sources i x (map aspects_of c.loop-i.all.items) c.in-Err.fault within c.index-aspects-i.is
+    subst (IsUnread c.args.language c.args.names.now (aspect_bytes sources)) (sym c.of_file.ensures)
+    (unread_at c.args.language c.args.names.now sources i x (map aspects_of c.loop-i.all.items) c.in-Err.fault within c.index-aspects-i.is
     c.loop-i.invariant fault)
 
 pub loop-i-preserved : goal.loop-i-preserved
@@ -31,9 +31,9 @@ loop-i-preserved c =
     let i = c.loop-i.i in
     let x = c.index-aspects-i.result in
     let within : i < length sources = grind (arith, nat_tests) in
-    let holds = subst (λ (b : List ℕ). Holds c.args.language b (aspects_of c.in-Ok.aspects)) c.deref.ensures.value
+    let holds = subst (λ (b : List ℕ). Holds c.args.language c.args.names.now b (aspects_of c.in-Ok.aspects)) c.deref.ensures.value
     c.in-Ok.ensures.hold in
-    subst (λ (all : List (Vec Aspect Global)). AllHold c.args.language (aspect_bytes (take (i + 1) sources))
+    subst (λ (all : List (Vec Aspect Global)). AllHold c.args.language c.args.names.now (aspect_bytes (take (i + 1) sources))
     (map aspects_of all)) (sym c.in_ok-push-in-Ok.ensures.items)
-    (one_more_read c.args.language sources i x c.loop-i.all.items c.in-Ok.aspects within c.index-aspects-i.is
+    (one_more_read c.args.language c.args.names.now sources i x c.loop-i.all.items c.in-Ok.aspects within c.index-aspects-i.is
     c.loop-i.invariant holds)

@@ -10,7 +10,7 @@ pub returns-in-Err-clause-refused : goal.returns-in-Err-clause-refused
 returns-in-Err-clause-refused c =
     let text = c.args.text.now in
     let language = Profile c.args.forms in
-    recoded _ (IsFault c.args.forms text) (IsReadingFaultOf language text) c.in-Err.fault c.map_code.result
+    λ names. recoded _ (IsFault c.args.forms text) (IsReadingFaultOf language names text) c.in-Err.fault c.map_code.result
     c.map_code.ensures c.in-Err.ensures.fault
-    (λ k d at is fault. subst (λ (x : Code). RefusesReading language text x at) (sym is)
+    (λ k d at is fault. subst (λ (x : Code). RefusesReading language names text x at) (sym is)
     (no_aspects k at c.requires fault)) tt

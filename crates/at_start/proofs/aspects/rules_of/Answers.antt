@@ -1,28 +1,34 @@
-use Rattle.std.proofs.Common.{List, Vec, Ok, subst}
+use Rattle.std.proofs.Common.{List, Vec, Ok, map, subst, ◌∙◌}
 use Rattle.std.proofs.lemmas.Result.{err_from_is_err_and}
 use Rattle.std.specs.Global.{Global}
 use Rattle.std.specs.Result.{IfOk, IfErr}
 use Rattle.at_jrag.specs.declared.syntax.Aspect.{Aspect}
 use Rattle.at_model.specs.Rules.{Rules}
+use Rattle.at_java.specs.Aliases.{Alias}
 use Rattle.at_typing.specs.Building.{Builds}
 use Rattle.at_typing.specs.Located.{declarations_in}
-use Rattle.at_start.specs.AspectFiles.{IsRuleFault}
+use Rattle.at_start.specs.AspectFiles.{AllHold, IsRuleFault, IsUnread}
 use Rattle.at_start.specs.Starts.{aspect_bytes}
-use Rattle.at_start.proofs.Ruled.{unread_refuses, given_by, refused_by}
+use Rattle.at_start.proofs.Ruled.{aspects_of, unread_refuses, given_by, refused_by}
 use Rattle.at_start.proofs.RulesTyped.{circular_by, well_formed_by}
 use Rattle.at_start.proofs.aspects.rules_of.Goals as goal
 
 pub returns-in_err-aspects-clause-refused : goal.returns-in_err-aspects-clause-refused
 returns-in_err-aspects-clause-refused c =
-    let p = err_from_is_err_and c.from_residual.result c.from_residual.ensures.1 in
-    rw (p.1, p.2) (unread_refuses c.args.language c.args.classes (aspect_bytes c.args.aspects.now)
-    c.in_err-aspects.field-0.0 c.in_err-aspects.ensures.refused)
+    let files = aspect_bytes c.args.aspects.now in
+    let p = err_from_is_err_and c.from_residual-in_err-aspects.result c.from_residual-in_err-aspects.ensures.1 in
+    let unread = subst (λ (names : List Alias). IsUnread c.args.language names files c.in_err-aspects.field-0.0)
+    (c.deref.ensures.value ∙ c.in_ok-names.ensures) c.in_err-aspects.ensures.refused in
+    rw (p.1, p.2) (unread_refuses c.args.language c.args.classes files c.in_err-aspects.field-0.0 unread)
 
 pub returns-clause-given : goal.returns-clause-given
 returns-clause-given c =
-    let built = subst (λ (v : List (Vec Aspect Global)). IfOk c.build.result (λ (r : Rules). Builds c.args.classes (declarations_in v) (Ok r))) c.deref.ensures.value c.build.ensures.built in
-    given_by c.args.language c.args.classes (aspect_bytes c.args.aspects.now) c.in_ok-aspects.aspects.items
-    c.build.result c.in_ok-aspects.ensures.hold built
+    let files = aspect_bytes c.args.aspects.now in
+    let read = c.in_ok-aspects.aspects.items in
+    let hold = subst (λ (names : List Alias). AllHold c.args.language names files (map aspects_of read))
+    (c.deref.ensures.value ∙ c.in_ok-names.ensures) c.in_ok-aspects.ensures.hold in
+    let built = subst (λ (v : List (Vec Aspect Global)). IfOk c.build.result (λ (r : Rules). Builds c.args.classes (declarations_in v) (Ok r))) c.deref-2.ensures.value c.build.ensures.built in
+    given_by c.args.language c.args.classes files read c.build.result hold built
 
 pub returns-clause-well_formed : goal.returns-clause-well_formed
 returns-clause-well_formed c hierarchy = well_formed_by c.args.language c.args.classes (aspect_bytes c.args.aspects.now)
@@ -30,9 +36,12 @@ returns-clause-well_formed c hierarchy = well_formed_by c.args.language c.args.c
 
 pub returns-clause-refused : goal.returns-clause-refused
 returns-clause-refused c =
-    let refused = subst (λ (v : List (Vec Aspect Global)). IfErr c.build.result (IsRuleFault c.args.classes (declarations_in v))) c.deref.ensures.value c.build.ensures.refused in
-    refused_by c.args.language c.args.classes (aspect_bytes c.args.aspects.now) c.in_ok-aspects.aspects.items
-    c.build.result c.in_ok-aspects.ensures.hold refused
+    let files = aspect_bytes c.args.aspects.now in
+    let read = c.in_ok-aspects.aspects.items in
+    let hold = subst (λ (names : List Alias). AllHold c.args.language names files (map aspects_of read))
+    (c.deref.ensures.value ∙ c.in_ok-names.ensures) c.in_ok-aspects.ensures.hold in
+    let refused = subst (λ (v : List (Vec Aspect Global)). IfErr c.build.result (IsRuleFault c.args.classes (declarations_in v))) c.deref-2.ensures.value c.build.ensures.refused in
+    refused_by c.args.language c.args.classes files read c.build.result hold refused
 
 pub returns-clause-circular : goal.returns-clause-circular
 returns-clause-circular c hierarchy =
