@@ -66,7 +66,17 @@ class Aspects(unittest.TestCase):
         self.editor.keys(" == this.getI<C-x><C-o>")
         words = self.editor.until("local it = vim.fn.complete_info({ 'items' }).items return #it > 0 and it")
         self.assertEqual([it["word"] for it in words], ["getID", "getInit"])
+        self.assertEqual(len(self.editor.lua("return vim.api.nvim_list_wins()")), 1)
         self.editor.keys("<C-e><Esc>u")
+
+    def test_words_and_comments_are_coloured(self) -> None:
+        name = "local line, column = ... return vim.fn.synIDattr(vim.fn.synID(line, column, 1), 'name')"
+        line = self.editor.lines()[1]
+        found = [self.editor.lua(name, 1, 1)] + [self.editor.lua(name, 2, line.index(it) + 1) for it in ("inh", "Kind", "String")]
+        self.assertEqual(found, ["Keyword", "Keyword", "", "Type"])
+        self.editor.keys("ggO// syn<Esc>")
+        self.assertEqual(self.editor.lua(name, 1, 4), "Comment")
+        self.editor.keys("u")
 
 
 if __name__ == "__main__":
