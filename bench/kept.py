@@ -32,6 +32,8 @@ BEFORE = {"kept question": 8.0, "front": 11_000.0, "fill": 12_300.0}
 # proved; a proved one takes about a quarter less.
 FORGETTING = 84_135
 MARKED = 50
+# The options with which names that never come again are tried.
+OPTIONS: Sequence[Sequence[str]] = ([], ["--cut-off"], ["--cut-off", "--keep", "400000"])
 
 
 class Row(NamedTuple):
@@ -296,7 +298,7 @@ def main() -> None:
         marks(bounds, program, folder)
         keystrokes(bounds, program, folder, ["--keep", "10000"])
         keystrokes(bounds, program, folder, ["--cut-off", "--keep", "10000"])
-        for options in ([], ["--cut-off"], ["--cut-off", "--keep", "400000"]):
+        for options in OPTIONS:
             names(bounds, program, folder, options)
     if bounds.broken:
         sys.exit(bounds.told())
