@@ -48,7 +48,7 @@ def _tell(given: argparse.Namespace, files: Dict[str, bytes]) -> int:
         print(it)
     for note in circles(grammar, aspects, given.forms):
         print(note)
-    left_out = f", and {following} left out that only follow" if following else ""
+    left_out = f", and {following} left out that only follow{'s' if following == 1 else ''}" if following else ""
     print(f"{len(told)} fault{'' if len(told) == 1 else 's'}{left_out}")
     return 1 if told else 0
 

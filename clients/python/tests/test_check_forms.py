@@ -134,6 +134,16 @@ class OneRun(unittest.TestCase):
         self.assertEqual([(it.code, it.section) for it in found], [("J3", section(15))])
         self.assertIn("`getStmts()` is `getStmtList()` here, as the list of a fold", found[0].hint)
 
+    def test_what_helps_where_bodies_of_statements_are_read(self):
+        """Neither is a method that becomes an attribute, nor are bodies one `return` there."""
+        for body, number, part in (("{ return super.value(); }", 10, "What `super` would call gets a name of its own"),
+                                   ("= super.value() + 1;", 10, "What `super` would call gets a name of its own"),
+                                   ("{ switch (1) { case 1: return 1; } return 2; }", 5, "a `switch` becomes a chain of them")):
+            text = f"aspect A {{ syn int Num.more() {body} }}"
+            found = check(GRAMMAR, [CALC, Source("x.jrag", text)], PROGRAM, "jastadd").findings
+            self.assertEqual([(it.code, it.section) for it in found], [("J10", section(number))], body)
+            self.assertIn(part, found[0].hint, body)
+
 
 class Circular(unittest.TestCase):
     def told(self, text, forms="circular"):

@@ -34,8 +34,10 @@ class Hints:
         """What helps with a fault of the aspects at a word of a text."""
         otherwise = Way(SENTENCES[refused.code][1])
         it = refused.declaration
-        if refused.code in ("J1", "J10"):
-            return self._of_form(refused, text) or (OTHERWISE if refused.code == "J10" else self._of_word(refused, text, word) or otherwise)
+        if refused.code == "J10":
+            return self._of_form(refused, text) or NAMES.get(word) or OTHERWISE
+        if refused.code == "J1":
+            return self._of_form(refused, text) or self._of_word(refused, text, word) or otherwise
         if it is None:
             return otherwise
         found = {"J2": self._of_twice, "J12": self._of_name}.get(refused.code)

@@ -104,6 +104,7 @@ OF_SETS = Way("A set is the question whether something is in it: have the attrib
 NO_VALUE = Way("The end of the body can be reached: have each way through it end in a `return`.", 5)
 # What helps where bodies of statements are read.
 IN_JASTADD: Dict[str, Way] = {
+    "if": Way("`if` and `else` are read, where each way ends in a `return`: a `switch` becomes a chain of them.", 5),
     "for": Way("A loop is read that looks for an element: `for (S s : getSList()) if (c) return e;`. Count by `sum (s : getSList()) { e }`.", 5),
     "statement": Way("Nothing is changed in a body: what is assigned or added becomes the value of an attribute.", 5)}
 # Loops and choices that stand further on in a body.
