@@ -84,5 +84,30 @@ class Forms(unittest.TestCase):
         self.assertEqual(sorted(named - there - NOT_OF_CRATES), [])
 
 
+class Words(unittest.TestCase):
+    """The field's words and those of the code: GLOSSARY has both, and CONTRIBUTING tells which of the code's aren't renamed."""
+
+    def setUp(self) -> None:
+        page = (ROOT / "docs/CONTRIBUTING.md").read_text(encoding="utf-8")
+        self.listed = page[page.index("## What isn't renamed"):]
+
+    def test_each_word_of_the_code_that_is_not_the_fields_is_listed(self) -> None:
+        lines = (ROOT / "docs/GLOSSARY.md").read_text(encoding="utf-8").splitlines()
+        rows = [re.split(r"(?<!\\)\|", it)[1:3] for it in lines if it.startswith("| **")]
+        self.assertGreater(len(rows), 60)
+        differing = [word.strip() for field, code in rows for word in code.split(";") if word.strip() not in field]
+        self.assertEqual([it for it in differing if not re.search(rf"\b{it}\b", self.listed, re.I)], [])
+
+    def test_each_name_that_is_listed_is_there(self) -> None:
+        named = set(re.findall(r"`([^`]+)`", self.listed))
+        files = {it for it in named if re.search(r"\.(rt|antt|py)$", it)}
+        words = {word for it in named - files for word in re.findall(r"\w+", it)}
+        folders = ["crates", "clients", "bench", "tools"]
+        command = ["git", "grep", "-hIowE", "|".join(sorted(words)), "--", *folders]
+        there = set(subprocess.run(command, cwd=ROOT, capture_output=True, text=True, check=True).stdout.split())
+        self.assertEqual(sorted(words - there), [])
+        self.assertEqual([it for it in sorted(files) if not any(next((ROOT / folder).rglob(Path(it).name), None) for folder in folders)], [])
+
+
 if __name__ == "__main__":
     unittest.main()
