@@ -1,12 +1,12 @@
 #!/usr/bin/env python3
 """Runs the tests of the clients against a program.
 
-    python3 clients/run_tests.py [--skip-missing] PROGRAM [CLIENT | MODULE ..]
+    python3 clients/run_tests.py [--skip-missing] [--but MODULE].. PROGRAM [CLIENT | MODULE ..]
 
 CLIENT is a folder of this one, such as lsp, and stands for all its tests; MODULE is a module of one of the folders
-clients/*/tests, such as test_update, or a test in it. Without one all of them run. The last line is 'N passed, M failed';
-the status is 1 where a test fails. Tests that need Neovim or Chromium fail where these are missing; with --skip-missing
-they are left out, and a line names the package.
+clients/*/tests, such as test_update, or a test in it. Without one all of them run, but those that --but names. The last
+line is 'N passed, M failed'; the status is 1 where a test fails. Tests that need Neovim or Chromium fail where these are
+missing; with --skip-missing they are left out, and a line names the package.
 """
 import argparse
 import os
@@ -15,7 +15,7 @@ import shutil
 import sys
 import unittest
 from pathlib import Path
-from typing import Iterator, List, Optional, Sequence
+from typing import Iterator, List, Optional, Sequence, Union
 
 FOLDERS = sorted(Path(__file__).resolve().parent.glob("*/tests"))
 # What a test imports that needs another program: the names that this may have, the first one being that of Debian's package.
@@ -51,9 +51,24 @@ def tests_of(words: Sequence[str], skip_missing: bool) -> unittest.TestSuite:
     return unittest.TestLoader().loadTestsFromNames(names)
 
 
+def each(tests: Union[unittest.TestSuite, unittest.TestCase]) -> Iterator[unittest.TestCase]:
+    """The tests of a suite, one by one, in their order."""
+    if isinstance(tests, unittest.TestCase):
+        yield tests
+    else:
+        for it in tests:
+            yield from each(it)
+
+
+def without(tests: unittest.TestSuite, left_out: Sequence[str]) -> unittest.TestSuite:
+    """The tests but those of these modules, or with these names."""
+    return unittest.TestSuite(it for it in each(tests) if not f"{it.id()}.".startswith(tuple(f"{name}." for name in left_out)))
+
+
 def main() -> int:
     words = argparse.ArgumentParser(description="Runs the tests of the clients against a program.")
     words.add_argument("--skip-missing", action="store_true", help="leave out what needs Neovim or Chromium where these are missing")
+    words.add_argument("--but", metavar="MODULE", action="append", default=[], help="leave this module out, or this test in it")
     words.add_argument("program", metavar="PROGRAM")
     words.add_argument("names", metavar="CLIENT | MODULE", nargs="*")
     given = words.parse_args()
@@ -61,7 +76,7 @@ def main() -> int:
         words.error(f"{given.program} is no program")
     os.environ["ATTRD"] = str(Path(given.program).resolve())
     sys.path[:0] = [str(it) for tests in FOLDERS for it in (tests.parent, tests)]
-    result = unittest.TextTestRunner(verbosity=1).run(tests_of(given.names, given.skip_missing))
+    result = unittest.TextTestRunner(verbosity=1).run(without(tests_of(given.names, given.skip_missing), given.but))
     for test, reason in result.skipped:
         print(f"skipped: {test.id()}: {reason}")
     failed = len(result.failures) + len(result.errors) + len(result.unexpectedSuccesses)

@@ -4,8 +4,11 @@
 
 The program is the quick one (tools/quick_program.py). With it run the examples of the pages and sample folders, the tests of
 the program and those of the clients; beside it the counts (tools/counts.py --hold) and, where they are installed, mypy and
-pyflakes. Two parts run side by side. Of each it is told how many of its tests passed, and what it printed where one failed.
+pyflakes. Three parts run side by side. Of each it is told how many of its tests passed, and what it printed where one failed.
 The last line is 'N passed, M failed', a part that counts nothing being one; the status is 1 where one failed.
+
+The parts run a Python in which no package is installed. None is needed here, and what those of a machine have done at each start of
+Python may take several times as long as the start.
 """
 import os
 import re
@@ -14,8 +17,9 @@ import subprocess
 import sys
 import tempfile
 import time
+import venv
 from concurrent.futures import Future, ThreadPoolExecutor
-from dataclasses import dataclass
+from dataclasses import dataclass, replace
 from functools import partial
 from pathlib import Path
 from typing import Callable, Dict, List, Sequence, Tuple
@@ -27,8 +31,13 @@ from tools.sources import ROOT
 LANES = 3
 # The parts that take longest, by processor time; one that begins last would have a processor wait.
 LONGEST = ("client lsp", "client hub", "the program")
-# Fewer kills of the hub than the gate tries.
-FEW_KILLS = (("ATTRD_HUB_POINTS", "45"),)
+# What is tried less often than in the gate: kills of the hub, pairs of trees, and sessions by chance; and trees have fewer nodes.
+LESS = (("ATTRD_HUB_POINTS", "15"), ("ATTRD_PAIRS", "2000"), ("ATTRD_CIRCULAR_SESSIONS", "20"), ("ATTRD_MADE_SESSIONS", "20"),
+        ("ATTRD_TEST_NODES", "20000"))
+# Tests of clients that take long and start no program, so that they run while it is built.
+APART = ("test_grammars", "test_hub_turns", "test_lsp_again.Readings", "test_lsp_syntax", "test_terms")
+# What goes on beside the build leaves the processors to that, for which all else waits.
+BESIDE = ("nice", "-n", "5")
 COUNTED = re.compile(r"^(\d+) passed, (\d+) failed$", re.M)
 # The same, as unittest tells it.
 RAN = re.compile(r"^Ran (\d+) tests? in ", re.M)
@@ -83,25 +92,31 @@ def outcome_of(name: str, status: int, printed: str, seconds: float) -> Outcome:
     return Outcome(name, passed, max(failed, int(status != 0)), printed, seconds)
 
 
-def environment_of(part: Part, bytecode: Path) -> Dict[str, str]:
-    """The environment of a part. Its tests start Python hundreds of times, so what it compiles is kept in this folder, whatever the
-    environment of this process says of that."""
-    given = {**os.environ, "PYTHONPYCACHEPREFIX": str(bytecode), **dict(part.environment)}
+def furnish(room: Path) -> None:
+    """Puts a Python without packages into the folder."""
+    venv.create(room / "python", symlinks=True)
+
+
+def environment_of(part: Part, room: Path) -> Dict[str, str]:
+    """The environment of a part: `python3` is that of this folder. Tests start it hundreds of times, so what it compiles is kept there,
+    too, whatever the environment of this process says of that."""
+    path = os.pathsep.join([str(room / "python" / "bin"), os.environ["PATH"]])
+    given = {**os.environ, "PATH": path, "PYTHONPYCACHEPREFIX": str(room / "bytecode"), **dict(part.environment)}
     given.pop("PYTHONDONTWRITEBYTECODE", None)
     return given
 
 
-def run(part: Part, bytecode: Path) -> Outcome:
-    """Runs a part to its end; what Python compiles for it is kept in the folder."""
+def run(part: Part, room: Path) -> Outcome:
+    """Runs a part to its end, with the Python of the folder."""
     began = time.monotonic()
-    ran = subprocess.run(part.command, cwd=ROOT, env=environment_of(part, bytecode), stdin=subprocess.DEVNULL,
+    ran = subprocess.run(part.command, cwd=ROOT, env=environment_of(part, room), stdin=subprocess.DEVNULL,
                          stdout=subprocess.PIPE, stderr=subprocess.STDOUT, text=True, errors="replace")
     return outcome_of(part.name, ran.returncode, ran.stdout, time.monotonic() - began)
 
 
 def python(*words: str) -> List[str]:
     """The command that runs Python with these words."""
-    return [sys.executable, *words]
+    return ["python3", *words]
 
 
 def clients() -> List[str]:
@@ -111,15 +126,17 @@ def clients() -> List[str]:
 
 def of_the_program(program: Path, pages: Sequence[str]) -> List[Part]:
     """The parts that run a program, the longest first."""
-    tests = [Part(f"client {it}", python("clients/run_tests.py", "--skip-missing", str(program), it), FEW_KILLS) for it in clients()]
+    but = [word for it in APART for word in ("--but", it)]
+    tests = [Part(f"client {it}", python("clients/run_tests.py", "--skip-missing", *but, str(program), it), LESS) for it in clients()]
     examples = Part("examples of pages", python("tools/examples.py", "--program", str(program), *pages))
-    parts = [*tests, examples, Part("the program", python("tools/program.py", str(program)))]
+    parts = [*tests, examples, Part("the program", python("tools/program.py", str(program)), LESS)]
     return sorted(parts, key=lambda it: LONGEST.index(it.name) if it.name in LONGEST else len(LONGEST))
 
 
 def of_the_sources() -> List[Part]:
-    """The parts that run no program; mypy and pyflakes are left out, and told, where they aren't installed."""
-    parts = [Part("counts", python("tools/counts.py", "--hold")), Part("tools", python("-m", "unittest", *TOOLS_TESTS))]
+    """The parts that wait for no build; mypy and pyflakes are left out, and told, where they aren't installed."""
+    parts = [Part("counts", python("tools/counts.py", "--hold")), Part("tools", python("-m", "unittest", *TOOLS_TESTS)),
+             Part("clients without a program", python("clients/run_tests.py", shutil.which("false") or "/bin/false", *APART))]
     if shutil.which("mypy"):
         folders = [ROOT / "clients" / client / part for client in clients() for part in ("", "tests")]
         path = ("MYPYPATH", os.pathsep.join(map(str, folders)))
@@ -133,7 +150,7 @@ def of_the_sources() -> List[Part]:
         parts.append(Part("pyflakes", python("-m", "tools.flakes", flakes, "bench", "clients", "tools")))
     else:
         print("skipped: pyflakes: the package pyflakes3 is missing")
-    return parts
+    return [replace(it, command=[*BESIDE, *it.command]) for it in parts]
 
 
 def build() -> Outcome:
@@ -147,7 +164,7 @@ def build() -> Outcome:
     return Outcome(name, 1, 0, "", time.monotonic() - began)
 
 
-def tested(pages: Sequence[str], bytecode: Path) -> List[Outcome]:
+def tested(pages: Sequence[str], room: Path) -> List[Outcome]:
     """Runs all parts, and tells each as it ends. Where the program can't be built those that run it are left out."""
     with ThreadPoolExecutor(LANES) as pool:
         def begin(work: Callable[[], Outcome]) -> "Future[Outcome]":
@@ -156,9 +173,9 @@ def tested(pages: Sequence[str], bytecode: Path) -> List[Outcome]:
             return future
 
         built = begin(build)
-        begun = [begin(partial(run, part, bytecode)) for part in of_the_sources()]
+        begun = [begin(partial(run, part, room)) for part in of_the_sources()]
         if built.result().failed == 0:
-            begun += [begin(partial(run, part, bytecode)) for part in of_the_program(quick_program.PROGRAM, pages)]
+            begun += [begin(partial(run, part, room)) for part in of_the_program(quick_program.PROGRAM, pages)]
         else:
             print("not tried: what runs the program")
     return [built.result(), *(it.result() for it in begun)]
@@ -169,12 +186,13 @@ def main() -> int:
         sys.exit(__doc__)
     began = time.monotonic()
     quick_program.FOLDER.mkdir(exist_ok=True)
-    bytecode = Path(tempfile.mkdtemp(prefix="bytecode-", dir=quick_program.FOLDER))
+    room = Path(tempfile.mkdtemp(prefix="run-", dir=quick_program.FOLDER))
     try:
-        outcomes = tested(sys.argv[1:], bytecode)
+        furnish(room)
+        outcomes = tested(sys.argv[1:], room)
     finally:
         # a process that a test has left may still write there
-        shutil.rmtree(bytecode, ignore_errors=True)
+        shutil.rmtree(room, ignore_errors=True)
     passed, failed = sum(it.passed for it in outcomes), sum(it.failed for it in outcomes)
     print(f"In {time.monotonic() - began:.0f} s. Nothing was proved: make check C=.. proves a crate, and make test everything.")
     print(f"{passed} passed, {failed} failed")

@@ -39,7 +39,7 @@ def build() -> None:
     made_of = key()
     FOLDER.mkdir(exist_ok=True)
     with tempfile.TemporaryDirectory(prefix="new-", dir=FOLDER) as room:
-        ran = subprocess.run([sys.executable, BUILDER, room], cwd=sources.ROOT, capture_output=True, text=True, errors="replace")
+        ran = subprocess.run([sys.executable, BUILDER, "-O1", room], cwd=sources.ROOT, capture_output=True, text=True, errors="replace")
         if ran.returncode:
             raise NotBuilt(ran.stdout + ran.stderr)
         KEY.unlink(missing_ok=True)

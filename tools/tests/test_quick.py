@@ -7,7 +7,11 @@ import unittest
 from pathlib import Path
 from unittest import mock
 
-from tools.quick import Part, environment_of, outcome_of
+from tools.quick import APART, Part, environment_of, furnish, of_the_program, outcome_of, python
+
+ROOT = Path(__file__).resolve().parents[2]
+sys.path.insert(0, str(ROOT / "clients"))
+import run_tests  # noqa: E402
 
 
 class Counting(unittest.TestCase):
@@ -34,20 +38,47 @@ class Counting(unittest.TestCase):
 
 
 class Environment(unittest.TestCase):
-    """What the environment of a part says of the code that Python compiles."""
+    """Which Python a part runs, and where the code that it compiles is kept."""
 
     def test_what_python_compiles_is_kept_in_the_folder_and_nowhere_else(self) -> None:
         with tempfile.TemporaryDirectory() as name:
-            folder, bytecode = Path(name, "code"), Path(name, "bytecode")
+            folder, room = Path(name, "code"), Path(name, "room")
             folder.mkdir()
             (folder / "compiled.py").write_text("pass\n", encoding="utf-8")
             with mock.patch.dict(os.environ, {"PYTHONDONTWRITEBYTECODE": "1"}):
-                given = environment_of(Part("a part", (), (("PYTHONPATH", str(folder)),)), bytecode)
+                given = environment_of(Part("a part", (), (("PYTHONPATH", str(folder)),)), room)
             subprocess.run([sys.executable, "-c", "import compiled"], env=given, check=True)
             self.assertEqual([it.name for it in folder.iterdir()], ["compiled.py"])
-            self.assertEqual(len(list(bytecode.rglob("compiled.*.pyc"))), 1)
+            self.assertEqual(len(list(room.rglob("compiled.*.pyc"))), 1)
+
+    def test_a_part_runs_a_python_of_the_same_version_without_packages(self) -> None:
+        with tempfile.TemporaryDirectory() as name:
+            furnish(Path(name))
+            told = "import sys, site; print(sys.prefix, sys.version, *site.getsitepackages(), sep='\\n')"
+            ran = subprocess.run(python("-c", told), env=environment_of(Part("a part", ()), Path(name)), capture_output=True, text=True,
+                                 check=True)
+            prefix, *version, packages = ran.stdout.splitlines()
+            self.assertEqual((prefix, "\n".join(version)), (str(Path(name, "python")), sys.version))
+            self.assertEqual(list(Path(packages).iterdir()), [])
 
     def test_what_a_part_is_given_stands_in_it(self) -> None:
-        given = environment_of(Part("a part", (), (("ATTRD_HUB_POINTS", "45"),)), Path("bytecode"))
+        given = environment_of(Part("a part", (), (("ATTRD_HUB_POINTS", "45"),)), Path("room"))
         self.assertEqual(given["ATTRD_HUB_POINTS"], "45")
-        self.assertEqual(given["PATH"], os.environ["PATH"])
+        self.assertEqual(given["PATH"].split(os.pathsep)[1:], os.environ["PATH"].split(os.pathsep))
+
+
+class Apart(unittest.TestCase):
+    """The tests of clients that run beside the build."""
+
+    def test_they_are_left_out_of_what_waits_for_the_program(self) -> None:
+        parts = [it for it in of_the_program(Path("attrd"), []) if it.name.startswith("client ")]
+        self.assertGreater(len(parts), 3)
+        for part in parts:
+            self.assertEqual([it for before, it in zip(part.command, part.command[1:]) if before == "--but"], list(APART))
+
+    def test_what_is_left_out_is_a_module_a_class_or_a_test(self) -> None:
+        tests = unittest.defaultTestLoader.loadTestsFromTestCase(Counting)
+        names = [it.id() for it in run_tests.each(tests)]
+        self.assertGreater(len(names), 3)
+        for left_out, kept in ((names[0], names[1:]), (names[0][:-1], names), (names[0].rpartition(".")[0], [])):
+            self.assertEqual([it.id() for it in run_tests.each(run_tests.without(tests, [left_out]))], kept)

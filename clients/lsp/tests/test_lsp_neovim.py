@@ -21,6 +21,8 @@ WATCH = "seen = 0 vim.api.nvim_create_autocmd('DiagnosticChanged', { callback = 
 
 # How long a large file may take on a machine that is busy, in seconds.
 PATIENCE = 300.0
+# How many nodes the large file has.
+LARGE = int(os.environ.get("ATTRD_TEST_NODES", "50000"))
 
 
 def page_lines() -> str:
@@ -197,10 +199,10 @@ class OnFaults(unittest.TestCase):
 
 
 class OnLargeFile(unittest.TestCase):
-    """A program of 50,000 nodes in the editor."""
+    """A program of many nodes in the editor."""
 
     def test_typing_and_jumping(self) -> None:
-        folder = Folder(large_program(50_000))
+        folder = Folder(large_program(LARGE))
         self.addCleanup(folder.temporary.cleanup)
         editor = folder.open()
         self.addCleanup(editor.close)
@@ -215,7 +217,7 @@ class OnLargeFile(unittest.TestCase):
         editor.keys("0fm")
         editor.keys("gd")
         editor.until(f"return vim.api.nvim_win_get_cursor(0)[1] < {last - 8}", seconds=PATIENCE)
-        self.assertIn(f" me{50_000 // CLASS_NODES - 1};", editor.lines()[editor.cursor()[0] - 1])
+        self.assertIn(f" me{LARGE // CLASS_NODES - 1};", editor.lines()[editor.cursor()[0] - 1])
 
 
 if __name__ == "__main__":

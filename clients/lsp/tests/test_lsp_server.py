@@ -257,8 +257,9 @@ class OnOptions(unittest.TestCase):
 
 
 class OnSizes(unittest.TestCase):
-    """A program without the option --nodes."""
+    """A program without the option --nodes. The same is tried of the server's parts by themselves in test_lsp_again."""
 
+    @unittest.skipIf("ATTRD_TEST_NODES" in os.environ, "trees of 65,536 nodes take half a minute: without ATTRD_TEST_NODES")
     def test_a_tree_that_is_too_large_is_told(self):
         sizeless = str(Path(__file__).resolve().parent / "sizeless.py")
         told = ["1:1 the file is too large: its tree has more than 65,536 nodes"]

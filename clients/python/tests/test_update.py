@@ -1,4 +1,5 @@
 """Updates: few edits, all accepted, and the server's tree is the new one to the character."""
+import os
 import random
 import unittest
 
@@ -6,7 +7,9 @@ import attrd
 from attrd import Code, Costs, Document, Drop, Grammar, Node, SetNode, SetToken, applied, difference, read_term
 from support import CALCULATOR, PROGRAM, SAMPLES, ServerTest, Trees, calculator_grammar, page_files
 
-PAIRS = 10_000
+# How many pairs of trees there are of each of three languages, and how many nodes a tree has that is as large as its server lets it be.
+PAIRS = int(os.environ.get("ATTRD_PAIRS", "10000"))
+FULL = int(os.environ.get("ATTRD_TEST_NODES", "65536"))
 BATCH = 250
 NODES = (12, 150)
 COSTS = [Costs(), Costs(move=1e-6), Costs(token=1e-6, put=1e-6, drop=1e-6, insert=1e-6, move=1e-6), Costs(set=1e-6, node=1e-7)]
@@ -191,10 +194,10 @@ class Documents(ServerTest):
         self.assertEqual(self.session.value("/Block/Stmt:0", "value"), 9000)
 
     def test_a_full_tree(self):
-        full = [Node("Decl", "x", None)] * 65533 + [Node("Decl", "y", None)]
-        with attrd.start(CALCULATOR / "calc.ast", self.program(*full), CALCULATOR / "calc.jrag", program=PROGRAM) as server:
+        full = [Node("Decl", "x", None)] * (FULL - 3) + [Node("Decl", "y", None)]
+        with attrd.start(CALCULATOR / "calc.ast", self.program(*full), CALCULATOR / "calc.jrag", program=PROGRAM, nodes=FULL) as server:
             document = Document(server.session(), calculator_grammar())
-            for new in (self.program(Node("Block", [full[-1]]), *full[:65532]), self.program(*full[:65532], Node("Block", [full[-1]]))):
+            for new in (self.program(Node("Block", [full[-1]]), *full[:-2]), self.program(*full[:-2], Node("Block", [full[-1]]))):
                 self.assertLess(len(document.update(new).edits), 4)
                 document.verify()
 
