@@ -45,7 +45,7 @@ FORMS: Dict[str, Way] = {
     "contributes": Way("The node that collects asks downwards: give an equation for each class that contributes.", 13),
     "refine": Way("Give the equation in a class below, or change it where it stands.", 10),
     "rewrite": Way("Let the client replace the node by `set`, or give the value by an attribute of the old one.", 12),
-    "cache": Way("Declare the attribute `lazy` or not; each edit forgets what rests on it.", 15),
+    "cache": Way("Declare the attribute `lazy` or not; each edit invalidates what depends on it.", 15),
     "nta": Way("Make it a child in the grammar, and let the client put the node there.", 11),
     "new": Way("Equations make no nodes, no sets and no objects. A node that is always there stands in the grammar, and the client puts it "
                "there; in place of a set ask whether something is in it.", 11),
