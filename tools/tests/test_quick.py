@@ -1,5 +1,6 @@
 """How the parts of the quick tests are counted, and in which environment they run."""
 import os
+import re
 import subprocess
 import sys
 import tempfile
@@ -7,7 +8,8 @@ import unittest
 from pathlib import Path
 from unittest import mock
 
-from tools.quick import APART, Part, environment_of, furnish, of_the_program, outcome_of, python
+from tools.of_the_program import test_circular, test_made
+from tools.quick import APART, LESS, Part, environment_of, furnish, of_the_program, outcome_of, python
 
 ROOT = Path(__file__).resolve().parents[2]
 sys.path.insert(0, str(ROOT / "clients"))
@@ -82,3 +84,16 @@ class Apart(unittest.TestCase):
         self.assertGreater(len(names), 3)
         for left_out, kept in ((names[0], names[1:]), (names[0][:-1], names), (names[0].rpartition(".")[0], [])):
             self.assertEqual([it.id() for it in run_tests.each(run_tests.without(tests, [left_out]))], kept)
+
+
+class Less(unittest.TestCase):
+    """What is tried less often than in the gate, where no word of the environment says how often."""
+
+    def test_each_word_has_a_test_try_less_than_usual(self) -> None:
+        usual = re.compile(r'os\.environ\.get\("(ATTRD_\w+)", "(\d+)"\)')
+        texts = [it.read_text(encoding="utf-8") for it in ROOT.glob("clients/*/tests/*.py")]
+        found = [(name, int(count)) for text in texts for name, count in usual.findall(text)]
+        found += [("ATTRD_CIRCULAR_SESSIONS", test_circular.SESSIONS), ("ATTRD_MADE_SESSIONS", test_made.SESSIONS)]
+        for name, count in LESS:
+            others = [it for known, it in found if known == name]
+            self.assertTrue(others and int(count) < min(others), name)
