@@ -29,7 +29,7 @@ help:
 	@echo "                     tries the crate's wrong bodies, which the prover has to refuse (1 to 5 minutes, behind make check)"
 	@echo "  make counts        long clauses, contracts and repeats (seconds)"
 	@echo "to test it:"
-	@echo "  make quick         all tests that need no proof, by a program that isn't proved (under 3 minutes on two quiet cores, 2 where the program is taken up; beside other work 7 and 4)"
+	@echo "  make quick         all tests that need no proof, by a program that isn't proved (9 minutes of processor time, 6 where the program is taken up, over two cores)"
 	@echo "  make test          the gate: every proof, wrong bodies, tests, programs, examples (90 minutes; 15 where it passed before)"
 	@echo "  make examples      the examples of the pages alone (half a minute)"
 	@echo "  make program       the tests of the command line, streams and sockets alone (seconds)"

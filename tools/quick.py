@@ -1,4 +1,4 @@
-"""Tests all that needs no proof, in three minutes on two quiet cores. Nothing is proved by it.
+"""Tests all that needs no proof, in nine minutes of processor time over two cores. Nothing is proved by it.
 
     python3 -m tools.quick PAGE|FOLDER ..
 
