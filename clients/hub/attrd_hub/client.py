@@ -2,6 +2,7 @@
 from __future__ import annotations
 
 import hmac
+import math
 import re
 import socket
 import time
@@ -14,7 +15,7 @@ from .lines import (EDITS, LINE_BYTES, QUESTIONS, REFUSED_LIMIT, REFUSED_SYNTAX,
 from .loop import GONE, READ, WRITE
 from .member import Member
 from .peers import peer_of
-from .turns import LONG, TURN_BYTES
+from .turns import BYTES_A_SECOND, LONG, NEW, NEW_LATEST, QUICK
 
 if TYPE_CHECKING:
     from .service import Service
@@ -45,8 +46,8 @@ KNOWN, KNOWN_BYTES = 64, 256
 class Client:
     """A connection. `service` is told when it has something to send, and when it has lines that wait.
 
-    `turn` is the one at which its last line was over, `paid` how many turns that line was expected to take, and `slowness` how many its
-    last lines took each (see `turns`).
+    In seconds of the program (see `turns`): `charged` is what its lines took so far; `paid` what each of those under way was expected to
+    take, and `weight` what it was thought to take at most; `expected` and `latest` are that of the next one, by what its last ones took.
     """
 
     def __init__(self, service: "Service", stream: socket.socket, token: Optional[bytes] = None, may_edit: bool = True) -> None:
@@ -70,10 +71,15 @@ class Client:
         # Of lines that were plain questions: most clients ask the same ones again.
         self._known: Dict[bytes, Route] = {}
         self._is_last = self._is_gone = False
-        self.turn: float = service.ready.now
-        self.paid: float = 1.0
-        self.slowness: float = 0.0
-        self.last_slowness: float = 0.0
+        # Less than nothing before its first line.
+        self.charged: float = -math.inf
+        self.paid: float = QUICK
+        self.weight: float = QUICK
+        self.expected: float = NEW
+        self.latest: float = NEW_LATEST
+        # Whether it has had no reply, and whether its last replies were charged for themselves.
+        self.is_new: bool = True
+        self.is_charged: bool = False
         # How long a reply of its next line may be, and how many bytes of its replies the service counts as unread.
         self._expected = self._kept = 0
         # Longer replies are noted: all of them behind a long one.
@@ -135,10 +141,11 @@ class Client:
         service = self.service
         if route is None or service.at_once <= 0 or self._lines or self._rest or self.unread:
             return False
-        if self.slowness >= LONG or route.member.unanswered >= FEW or (service.room.has_long_tree and data.endswith(_SHOW_ALL)):
+        if self.latest >= LONG or route.member.unanswered >= FEW or (service.room.has_long_tree and data.endswith(_SHOW_ALL)):
             return False
         service.at_once -= 1
         service.counts.lines += 1
+        self.paid = self.weight = QUICK
         service.hub.send_question(route, data)
         return True
 
@@ -206,11 +213,19 @@ class Client:
             self.service.ready.add(self)
 
     @property
-    def price(self) -> float:
-        """How many turns its next line is expected to take, at least 1."""
-        if self.service.room.has_long_tree and _SHOWS_ALL.match(self._lines):
-            return max(1.0, self.slowness, self.service.room.tree_bytes / TURN_BYTES)
-        return max(1.0, self.slowness)
+    def cost(self) -> float:
+        """How many seconds of the program its next line is expected to take."""
+        return max(QUICK, self.expected, self._showing_cost())
+
+    @property
+    def most_cost(self) -> float:
+        """How many seconds its next line may take."""
+        return max(QUICK, self.latest, self._showing_cost())
+
+    def _showing_cost(self) -> float:
+        """How long the program takes to show the whole tree, where the next line asks for that, and the tree is long."""
+        room = self.service.room
+        return room.tree_bytes / BYTES_A_SECOND if room.has_long_tree and _SHOWS_ALL.match(self._lines) else 0.0
 
     def supply(self, share: int) -> bool:
         """Hands on at most so many lines. Whether more of them could go at once."""
@@ -369,6 +384,9 @@ class Client:
         if self.is_ended:
             return
         unread = self.unread
+        if self.latest > QUICK:
+            # Where its last lines may not have been quick, these are looked at.
+            self.service.ready.settle(self)
         try:
             while unread:
                 del unread[:self.stream.send(unread)]

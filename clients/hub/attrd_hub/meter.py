@@ -36,15 +36,21 @@ class Meter:
         # What it ran more than lines took; less than nothing where the system's count is behind.
         self._left = 0.0
 
-    def look(self, began: float, now: float) -> float:
+    def mark(self) -> None:
+        """The program doesn't run, and is about to: what it ran up to now isn't told any more."""
+        self._ran, self._waited = self._times()
+        self._left = 0.0
+
+    def look(self, began: float, now: float, is_idle: bool = False) -> float:
         """How many seconds the program took for replies that are there now.
 
-        `began` is when the replies before them came, or where none was due, when their lines went to the program.
+        `began` is when the replies before them came, or where none was due, when their lines went to the program. `is_idle` tells that
+        no line is under way any more: then the program doesn't run, and the system's count is right.
         """
         ran, waited = self._times()
         left = self._left + ran - self._ran
         taken = max(0.0, now - began - (waited - self._waited))
-        if taken > left + TICK + LATE:
+        if taken > left + (0.0 if is_idle else TICK + LATE):
             taken = max(0.0, left)
         # What is left is of quick lines, which take no part.
         self._left = min(left - taken, 0.0)

@@ -31,7 +31,7 @@ from .settings import Settings
 from .sockets import file_at, listen_at, listen_tcp
 from .status import Counts, Waits, figures_of, status_path
 from .telling import Level, log, notify, shown
-from .turns import TURN_SECONDS, Turns
+from .turns import LONG, QUICK as QUICK_LINE, Turns
 
 TICK_SECONDS = 0.5
 ACCEPTED_AT_ONCE = 32
@@ -74,7 +74,7 @@ class Service:
         self.program: Program
         self.journal = Journal(Path(settings.state), settings.sync) if settings.state is not None else None
         self.pace, self.meter = Pace(clock), Meter(clock, self.loop.now)
-        self.waits = Waits()
+        self.waits, self.clock = Waits(), time.monotonic
         self.program_version: Optional[str] = None
         self._told_version: Optional[str] = None
         self._handed_on = 0.0
@@ -89,7 +89,7 @@ class Service:
         # When the last reply came, or the first line behind it went to the program; and how many lines were under way then.
         self._answered = 0.0
         self._in_flight = 0
-        self._waiting, self._long = self.ready.waiting, self.ready.long
+        self._waiting = self.ready.waiting
         # So many questions may go to the program as they come, before the next lines are handed on by turns: none where a client waits.
         self.at_once = 0
 
@@ -193,7 +193,9 @@ class Service:
 
     def has_room(self) -> bool:
         """Whether more lines of clients may go to the program now."""
-        return self.hub.in_flight < self.pace.most and len(self.program.unsent) < UNSENT and not self._is_stopping
+        hub = self.hub
+        is_free = hub.in_flight < self.pace.most and hub.answered >= self.ready.until
+        return is_free and len(self.program.unsent) < UNSENT and not self._is_stopping
 
     def _hand_on(self) -> None:
         """Sends what the turn has brought: lines to the program, edits to the journal, and then replies to clients."""
@@ -202,7 +204,9 @@ class Service:
         hub = self.hub
         if hub.out:
             if not self._in_flight:
-                self._in_flight, self._answered = hub.in_flight, self.loop.now
+                self._in_flight, self._answered = hub.in_flight, self.clock()
+                if hub.answered < self.ready.until:
+                    self.meter.mark()
             self.program.send(hub.lines())
             if self.loop.now >= self.pace.next:
                 self.pace.begin(hub.answered, hub.in_flight, self.loop.now)
@@ -235,7 +239,7 @@ class Service:
         hub, ready, waiting, most = self.hub, self.ready, self.ready.waiting, self.pace.most
         share = self.pace.share(len(waiting))
         for _ in range(min(len(waiting), CLIENTS_IN_A_TURN)):
-            if not waiting or hub.in_flight >= most:
+            if not waiting or hub.in_flight >= most or hub.answered < ready.until:
                 break
             ready.serve(share, hub)
 
@@ -266,28 +270,30 @@ class Service:
             self._answered, self._in_flight = now, hub.in_flight
             if slow is not None:
                 self._charge(slow, hub.answered - answered)
-            if self._long:
-                self.ready.release(hub.answered)
-            self.at_once = 0 if self._waiting else self.pace.most - hub.in_flight
+            self.at_once = 0 if self._waiting or hub.answered < self.ready.until else self.pace.most - hub.in_flight
         if hub.answered >= self.pace.until:
             self.pace.end(now)
             self.waits.add(now - self._handed_on)
 
     def _slow(self, replies: bytes, now: float) -> Optional[Slow]:
-        """Whose lines these replies answer, where one of them took more than a turn."""
+        """Whose lines these replies answer, where one of them wasn't quick."""
         lines = replies.count(b"\n")
         if not lines:
             return None
-        seconds = self.meter.look(self._answered, now)
-        return Slow(self.hub.first(lines), seconds) if seconds > lines * TURN_SECONDS else None
+        seconds = self.meter.look(self._answered, now, lines >= self.hub.in_flight)
+        return Slow(self.hub.first(lines), seconds) if seconds > lines * QUICK_LINE else None
 
     def _charge(self, slow: Slow, lines: int) -> None:
-        """So many lines had replies: their clients pay for what these took, each its part, as far as it was expected."""
-        counts = Counter(it.client if it is not None else None for it in slow.members[:lines])
-        turns = sum(count * (it.paid if it is not None else 1.0) for it, count in counts.items())
+        """So many lines had replies: their clients are charged what these took, each its part, as far as it was expected; but where one
+        that should have been quick took long, or the machine stood still, nobody knows whose it was."""
+        counts = Counter(it.client for it in slow.members[:lines] if it is not None and it.client is not None)
+        weights = sum(count * it.weight for it, count in counts.items())
+        is_known = any(it.weight >= LONG for it in counts) or slow.seconds < weights + LONG
         for it, count in counts.items():
-            if it is not None:
-                self.ready.charge(it, slow.seconds * it.paid / turns, count)
+            if is_known:
+                self.ready.charge(it, slow.seconds * it.weight / weights, count)
+            else:
+                self.ready.doubt(it)
 
     def accepted(self, places: Places, editor: Optional[Peer] = None) -> None:
         """An edit was accepted that this one made: it goes into the journal before its client is told."""

@@ -1,127 +1,130 @@
-"""Whose lines go next: clients are served by turns, one line each, and a line that takes long counts as several.
+"""Whose lines go next: those of the client for which the program has worked least.
 
-It is weighted fair queueing. A line has a price in turns: 1, or more where its client's last lines took longer. `now` is the turn at
-which everybody is; it goes on by each line's price, shared by all who wait or have lines under way, and isn't before the turn at which
-a line began that is handed on. A client's next line begins at the turn at which its last one was over, but not before `now` as it came,
-and is due when it would be over: what is due first goes first. So among equal lines each client has one in a turn, and one with a quick
-line needn't wait for all long lines of the others.
+It is fair queueing by the program's time. A client's `charged` is how many seconds its lines have taken: each is charged what it is
+expected to take when it goes, and what it took when it has its reply. Of the clients with lines, that one goes first whose line would be
+over first, counted from what it is charged; `now` is where that was for the last one. So a quick line needn't wait for all long ones of
+the others. Who comes back after a pause begins no further than a moment before `now`: nobody saves up time.
+
+A line that may be long goes alone: when it goes no other one is under way, and none goes before it has its reply. So who comes meanwhile
+waits for this one line at most, and how long it took is told exactly.
 """
 from __future__ import annotations
 
 import itertools
-from collections import deque
 from heapq import heappop, heappush
-from typing import TYPE_CHECKING, Deque, List, Tuple
+from typing import TYPE_CHECKING, List, Tuple
 
 if TYPE_CHECKING:
     from .client import Client
     from .hub import Hub
     from .room import Room
 
-# So many seconds, or so many bytes of a reply, are one turn.
-TURN_SECONDS, TURN_BYTES = 1e-4, 1 << 14
-# A line that takes so many turns is a long one, of which so many are under way at once: one with the program, and the next one.
-LONG, LONG_AT_ONCE = 20.0, 2
-# Lines that take more than one turn are handed on together up to so many turns.
-TOGETHER = 20.0
-# What a line of a client counts at most, however long it took.
-SLOWEST = 100.0
-# By what a line counts more than the one before, at most: where the machine has other work a line may seem much slower than it is.
-GROWTH = 4.0
+# All times are seconds of the program. A line that takes no longer is a quick one, and is charged so much.
+QUICK = 5e-5
+# What a line is charged at most, however long it took.
+MOST_CHARGED = 0.1
+# What is expected of a client's first line, and what it may take: until its reply nobody knows.
+NEW, NEW_LATEST = 1e-4, 5e-3
+# Of new clients each begins so much behind the one before: else many that come at once would all go before who is there.
+APART = 2e-5
+# From so long on a line is a long one.
+LONG = 5e-4
+# Lines that aren't quick are handed on together up to so many seconds.
+TOGETHER = 2e-3
 # Of what a client's lines took so much is expected of the next one.
 DECAY = 0.75
+# How far before the others a client begins that has had no line for a while.
+CREDIT = 1e-2
+# So long a reply the program makes in a second.
+BYTES_A_SECOND = 1.6e8
 Entry = Tuple[float, int, "Client"]
 
 
 class Turns:
-    """The clients with lines that wait. `now` is the turn at which everybody is, `waiting` who could hand on a line now,
-    and `long` at which counts of replies the long lines that are under way have theirs."""
+    """The clients with lines that wait. `waiting` is who could hand on a line, and none is handed on before `until` replies are there."""
 
     def __init__(self, room: "Room") -> None:
         self._room = room
-        self.now = 0.0
+        self.now = self._newest = 0.0
         self.waiting: List[Entry] = []
-        # Clients with a long line, which waits for another one's.
-        self._held: List[Entry] = []
-        self.long: Deque[int] = deque()
+        self.until = 0
         self._number = itertools.count()
 
     def add(self, client: "Client") -> None:
         """The client has lines."""
-        price = client.price if client.last_slowness > 1.0 or self._room.has_long_tree else 1.0
-        if client.turn < self.now:
-            client.turn = self.now
-        heappush(self.waiting, (client.turn + price, next(self._number), client))
+        cost = client.cost if client.latest > QUICK or self._room.has_long_tree else QUICK
+        earliest = self.now - CREDIT
+        if client.charged < earliest:
+            client.charged = earliest if client.charged >= 0.0 else self._begin()
+        heappush(self.waiting, (client.charged + cost, next(self._number), client))
+
+    def _begin(self) -> float:
+        """Where a new client begins."""
+        self._newest = max(self.now, self._newest + APART)
+        return self._newest
 
     def clear(self) -> None:
         """Nobody waits, and no line is under way."""
         self.waiting.clear()
-        self._held.clear()
-        self.long.clear()
+        self.until = 0
 
     def serve(self, share: int, hub: "Hub") -> None:
         """Has the first client hand on its line, or some quick ones, at most so many."""
         entry = heappop(self.waiting)
         client = entry[2]
-        if client.last_slowness > 1.0 or self._room.has_long_tree:
-            self._serve_priced(entry, share, hub)
+        if client.latest > QUICK or self._room.has_long_tree:
+            self._serve_slow(entry, share, hub)
             return
-        # Each of its lines has the price 1: as below, with less to be done for it.
+        # As below, with less to be done for each.
         before = hub.in_flight
-        client.paid = 1.0
+        client.paid = client.weight = QUICK
         is_ready = client.is_ready = client.supply(share)
-        paid = hub.in_flight - before or 1
-        self._go_on(paid, entry, hub)
-        turn = client.turn = client.turn + paid
+        if entry[0] > self.now:
+            self.now = entry[0]
+        client.charged += QUICK * (hub.in_flight - before or 1)
         if is_ready:
-            heappush(self.waiting, (turn + 1.0, next(self._number), client))
-        if self._held:
-            self._bring_back()
+            heappush(self.waiting, (client.charged + QUICK, next(self._number), client))
 
-    def _serve_priced(self, entry: Entry, share: int, hub: "Hub") -> None:
-        """As `serve`, for a client whose lines may take more than one turn."""
+    def _serve_slow(self, entry: Entry, share: int, hub: "Hub") -> None:
+        """As `serve`, for a client whose lines may not be quick."""
         client = entry[2]
-        price = client.price
-        if price >= LONG and len(self.long) >= LONG_AT_ONCE and not client.is_ended:
-            heappush(self._held, entry)
-            return
+        cost, most = client.cost, client.most_cost
         before = hub.in_flight
-        client.paid = price
-        client.is_ready = client.supply(share if price <= 1.0 else min(share, max(1, int(TOGETHER / price))))
+        if most >= LONG and before > hub.chores.under_way:
+            # It is its turn, but others are under way.
+            self.until = hub.answered + before
+            heappush(self.waiting, entry)
+            return
+        client.paid, client.weight = cost, most
+        client.is_ready = client.supply(share if most <= QUICK else min(share, max(1, int(TOGETHER / most))))
         handed_on = hub.in_flight - before
-        paid = price * max(1, handed_on)
-        self._go_on(paid, entry, hub)
-        client.turn += paid
-        client.slowness *= DECAY
-        client.last_slowness *= DECAY
-        if price >= LONG and handed_on:
-            self.long.append(hub.answered + hub.in_flight)
+        self.now = max(self.now, entry[0])
+        client.charged += cost * max(1, handed_on)
+        if most >= LONG and handed_on:
+            self.until = hub.answered + hub.in_flight
         if client.is_ready:
             self.add(client)
-        self._bring_back()
-
-    def _go_on(self, paid: float, entry: Entry, hub: "Hub") -> None:
-        """So many turns are paid for lines of a client that was due."""
-        now = self.now + paid / (hub.in_flight + len(self.waiting) + len(self._held) + 1)
-        # Who comes now with a quick line isn't due behind those that are due with this one, even if its client paid more since it came.
-        began, latest = entry[2].turn, entry[0] - 1.0
-        began = began if began < latest else latest
-        self.now = began if began > now else now
 
     def charge(self, client: "Client", seconds: float, lines: int = 1) -> None:
-        """So many lines of the client, whose replies came together, took so long each: it pays that, or has back what it paid too much."""
-        turns = min(SLOWEST, seconds / TURN_SECONDS)
-        # Once alone a line may have seemed slow, since the machine was.
-        found = max(1.0, min(turns, client.last_slowness, GROWTH * max(1.0, client.slowness)))
-        client.slowness, client.last_slowness = found, turns
-        client.turn += lines * (found - client.paid)
+        """So many lines of the client, whose replies came together, took so long each: that is charged in place of what was expected."""
+        taken = max(QUICK, min(MOST_CHARGED, seconds))
+        more = lines * (taken - client.paid)
+        client.charged += more
+        # One line alone may have seemed slow, since the machine was: it isn't expected again, but it may be so.
+        client.expected, client.latest = min(taken, client.latest), max(taken, client.latest * DECAY)
+        client.is_new, client.is_charged = False, True
+        # What nobody has paid beforehand goes on for all who wait.
+        self.now += max(0.0, more) / (len(self.waiting) + 1)
 
-    def release(self, answered: int) -> None:
-        """So many lines have replies: whoever waits for a long one's goes on."""
-        while self.long and self.long[0] <= answered:
-            self.long.popleft()
-            self._bring_back()
+    def doubt(self, client: "Client") -> None:
+        """It may have had a line that took long in place of a quick one: the next ones go alone, as that of a new client."""
+        client.expected, client.latest = NEW, NEW_LATEST
+        client.is_new, client.is_charged = False, True
 
-    def _bring_back(self) -> None:
-        if self._held and len(self.long) < LONG_AT_ONCE:
-            heappush(self.waiting, heappop(self._held))
+    def settle(self, client: "Client") -> None:
+        """The client has replies to lines, which were quick where nobody told another thing."""
+        if client.is_charged:
+            client.is_charged = False
+            return
+        client.expected, client.latest = (QUICK, QUICK) if client.is_new else (client.expected * DECAY, client.latest * DECAY)
+        client.is_new = False

@@ -4,6 +4,7 @@ Bounds are counts and ratios: of a crowd's replies, and of what a question takes
 """
 from __future__ import annotations
 
+import itertools
 import os
 import select
 import shutil
@@ -15,7 +16,7 @@ import tempfile
 import time
 import unittest
 from pathlib import Path
-from typing import List, Optional
+from typing import Callable, Dict, List, Optional
 
 from hub_support import SECONDS, Hub, Lines, until
 
@@ -97,6 +98,56 @@ class Sender:
         return self.replies < 2 * self.sent
 
 
+class Crowd:
+    """Clients that ask one question after the other: each has so many without a reply at once, or comes anew for each."""
+
+    def __init__(self, path: str, clients: int, question: Callable[[int], bytes], at_once: int = 1, is_new: bool = False) -> None:
+        self.path, self.question, self.at_once, self.is_new = path, question, at_once, is_new
+        self.numbers = itertools.count()
+        self.poll = select.epoll()
+        self.streams: Dict[int, socket.socket] = {}
+        for _ in range(clients):
+            self.come()
+
+    def ask(self, stream: socket.socket, questions: int) -> None:
+        """Sends so many, of which each has a number of its own."""
+        stream.sendall(b"".join(self.question(it) for it in itertools.islice(self.numbers, questions)))
+
+    def come(self) -> None:
+        """A client comes."""
+        stream = connected(self.path)
+        self.streams[stream.fileno()] = stream
+        self.poll.register(stream.fileno(), select.EPOLLIN)
+        self.ask(stream, self.at_once)
+
+    def go_on(self, until: socket.socket) -> None:
+        """Has each that gets a reply ask again, up to where this one gets one."""
+        self.poll.register(until.fileno(), select.EPOLLIN)
+        ready: List[int] = []
+        while until.fileno() not in ready:
+            for number in ready:
+                self.reply(self.streams[number])
+            ready = [number for number, _ in self.poll.poll(SECONDS)]
+            assert ready, "no reply comes"
+        self.poll.unregister(until.fileno())
+
+    def reply(self, stream: socket.socket) -> None:
+        """It has replies."""
+        replies = stream.recv(1 << 16).count(b"\n")
+        if not self.is_new:
+            self.ask(stream, replies)
+            return
+        del self.streams[stream.fileno()]
+        stream.close()
+        self.come()
+
+    def close(self) -> None:
+        """They leave."""
+        self.poll.close()
+        for it in self.streams.values():
+            it.close()
+
+
 class Case(unittest.TestCase):
     def wide(self, length: int, *words: str) -> Wide:
         hub = Wide(length, *words)
@@ -106,6 +157,18 @@ class Case(unittest.TestCase):
     def hub(self, *words: str) -> Hub:
         hub = Hub(*words)
         self.addCleanup(hub.close)
+        return hub
+
+    def slow_hub(self, statements: int) -> Hub:
+        """A hub with the attribute `slow`, whose value is dropped by each edit."""
+        hub = self.hub("--sync", "never")
+        hub.kill()
+        shutil.rmtree(hub.state)
+        declarations = ",".join(['Decl("x",-)'] * statements)
+        Path(hub.files[1]).write_text(f"Program(Block([{declarations}]))\n")
+        with open(hub.files[2], "a", encoding="ascii") as aspects:
+            aspects.write(SLOW)
+        hub.start()
         return hub
 
 
@@ -186,18 +249,6 @@ class Marks(Case):
 
 
 class Fairness(Case):
-    def slow_hub(self, statements: int) -> Hub:
-        """A hub with the attribute `slow`, whose value is dropped by each edit."""
-        hub = self.hub("--sync", "never")
-        hub.kill()
-        shutil.rmtree(hub.state)
-        declarations = ",".join(['Decl("x",-)'] * statements)
-        Path(hub.files[1]).write_text(f"Program(Block([{declarations}]))\n")
-        with open(hub.files[2], "a", encoding="ascii") as aspects:
-            aspects.write(SLOW)
-        hub.start()
-        return hub
-
     def versions(self, hub: Hub, questions: List[List[bytes]], at_once: int) -> List[List[int]]:
         """The versions that each client's edits made, which tell in which order the lines of all were served.
 
@@ -245,6 +296,51 @@ class Fairness(Case):
         questions = [[b'0 ask / slow("%d.%d")' % (client, it) for it in range(120)] for client in range(64)]
         served = self.served(self.versions(hub, questions, 120))
         self.assertGreaterEqual(2 * served[0], served[-1], served)
+
+
+class Beside(Case):
+    """What a quiet client waits for beside two hundred that ask questions of some milliseconds: in seconds of a processor, which the hub
+    and the program take meanwhile."""
+
+    QUIET = b"0 show /Block/Stmt:0\n"
+    SLOW = b'0 ask / slow("%d")\n'
+
+    def beside(self, question: Callable[[int], bytes], at_once: int = 1, is_new: bool = False) -> None:
+        hub = self.slow_hub(210)
+        processes = (hub.process.pid, hub.program_number())
+        quiet = connected(hub.socket)
+        self.addCleanup(quiet.close)
+
+        def wait(line: bytes, crowd: Optional[Crowd] = None) -> float:
+            before = sum(map(processor_seconds, processes))
+            quiet.sendall(line)
+            if crowd is not None:
+                crowd.go_on(quiet)
+            self.assertTrue(quiet.recv(1_000).startswith(b"0 = "))
+            return sum(map(processor_seconds, processes)) - before
+        alone = max(wait(self.SLOW % it) for it in range(3))
+        for _ in range(20):
+            wait(self.QUIET)
+        crowd = Crowd(hub.socket, 200, question, at_once, is_new)
+        self.addCleanup(crowd.close)
+        waits = []
+        for _ in range(60):
+            waits.append(wait(self.QUIET, crowd))
+            time.sleep(0.01)
+        told = f"one question {alone:.4f} s; median {statistics.median(waits):.4f}, most {max(waits):.4f} s"
+        self.assertLess(max(waits), max(0.1, 5 * alone), told)
+
+    def test_new_clients(self) -> None:
+        self.beside(lambda number: self.SLOW % (10 + number))
+
+    def test_clients_that_send_many_at_once(self) -> None:
+        self.beside(lambda number: self.SLOW % (10 + number), at_once=30)
+
+    def test_clients_that_come_anew_for_each(self) -> None:
+        self.beside(lambda number: self.SLOW % (10 + number), is_new=True)
+
+    def test_clients_of_which_each_fourth_question_takes_long(self) -> None:
+        self.beside(lambda number: self.QUIET if number // 200 % 4 else self.SLOW % (10 + number))
 
 
 class Unread(Case):

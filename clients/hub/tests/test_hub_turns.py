@@ -7,24 +7,22 @@ from unittest import mock
 
 from simulated import Machine, Program, Simulation
 
-from attrd_hub.meter import PAUSE, QUICK, Meter
+from attrd_hub.meter import Meter
 from attrd_hub.room import Room
-from attrd_hub.turns import GROWTH, SLOWEST, TURN_SECONDS, Turns
+from attrd_hub.turns import CREDIT, DECAY, LONG, MOST_CHARGED, NEW_LATEST, QUICK, Turns
 
 CLIENTS = 64
 LINE = b"0 ask / slow()/x"
-# How long a line takes: from what isn't looked at up to what counts most.
-COSTS = [QUICK / 2, 2 * QUICK, 1e-3, 5e-3]
+# How long a line takes: a quick one, one that is nearly so, and long ones.
+COSTS = [QUICK, 2 * QUICK, 0.8 * LONG, 1e-3, 5e-3]
 
 
-class TickClock(Meter):
-    """Takes for a line's time what the system counted since it was asked last, at ticks."""
+class ClockMeter(Meter):
+    """Takes for a line's time what the clock says, whatever the machine did meanwhile."""
 
-    def look(self, began: float, now: float) -> float:
-        """What the count says."""
-        ran, _ = self._times()
-        since, self._ran, self.next = ran - self._ran, ran, now + PAUSE
-        return min(now - began, since)
+    def look(self, began: float, now: float, is_idle: bool = False) -> float:
+        """The time between replies."""
+        return now - began
 
 
 class Equal(unittest.TestCase):
@@ -37,7 +35,7 @@ class Equal(unittest.TestCase):
     def check(self, machine: Machine) -> None:
         for cost in COSTS:
             # Quick lines go together, many at once.
-            lines = 200 if cost < QUICK else 40
+            lines = 200 if cost <= 2 * QUICK else 40
             for ahead in (1, 30):
                 self.assertLess(self.ratio(cost, machine, ahead, lines), 2.0, (cost, ahead))
 
@@ -59,9 +57,9 @@ class Equal(unittest.TestCase):
         self.check(Machine(noise=0.4, share=0.3, stops=100, lates=100))
 
     def test_an_unfair_hub_is_found(self) -> None:
-        """One that takes the system's clock by its word."""
-        with mock.patch("simulated.Meter", TickClock):
-            self.assertGreater(self.ratio(1e-3, Machine(), 30, 40), 2.0)
+        """One that goes by the clock."""
+        with mock.patch("simulated.Meter", ClockMeter):
+            self.assertGreater(self.ratio(1e-3, Machine(stops=100), 30, 40), 2.0)
 
 
 class Unequal(unittest.TestCase):
@@ -110,27 +108,59 @@ class Times(unittest.TestCase):
             self.assertAlmostEqual(meter.look(it * 5e-4, now), 5e-4)
 
 
-class Prices(unittest.TestCase):
-    def test_one_line_that_seems_slow_costs_nothing_more(self) -> None:
-        turns = Turns(Room())
-        client = mock.Mock(turn=5.0, paid=1.0, slowness=0.0, last_slowness=0.0)
-        turns.charge(client, 1.0)
-        self.assertEqual((client.turn, client.slowness), (5.0, 1.0))
+class Charges(unittest.TestCase):
+    def setUp(self) -> None:
+        self.turns = Turns(Room())
 
-    def test_lines_that_stay_slow_cost_what_they_take_soon(self) -> None:
-        turns = Turns(Room())
-        client = mock.Mock(turn=5.0, paid=1.0, slowness=0.0, last_slowness=0.0)
-        found = []
-        for _ in range(6):
-            turns.charge(client, 1.0)
-            found.append(client.slowness)
-        self.assertEqual(found, [1.0, GROWTH, GROWTH ** 2, GROWTH ** 3, SLOWEST, SLOWEST])
+    def client(self, charged: float = 5.0, paid: float = QUICK, latest: float = QUICK) -> mock.Mock:
+        """A client whose lines were quick."""
+        return mock.Mock(charged=charged, paid=paid, expected=QUICK, latest=latest, is_new=False, is_charged=False)
+
+    def test_a_line_is_charged_what_it_took(self) -> None:
+        client = self.client()
+        self.turns.charge(client, 0.03)
+        self.assertAlmostEqual(client.charged, 5.03 - QUICK)
 
     def test_who_paid_too_much_has_it_back(self) -> None:
-        turns = Turns(Room())
-        client = mock.Mock(turn=50.0, paid=40.0, slowness=30.0, last_slowness=30.0)
-        turns.charge(client, 10 * TURN_SECONDS)
-        self.assertAlmostEqual(client.turn, 20.0)
+        client = self.client(paid=0.04)
+        self.turns.charge(client, 0.01)
+        self.assertAlmostEqual(client.charged, 4.97)
+
+    def test_a_line_that_takes_very_long_is_charged_less(self) -> None:
+        client = self.client()
+        self.turns.charge(client, 20.0)
+        self.assertAlmostEqual(client.charged, 5.0 + MOST_CHARGED - QUICK)
+
+    def test_one_line_that_seems_slow_is_not_expected_again(self) -> None:
+        client = self.client()
+        self.turns.charge(client, 0.01)
+        self.assertEqual((client.expected, client.latest), (QUICK, 0.01))
+        self.turns.charge(client, 0.01)
+        self.assertEqual((client.expected, client.latest), (0.01, 0.01))
+
+    def test_quick_lines_are_believed_bit_by_bit(self) -> None:
+        client = self.client(latest=0.01)
+        self.turns.settle(client)
+        self.assertEqual(client.latest, 0.01 * DECAY)
+
+    def test_a_new_client_is_believed_at_once(self) -> None:
+        client = self.client(latest=NEW_LATEST)
+        client.is_new = True
+        self.turns.settle(client)
+        self.assertEqual((client.expected, client.latest, client.is_new), (QUICK, QUICK, False))
+
+    def test_who_may_have_had_a_slow_line_is_as_new(self) -> None:
+        client = self.client()
+        self.turns.doubt(client)
+        # The replies that led to the doubt don't end it.
+        self.turns.settle(client)
+        self.assertEqual(client.latest, NEW_LATEST)
+
+    def test_nobody_saves_up_time(self) -> None:
+        client = self.client(charged=0.0)
+        self.turns.now = 1.0
+        self.turns.add(client)
+        self.assertAlmostEqual(client.charged, 1.0 - CREDIT)
 
 
 class Simulated(unittest.TestCase):
