@@ -6,8 +6,9 @@ import math
 import re
 import socket
 import time
+from collections import deque
 from functools import partial
-from typing import TYPE_CHECKING, Dict, Optional
+from typing import TYPE_CHECKING, Deque, Dict, Optional
 
 from .hub import SHARED, NoSession, Route
 from .lines import (EDITS, LINE_BYTES, QUESTIONS, REFUSED_LIMIT, REFUSED_SYNTAX, TOLD, Places, first_lines, plain_session,
@@ -62,6 +63,9 @@ class Client:
         self.member = Member(service.hub, self.end, self._tell_done)
         self.member.client, self.member.on_swept = self, self._go_on
         self.unread: bytearray = bytearray()
+        # Parts of long replies that are unread behind it, and what comes behind these: they aren't copied.
+        self._later: Deque[memoryview] = deque()
+        self._later_bytes = 0
         self.is_dirty: bool = False
         self.is_ready: bool = False
         self.is_ended: bool = False
@@ -139,7 +143,7 @@ class Client:
         """Hands on what came, where it is one plain question, and nothing of this client waits. Whether it was."""
         route = self._known.get(data) or self._know(data)
         service = self.service
-        if route is None or service.at_once <= 0 or self._lines or self._rest or self.unread:
+        if route is None or service.at_once <= 0 or self._lines or self._rest or self.unread or self._later:
             return False
         if self.latest >= LONG or route.member.unanswered >= FEW or (service.room.has_long_tree and data.endswith(_SHOW_ALL)):
             return False
@@ -257,7 +261,7 @@ class Client:
         unanswered = self.member.unanswered
         if self._is_gone:
             return first_lines(self._lines, MANY - unanswered)
-        if len(self.unread) >= UNREAD:
+        if self.unread_bytes >= UNREAD:
             return b""
         lines = first_lines(self._lines, min(share, MANY - unanswered))
         if lines.find(b" show ") >= 0:
@@ -270,7 +274,7 @@ class Client:
         """Whether the reply of the first line, as long as it is expected to be, has room beside those that aren't read; with none of
         these it has."""
         expected = max(self._expected, self.service.room.tree_bytes if _SHOWS_ALL.match(lines) else 0)
-        others = len(self.unread) + expected * self.member.unanswered
+        others = self.unread_bytes + expected * self.member.unanswered
         return not others or others + expected <= UNREAD
 
     def _hand_on(self, lines: bytes) -> None:
@@ -286,19 +290,15 @@ class Client:
                 self._hand_on_line(line)
 
     def _hand_on_block(self, own: bytes, lines: bytes, count: int) -> None:
-        session = b"%d" % self.member.sessions.get(int(own), SHARED)
-        if own not in self._routes:
+        route = self._routes.get(own)
+        if route is None:
             if len(self._routes) >= ROUTES:
                 self._forget_routes()
-            self._routes[own] = Route(self.member, own, session, self._write)
-        if session == own:
-            self.member.send_block(lines, count, self._write)
-        else:
-            lines = (b"\n" + lines).replace(b"\n%b " % own, b"\n%b " % session)[1:]
-            self.member.send_block(lines, count, partial(self._tell_block, own, session))
-
-    def _tell_block(self, own: bytes, session: bytes, replies: bytes) -> None:
-        self._write((b"\n" + replies).replace(b"\n%b " % session, b"\n%b " % own)[1:])
+            session = b"%d" % self.member.sessions.get(int(own), SHARED)
+            route = self._routes[own] = Route(self.member, own, session, self._write, self._write_part)
+        if not route.is_same:
+            lines = (b"\n" + lines).replace(b"\n%b " % own, b"\n%b " % route.session)[1:]
+        self.service.hub.send_block(route, lines, count)
 
     def _hand_on_line(self, line: bytes) -> None:
         found = split_line(line)
@@ -362,12 +362,36 @@ class Client:
         if _F in data and data.find(b" refused ") >= 0:
             self.service.counts.count_refused(data)
         if not self._is_gone:
-            self.unread += data
+            if self._later:
+                self._put_later(data)
+            else:
+                self.unread += data
             if len(data) > self._noted:
                 self._note(len(data))
         if not self.is_dirty:
             self.is_dirty = True
             self.service.dirty.append(self)
+
+    def _write_part(self, data: bytes, length: int) -> None:
+        """A part of a long reply, which has this length where it is the last part."""
+        if self.is_ended:
+            return
+        if not self._is_gone:
+            self._put_later(data)
+            if length > self._noted:
+                self._note(length)
+        if not self.is_dirty:
+            self.is_dirty = True
+            self.service.dirty.append(self)
+
+    def _put_later(self, data: bytes) -> None:
+        self._later.append(memoryview(data))
+        self._later_bytes += len(data)
+
+    @property
+    def unread_bytes(self) -> int:
+        """How many bytes of replies wait for the client."""
+        return len(self.unread) + self._later_bytes
 
     def _note(self, length: int) -> None:
         """There was a long reply, or one behind a long one: so long the next one is expected to be."""
@@ -393,24 +417,44 @@ class Client:
                 # What is drained is of interest where something is left.
                 if unread:
                     self.drained = self.service.loop.now
+            if self._later:
+                self._flush_later()
         except BlockingIOError:
             pass
         except OSError:
             self._lose_reader()
         if self._lines or self._is_last or self._is_gone:
             self._make_ready()
-        if unread or self._events & WRITE:
+        if unread or self._later or self._events & WRITE:
             self._watch()
             self._count_unread()
 
+    def _flush_later(self) -> None:
+        """Sends parts as they are, which takes no copy of them. Raises OSError."""
+        while self._later:
+            part = self._later[0]
+            taken = self.stream.send(part)
+            self._later_bytes -= taken
+            self.drained = self.service.loop.now
+            if taken < len(part):
+                self._later[0] = part[taken:]
+            else:
+                self._later.popleft()
+
     def _count_unread(self) -> None:
-        self.service.room.count(len(self.unread) - self._kept)
-        self._kept = len(self.unread)
+        left = self.unread_bytes
+        self.service.room.count(left - self._kept)
+        self._kept = left
+
+    def _clear_unread(self) -> None:
+        self.unread.clear()
+        self._later.clear()
+        self._later_bytes = 0
+        self._count_unread()
 
     def _lose_reader(self) -> None:
         """Nobody reads the replies any more."""
-        self.unread.clear()
-        self._count_unread()
+        self._clear_unread()
         self._forget_routes()
         self._is_gone = True
 
@@ -419,7 +463,7 @@ class Client:
         if self.is_ended or not self.service.loop.is_watched(self.stream.fileno()):
             return
         wants = 0 if self._is_last or len(self._lines) >= WAITING else READ
-        events = wants | (WRITE if self.unread else 0)
+        events = wants | (WRITE if self.unread_bytes else 0)
         if events != self._events:
             if wants and not self._events & READ:
                 self._heard = time.monotonic()
@@ -432,7 +476,7 @@ class Client:
         return is_within and bool(self._events & READ) and self._heard < since
 
     def _end_if_done(self) -> None:
-        if self._is_last and not self._lines and not self.unread and self.member.unanswered == 0:
+        if self._is_last and not self._lines and not self.unread_bytes and self.member.unanswered == 0:
             self.end()
 
     def end(self) -> None:
@@ -442,8 +486,7 @@ class Client:
         self.is_ended = True
         self.service.loop.forget(self.stream.fileno())
         self.stream.close()
-        self.unread.clear()
-        self._count_unread()
+        self._clear_unread()
         self.service.left(self)
         self.member.leave()
 

@@ -21,11 +21,15 @@ SHARED = 0
 _STALE = b"refused 2 stale "
 _REFUSED_QUESTION = b"refused 15 "
 _WAIT = re.compile(rb"(?:at [0-9]+ )?wait ")
+# From so many bytes on a reply goes on to its client as its parts come: the whole of it would take memory that the system gives anew.
+LONG_REPLY = 1 << 15
 
 # What a client is told of a line: the reply, without its session.
 Sink = Callable[[bytes], None]
-# What a client is told of a block of lines: whole replies as bytes, each with the server's session and its newline.
+# What a client is told of questions: whole replies as bytes, each with the client's session and its newline.
 BlockSink = Callable[[bytes], None]
+# What it is told of a long reply: a part of it, and with the last part how long the whole reply was; before that 0.
+PartSink = Callable[[bytes, int], None]
 # What a watcher is told of an edit, a mark or an `unmark` that was accepted: the client (None for the hub itself; of whichever class
 # the hub's clients are), the session by the server's number, the command without its condition, the version then.
 Watcher = Callable[[Any, int, bytes, int], None]
@@ -45,26 +49,35 @@ class _Sent:
 
 
 class Route:
-    """Where single lines of a client's session go that ask and change nothing.
+    """Where lines of a client's session go that ask and change nothing.
 
     `own` is the session's number for the client, `session` that for the server. One route stands for any number of lines under
-    way, so that a line makes no object of its own.
+    way, so that a line makes no object of its own. A long reply goes to `part`, where there is one, and all others to `sink`.
     """
 
-    __slots__ = ("member", "own", "session", "sink", "is_same")
+    __slots__ = ("member", "own", "session", "sink", "part", "is_same")
 
-    def __init__(self, member: Member, own: bytes, session: bytes, sink: BlockSink) -> None:
-        self.member, self.own, self.session, self.sink = member, own, session, sink
+    def __init__(self, member: Member, own: bytes, session: bytes, sink: BlockSink, part: Optional[PartSink] = None) -> None:
+        self.member, self.own, self.session, self.sink, self.part = member, own, session, sink, part
         self.is_same = own == session
+
+    def told(self, replies: bytes) -> bytes:
+        """The replies with the client's session in place of the server's."""
+        return replies if self.is_same else (b"\n" + replies).replace(b"\n%b " % self.session, b"\n%b " % self.own)[1:]
 
 
 class _Block:
-    """Lines of a client that ask and change nothing, of which `left` have no reply yet."""
+    """Lines of a route, of which `left` have no reply yet."""
 
-    __slots__ = ("member", "sink", "left")
+    __slots__ = ("route", "left")
 
-    def __init__(self, member: Member, sink: BlockSink, left: int) -> None:
-        self.member, self.sink, self.left = member, sink, left
+    def __init__(self, route: Route, left: int) -> None:
+        self.route, self.left = route, left
+
+    @property
+    def member(self) -> Member:
+        """Whose lines they are."""
+        return self.route.member
 
 
 def pass_over(_: bytes) -> None:
@@ -95,8 +108,9 @@ class Hub:
         self._waited: Optional[_Sent] = None
         self.out: List[bytes] = []
         self.chores = Chores(self)
-        # The parts of a reply whose end hasn't come: they are put together once.
+        # The parts of a reply whose end hasn't come: they are put together once. Of a long one, how many bytes have gone on.
         self._parts: List[bytes] = []
+        self._gone_on = 0
 
     def add(self, member: Member) -> None:
         """One client more."""
@@ -127,12 +141,13 @@ class Hub:
             self._write(b"%d version\n" % session, 1)
             self._sent.append(_Sent(None, session, b"version", pass_over))
 
-    def send_block(self, member: Member, lines: bytes, count: int, sink: BlockSink) -> None:
-        """Sends so many lines as they are, each of which asks and changes nothing; `sink` gets their replies, a part at a time."""
+    def send_block(self, route: Route, lines: bytes, count: int) -> None:
+        """Sends so many lines of the route, which have the server's session; their replies come a part at a time. Raises ServerLost."""
         if self.lost is not None:
             raise self.lost
         self._write(lines, count)
-        self._sent.append(_Block(member, sink, count))
+        self._sent.append(_Block(route, count))
+        route.member.unanswered += count
 
     def send_question(self, route: Route, line: bytes) -> None:
         """Sends one line of the route; its sink gets the whole reply with the client's session. Raises ServerLost."""
@@ -167,9 +182,14 @@ class Hub:
 
     def feed(self, data: bytes) -> None:
         """Bytes of the server. Raises ProtocolFault where there is a reply and no line for it."""
+        if self._gone_on:
+            data = self._go_on(data)
+            if not data:
+                return
         if self._parts:
             self._parts.append(data)
             if data.find(b"\n") < 0:
+                self._begin_to_go_on()
                 return
             data = b"".join(self._parts)
             self._parts.clear()
@@ -181,6 +201,34 @@ class Hub:
         if end < len(data):
             self._parts.append(data[end:])
         self._feed_lines(data[:end])
+        if self._parts:
+            self._begin_to_go_on()
+
+    def _begin_to_go_on(self) -> None:
+        """Has the parts of a reply go on, where they are many bytes already, and it is known whose it is."""
+        first = self._sent[0] if self._sent and not self._questions else None
+        route = first.route if isinstance(first, _Block) else first
+        if not isinstance(route, Route) or route.part is None or sum(map(len, self._parts)) < LONG_REPLY:
+            return
+        data = b"".join(self._parts)
+        self._parts.clear()
+        self._gone_on = len(data)
+        route.part(route.told(data), 0)
+
+    def _go_on(self, data: bytes) -> bytes:
+        """Has the next part of a long reply go on; what is behind the reply."""
+        end = data.find(b"\n") + 1
+        part = data[:end] if end else data
+        self._gone_on += len(part)
+        first = self._sent[0]
+        route = first.route if isinstance(first, _Block) else first
+        assert isinstance(route, Route) and route.part is not None
+        route.part(part, self._gone_on if end else 0)
+        if not end:
+            return b""
+        self._gone_on = 0
+        self._settle_lines(first, 1)
+        return data[end:]
 
     def _feed_lines(self, replies: bytes) -> None:
         """Whole replies."""
@@ -210,12 +258,19 @@ class Hub:
             member.answer(0)
 
     def _settle_block(self, block: _Block, replies: bytes, count: int) -> None:
-        block.left -= count
-        if not block.left:
+        block.route.sink(block.route.told(replies))
+        self._settle_lines(block, count)
+
+    def _settle_lines(self, first: Union[Route, _Block, _Sent], count: int) -> None:
+        """So many lines of the first ones under way have replies, which are told."""
+        left = 0
+        if isinstance(first, _Block):
+            left = first.left = first.left - count
+        if not left:
             self._sent.popleft()
         self._count(count)
-        block.sink(replies)
-        block.member.answer(count)
+        if first.member is not None:
+            first.member.answer(count)
 
     def _count(self, lines: int) -> None:
         self.in_flight -= lines

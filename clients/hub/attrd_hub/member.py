@@ -6,7 +6,7 @@ from typing import TYPE_CHECKING, Callable, Dict, Optional, Set
 
 if TYPE_CHECKING:
     from .client import Client
-    from .hub import BlockSink, Hub, Sink
+    from .hub import Hub, Sink
 
 # The program forgets a mark whose node goes, and tells nobody. So when the names that came since the last time take so many bytes, and
 # more than all those that were right then, it is asked which of them are still there.
@@ -59,11 +59,6 @@ class Member:
         """Sends a command for a session of the server; `sink` gets the reply. Raises ServerLost."""
         self.hub.send(self, taken, command, sink)
         self.unanswered += 1
-
-    def send_block(self, lines: bytes, count: int, sink: "BlockSink") -> None:
-        """Sends so many lines, each of which asks and changes nothing; `sink` gets their replies. Raises ServerLost."""
-        self.hub.send_block(self, lines, count, sink)
-        self.unanswered += count
 
     def accepted(self, session: int, command: bytes) -> None:
         """Keeps which marks the sessions have."""

@@ -51,6 +51,7 @@ class Program:
             self._schedule = os.open(f"/proc/{self.number}/schedstat", os.O_RDONLY | os.O_CLOEXEC)
         self.unsent = bytearray()
         self._rest = b""
+        self._chunk = FIRST_CHUNK
 
     def times(self) -> Times:
         """How many seconds it ran so far, and how many it waited for a processor; where the system doesn't tell that, as what always runs."""
@@ -100,8 +101,12 @@ class Program:
         """The bytes that are there; None where there are none yet, and b"" at the end."""
         data = b""
         try:
-            data = os.read(self.output, FIRST_CHUNK)
-            return data + os.read(self.output, CHUNK) if len(data) == FIRST_CHUNK else data
+            data = os.read(self.output, self._chunk)
+            if len(data) == FIRST_CHUNK:
+                data += os.read(self.output, CHUNK)
+            # In the middle of a long reply more of it comes.
+            self._chunk = CHUNK if len(data) >= CHUNK else FIRST_CHUNK
+            return data
         except BlockingIOError:
             return data or None
         except OSError:

@@ -40,7 +40,7 @@ class Room:
         """Who has to go, since there is no room: of those with most bytes, or half as many, the one that has read nothing for longest."""
         if self.unread <= UNREAD_IN_ALL:
             return None
-        waiting = [it for it in clients if it.unread]
-        most = max((len(it.unread) for it in waiting), default=0)
-        full = [it for it in waiting if 2 * len(it.unread) >= most]
+        waiting = [it for it in clients if it.unread_bytes]
+        most = max((it.unread_bytes for it in waiting), default=0)
+        full = [it for it in waiting if 2 * it.unread_bytes >= most]
         return min(full, key=lambda it: it.drained) if full else None

@@ -277,9 +277,10 @@ class Service:
 
     def _slow(self, replies: bytes, now: float) -> Optional[Slow]:
         """Whose lines these replies answer, where one of them wasn't quick."""
-        lines = replies.count(b"\n")
-        if not lines:
+        # To look for one end takes a small part of what it takes to count them, where it is a part of a long reply.
+        if replies.find(b"\n") < 0:
             return None
+        lines = replies.count(b"\n")
         seconds = self.meter.look(self._answered, now, lines >= self.hub.in_flight)
         return Slow(self.hub.first(lines), seconds) if seconds > lines * QUICK_LINE else None
 

@@ -103,7 +103,7 @@ def figures_of(service: "Service") -> Dict[str, Figure]:
     return {
         **vars(service.counts), **service.waits.figures(), "hub_version": VERSION, "program_version": service.program_version,
         "version": service.hub.version, "clients": len(service.clients), "in_flight": service.hub.in_flight,
-        "unread": sum(len(it.unread) for it in service.clients), "seconds": round(time.monotonic() - service.began, 1),
+        "unread": sum(it.unread_bytes for it in service.clients), "seconds": round(time.monotonic() - service.began, 1),
         "journal_edits": journal.edits if journal is not None else None,
         "journal_bytes": journal.bytes if journal is not None else None,
         "hub_memory": memory_of("self"), "program_memory": memory_of(service.program.number), "kept": None}

@@ -173,28 +173,52 @@ class Case(unittest.TestCase):
 
 
 class LongReplies(Case):
-    def taken(self, length: int) -> float:
-        """The hub's processor time for one reply of about this length, in seconds: the least of two."""
-        hub = self.wide(length, "--nodes", "600000")
-        client = connected(hub.socket)
-        times = []
-        for _ in range(2):
-            before = processor_seconds(hub.process.pid)
+    SHORT, LONG = 8 * MEGABYTE, 32 * MEGABYTE
+    # So many times it is measured at most. What else the machine does only adds to a time, so the least one is the hub's own.
+    ROUNDS = 15
+
+    def taken(self, hub: Wide, client: socket.socket, times: int) -> float:
+        """The hub's processor time for so many replies with the whole tree, in seconds."""
+        before = processor_seconds(hub.process.pid)
+        room = bytearray(MEGABYTE)
+        for _ in range(times):
             client.sendall(b"0 show /\n")
-            got, last = 0, b""
-            while last[-1:] != b"\n":
-                last = client.recv(MEGABYTE)
-                got += len(last)
-            self.assertGreater(got, length * 9 // 10)
-            times.append(processor_seconds(hub.process.pid) - before)
-        client.close()
-        return min(times)
+            got = last = 0
+            while last != ord("\n"):
+                taken = client.recv_into(room)
+                got, last = got + taken, room[taken - 1]
+            self.assertGreater(got, hub.length * 9 // 10)
+        return processor_seconds(hub.process.pid) - before
 
     def test_processor_time_goes_with_the_length(self) -> None:
-        short = self.taken(4 * MEGABYTE)
-        long = self.taken(16 * MEGABYTE)
-        # Four times the length: in the square of it, it would be sixteen times.
-        self.assertLess(long, 8 * short, f"4 MB {short:.3f} s, 16 MB {long:.3f} s")
+        """A reply of 32 MB takes at most four times the time of one of 8 MB."""
+        hubs = [self.wide(it, "--nodes", "600000") for it in (self.SHORT, self.LONG)]
+        clients = [connected(it.socket) for it in hubs]
+        short, long = [], []
+        for _ in range(self.ROUNDS):
+            # As many bytes of each, so that both are measured for about as long.
+            short.append(self.taken(hubs[0], clients[0], self.LONG // self.SHORT))
+            long.append(self.taken(hubs[1], clients[1], 1))
+            if min(long) <= min(short):
+                break
+        for it in clients:
+            it.close()
+        self.assertLessEqual(min(long), min(short), f"one of 32 MB {min(long):.3f} s, four of 8 MB {min(short):.3f} s")
+
+    def test_a_slow_reader_has_all_of_it(self) -> None:
+        """In a session that has another number for the program, and with lines behind it."""
+        hub = self.wide(2 * MEGABYTE, "--nodes", "100000")
+        client, other = connected(hub.socket), hub.client()
+        self.addCleanup(client.close)
+        self.addCleanup(other.close)
+        shown = other.ask("0 show /")
+        client.sendall(b"17 mark u /Block/Stmt:0\n17 show /\n17 where u\n17 show /\n17 show $u\n")
+        replies = b""
+        while replies.count(b"\n") < 5:
+            replies += client.recv(100_000)
+            self.assertEqual(other.ask("0 version"), "0 ok 0")
+        told = ["ok 0", shown[2:], "= /Block/Stmt:0", shown[2:], '= Decl("x",-)']
+        self.assertEqual(replies.decode(), "".join(f"17 {it}\n" for it in told))
 
 
 class Marks(Case):

@@ -5,7 +5,7 @@ import unittest
 
 import hub_support  # noqa: F401
 from attrd import ServerLost
-from attrd_hub.hub import Hub, NoSession, Route, pass_over
+from attrd_hub.hub import LONG_REPLY, Hub, NoSession, Route, pass_over
 from attrd_hub.lines import Places, condition_moved, end_of_lines, first_lines, plain_session, split_line
 from attrd_hub.member import Member
 from attrd_hub.program import edit_lines
@@ -83,7 +83,7 @@ class Sessions(unittest.TestCase):
         member = Member(hub, lambda: None, lambda session, form: told.append((session, form)))
         replies = b"0 refused 3 mark\n0 = A()\n71 = B()\n1 refused 2 stale 4\n"
         for length in (1, 2, 3, 5, 17, 18, 25, 33, len(replies)):
-            member.send_block(b"0 where u\n0 show /\n", 2, told.append)
+            hub.send_block(Route(member, b"0", b"0", told.append), b"0 where u\n0 show /\n", 2)
             hub.send_question(Route(member, b"5", b"71", told.append), b"5 show /B\n")
             member.send(3, b"at 7 drop /A", told.append)
             self.assertEqual(hub.lines(), b"0 where u\n0 show /\n71 show /B\n1 at 2 drop /A\n")
@@ -94,6 +94,44 @@ class Sessions(unittest.TestCase):
             self.assertEqual((hub.in_flight, member.unanswered), (0, 0))
             told.clear()
         self.assertEqual(hub.answered, 36)
+
+    def test_a_long_reply_goes_on_part_by_part(self) -> None:
+        """Its first part has the client's session, the others go on as they are; its length is told with the last one."""
+        long = b"= " + b"x" * 100_000 + b"5 y" * 20_000
+        for length in (7_001, 40_000, 65_536):
+            for in_a_block in (False, True):
+                hub, told, parts = Hub(), [], []
+                member = Member(hub, lambda: None, lambda session, form: None)
+                route = Route(member, b"71", b"5", told.append, lambda data, whole, parts=parts: parts.append((data, whole)))
+                if in_a_block:
+                    hub.send_block(route, b"5 show /\n" * 3, 3)
+                else:
+                    for _ in range(3):
+                        hub.send_question(route, b"71 show /\n")
+                replies = b"5 = A()\n5 %b\n5 = B()\n" % long
+                for at in range(0, len(replies), length):
+                    hub.feed(replies[at:at + length])
+                    self.assertLess(at - sum(len(data) for data, _ in parts), LONG_REPLY + length)
+                self.assertEqual(b"".join(data for data, _ in parts), b"71 %b\n" % long)
+                self.assertEqual([whole for _, whole in parts if whole], [len(long) + 3])
+                self.assertEqual(b"".join(told), b"71 = A()\n71 = B()\n")
+                self.assertEqual((hub.in_flight, hub.answered, member.unanswered), (0, 3, 0))
+
+    def test_a_long_reply_that_nobody_takes_in_parts(self) -> None:
+        """It is put together, as that of the hub's own lines, and of a line while a posted question is open."""
+        hub, told = Hub(), []
+        member = Member(hub, lambda: None, lambda session, form: None)
+        route = Route(member, b"0", b"0", told.append, lambda data, whole: self.fail("a part"))
+        form = b"= " + b"x" * 200_000
+        hub.send(None, 0, b"show /", told.append)
+        hub.feed(b"0 %b" % form[:100_000])
+        hub.feed(form[100_000:] + b"\n")
+        member.send(7, b"post / a()", told.append)
+        hub.feed(b"1 open 1\n")
+        hub.send_question(route, b"0 show /\n")
+        hub.feed(b"0 %b" % form[:100_000])
+        hub.feed(form[100_000:] + b"\n")
+        self.assertEqual(told, [form, b"open 1", b"0 %b\n" % form])
 
     def test_plain_questions_while_a_posted_one_is_open(self) -> None:
         hub, told = Hub(), []
