@@ -16,7 +16,7 @@ from .lines import (EDITS, LINE_BYTES, QUESTIONS, REFUSED_LIMIT, REFUSED_SYNTAX,
 from .loop import GONE, READ, WRITE
 from .member import Member
 from .peers import peer_of
-from .turns import BYTES_A_SECOND, LONG, NEW, NEW_LATEST, QUICK
+from .turns import BYTES_A_SECOND, LONG, NEW, NEW_LATEST, QUICK_COST
 
 if TYPE_CHECKING:
     from .service import Service
@@ -77,8 +77,8 @@ class Client:
         self._is_last = self._is_gone = False
         # Less than nothing before its first line.
         self.charged: float = -math.inf
-        self.paid: float = QUICK
-        self.weight: float = QUICK
+        self.paid: float = QUICK_COST
+        self.weight: float = QUICK_COST
         self.expected: float = NEW
         self.latest: float = NEW_LATEST
         # Whether it has had no reply, and whether its last replies were charged for themselves.
@@ -149,7 +149,7 @@ class Client:
             return False
         service.at_once -= 1
         service.counts.lines += 1
-        self.paid = self.weight = QUICK
+        self.paid = self.weight = QUICK_COST
         service.hub.send_question(route, data)
         return True
 
@@ -219,12 +219,12 @@ class Client:
     @property
     def cost(self) -> float:
         """How many seconds of the program its next line is expected to take."""
-        return max(QUICK, self.expected, self._showing_cost())
+        return max(QUICK_COST, self.expected, self._showing_cost())
 
     @property
     def most_cost(self) -> float:
         """How many seconds its next line may take."""
-        return max(QUICK, self.latest, self._showing_cost())
+        return max(QUICK_COST, self.latest, self._showing_cost())
 
     def _showing_cost(self) -> float:
         """How long the program takes to show the whole tree, where the next line asks for that, and the tree is long."""
@@ -408,7 +408,7 @@ class Client:
         if self.is_ended:
             return
         unread = self.unread
-        if self.latest > QUICK:
+        if self.latest > QUICK_COST:
             # Where its last lines may not have been quick, these are looked at.
             self.service.ready.settle(self)
         try:

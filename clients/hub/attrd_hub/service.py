@@ -8,6 +8,7 @@ import socket
 import time
 from collections import Counter
 from contextlib import suppress
+from operator import attrgetter
 from pathlib import Path
 from typing import Dict, List, NamedTuple, Optional, Set, Tuple
 
@@ -31,7 +32,7 @@ from .settings import Settings
 from .sockets import file_at, listen_at, listen_tcp
 from .status import Counts, Waits, figures_of, status_path
 from .telling import Level, log, notify, shown
-from .turns import LONG, QUICK as QUICK_LINE, Turns
+from .turns import DOUBTED, LONG, QUICK as QUICK_LINE, Turns
 
 TICK_SECONDS = 0.5
 ACCEPTED_AT_ONCE = 32
@@ -260,7 +261,7 @@ class Service:
             return
         hub, now = self.hub, self.loop.now
         answered = hub.answered
-        slow = self._slow(data, now) if now - self._answered > QUICK or now > self.meter.next else None
+        slow = self._slow(data, now) if now - self._answered > QUICK or now > self.meter.next or answered < self.ready.until else None
         try:
             hub.feed(data)
         except ProtocolFault as fault:
@@ -276,23 +277,24 @@ class Service:
             self.waits.add(now - self._handed_on)
 
     def _slow(self, replies: bytes, now: float) -> Optional[Slow]:
-        """Whose lines these replies answer, where one of them wasn't quick."""
+        """Whose lines these replies answer, where one of them wasn't quick, or might have been so."""
         # To look for one end takes a small part of what it takes to count them, where it is a part of a long reply.
         if replies.find(b"\n") < 0:
             return None
         lines = replies.count(b"\n")
         seconds = self.meter.look(self._answered, now, lines >= self.hub.in_flight)
-        return Slow(self.hub.first(lines), seconds) if seconds > lines * QUICK_LINE else None
+        is_of_use = seconds > lines * QUICK_LINE or self.hub.answered < self.ready.until
+        return Slow(self.hub.first(lines), seconds) if is_of_use else None
 
     def _charge(self, slow: Slow, lines: int) -> None:
         """So many lines had replies: their clients are charged what these took, each its part, as far as it was expected; but where one
         that should have been quick took long, or the machine stood still, nobody knows whose it was."""
         counts = Counter(it.client for it in slow.members[:lines] if it is not None and it.client is not None)
-        weights = sum(count * it.weight for it, count in counts.items())
-        is_known = any(it.weight >= LONG for it in counts) or slow.seconds < weights + LONG
+        paid, most = (sum(count * one(it) for it, count in counts.items()) for one in (attrgetter("paid"), attrgetter("weight")))
+        is_known = any(it.weight >= LONG for it in counts) or slow.seconds < 2.0 * most + DOUBTED
         for it, count in counts.items():
             if is_known:
-                self.ready.charge(it, slow.seconds * it.weight / weights, count)
+                self.ready.charge(it, slow.seconds * it.paid / paid, count)
             else:
                 self.ready.doubt(it)
 

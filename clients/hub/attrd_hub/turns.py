@@ -3,7 +3,7 @@
 It is fair queueing by the program's time. A client's `charged` is how many seconds its lines have taken: each is charged what it is
 expected to take when it goes, and what it took when it has its reply. Of the clients with lines, that one goes first whose line would be
 over first, counted from what it is charged; `now` is where that was for the last one. So a quick line needn't wait for all long ones of
-the others. Who comes back after a pause begins no further than a moment before `now`: nobody saves up time.
+the others. Who comes back after a pause begins no further than a moment before `now`, and at `now` where nobody waits.
 
 A line that may be long goes alone: when it goes no other one is under way, and none goes before it has its reply. So who comes meanwhile
 waits for this one line at most, and how long it took is told exactly.
@@ -19,16 +19,20 @@ if TYPE_CHECKING:
     from .hub import Hub
     from .room import Room
 
-# All times are seconds of the program. A line that takes no longer is a quick one, and is charged so much.
-QUICK = 5e-5
+# All times are seconds of the program. A line is charged what it takes beyond the one, but the other at least: so equal quick lines
+# are charged equally, however exactly their time is known. A quick one is charged no more than that.
+FREE, QUICK_COST = 1e-4, 5e-5
+QUICK = FREE + QUICK_COST
 # What a line is charged at most, however long it took.
 MOST_CHARGED = 0.1
 # What is expected of a client's first line, and what it may take: until its reply nobody knows.
 NEW, NEW_LATEST = 1e-4, 5e-3
-# Of new clients each begins so much behind the one before: else many that come at once would all go before who is there.
+# The first lines of new clients are due so far from each other: else many that come at once would all go before who is there.
 APART = 2e-5
 # From so long on a line is a long one.
 LONG = 5e-4
+# Where lines take so much longer than they may, one was another one than those before it.
+DOUBTED = 2e-3
 # Lines that aren't quick are handed on together up to so many seconds.
 TOGETHER = 2e-3
 # Of what a client's lines took so much is expected of the next one.
@@ -45,23 +49,24 @@ class Turns:
 
     def __init__(self, room: "Room") -> None:
         self._room = room
-        self.now = self._newest = 0.0
+        self.now = self._newest = self._earliest = 0.0
         self.waiting: List[Entry] = []
         self.until = 0
         self._number = itertools.count()
 
     def add(self, client: "Client") -> None:
         """The client has lines."""
-        cost = client.cost if client.latest > QUICK or self._room.has_long_tree else QUICK
-        earliest = self.now - CREDIT
-        if client.charged < earliest:
-            client.charged = earliest if client.charged >= 0.0 else self._begin()
+        cost = client.cost if client.latest > QUICK_COST or self._room.has_long_tree else QUICK_COST
+        if not self.waiting:
+            # Nobody was held up: all begin anew.
+            self._earliest = self.now
+        if client.charged < 0.0:
+            client.charged = self.now
+            self._newest = max(self.now, self._newest + APART)
+            cost += self._newest - self.now
+        else:
+            client.charged = max(client.charged, self._earliest, self.now - CREDIT)
         heappush(self.waiting, (client.charged + cost, next(self._number), client))
-
-    def _begin(self) -> float:
-        """Where a new client begins."""
-        self._newest = max(self.now, self._newest + APART)
-        return self._newest
 
     def clear(self) -> None:
         """Nobody waits, and no line is under way."""
@@ -72,18 +77,18 @@ class Turns:
         """Has the first client hand on its line, or some quick ones, at most so many."""
         entry = heappop(self.waiting)
         client = entry[2]
-        if client.latest > QUICK or self._room.has_long_tree:
+        if client.latest > QUICK_COST or self._room.has_long_tree:
             self._serve_slow(entry, share, hub)
             return
         # As below, with less to be done for each.
         before = hub.in_flight
-        client.paid = client.weight = QUICK
+        client.paid = client.weight = QUICK_COST
         is_ready = client.is_ready = client.supply(share)
         if entry[0] > self.now:
             self.now = entry[0]
-        client.charged += QUICK * (hub.in_flight - before or 1)
+        client.charged += QUICK_COST * (hub.in_flight - before or 1)
         if is_ready:
-            heappush(self.waiting, (client.charged + QUICK, next(self._number), client))
+            heappush(self.waiting, (client.charged + QUICK_COST, next(self._number), client))
 
     def _serve_slow(self, entry: Entry, share: int, hub: "Hub") -> None:
         """As `serve`, for a client whose lines may not be quick."""
@@ -96,7 +101,7 @@ class Turns:
             heappush(self.waiting, entry)
             return
         client.paid, client.weight = cost, most
-        client.is_ready = client.supply(share if most <= QUICK else min(share, max(1, int(TOGETHER / most))))
+        client.is_ready = client.supply(share if most <= QUICK_COST else min(share, max(1, int(TOGETHER / most))))
         handed_on = hub.in_flight - before
         self.now = max(self.now, entry[0])
         client.charged += cost * max(1, handed_on)
@@ -107,12 +112,13 @@ class Turns:
 
     def charge(self, client: "Client", seconds: float, lines: int = 1) -> None:
         """So many lines of the client, whose replies came together, took so long each: that is charged in place of what was expected."""
-        taken = max(QUICK, min(MOST_CHARGED, seconds))
-        more = lines * (taken - client.paid)
-        client.charged += more
-        # One line alone may have seemed slow, since the machine was: it isn't expected again, but it may be so.
-        client.expected, client.latest = min(taken, client.latest), max(taken, client.latest * DECAY)
+        taken = min(MOST_CHARGED, max(QUICK_COST, seconds - FREE))
+        # One line among others may have seemed slow, since the machine was: what its client's lines may take is charged at most.
+        client.expected = min(taken, max(QUICK_COST, client.latest))
+        client.latest = max(taken, client.latest * DECAY)
         client.is_new, client.is_charged = False, True
+        more = lines * ((taken if client.weight >= LONG else client.expected) - client.paid)
+        client.charged += more
         # What nobody has paid beforehand goes on for all who wait.
         self.now += max(0.0, more) / (len(self.waiting) + 1)
 
@@ -126,5 +132,5 @@ class Turns:
         if client.is_charged:
             client.is_charged = False
             return
-        client.expected, client.latest = (QUICK, QUICK) if client.is_new else (client.expected * DECAY, client.latest * DECAY)
+        client.expected, client.latest = (QUICK_COST, QUICK_COST) if client.is_new else (client.expected * DECAY, client.latest * DECAY)
         client.is_new = False

@@ -9,7 +9,7 @@ from simulated import Machine, Program, Simulation
 
 from attrd_hub.meter import Meter
 from attrd_hub.room import Room
-from attrd_hub.turns import CREDIT, DECAY, LONG, MOST_CHARGED, NEW_LATEST, QUICK, Turns
+from attrd_hub.turns import CREDIT, DECAY, FREE, LONG, MOST_CHARGED, NEW_LATEST, QUICK, QUICK_COST, Turns
 
 CLIENTS = 64
 LINE = b"0 ask / slow()/x"
@@ -59,7 +59,7 @@ class Equal(unittest.TestCase):
     def test_an_unfair_hub_is_found(self) -> None:
         """One that goes by the clock."""
         with mock.patch("simulated.Meter", ClockMeter):
-            self.assertGreater(self.ratio(1e-3, Machine(stops=100), 30, 40), 2.0)
+            self.assertGreater(self.ratio(1e-3, Machine(stops=20), 30, 40), 2.0)
 
 
 class Unequal(unittest.TestCase):
@@ -112,31 +112,33 @@ class Charges(unittest.TestCase):
     def setUp(self) -> None:
         self.turns = Turns(Room())
 
-    def client(self, charged: float = 5.0, paid: float = QUICK, latest: float = QUICK) -> mock.Mock:
-        """A client whose lines were quick."""
-        return mock.Mock(charged=charged, paid=paid, expected=QUICK, latest=latest, is_new=False, is_charged=False)
+    def client(self, charged: float = 5.0, paid: float = QUICK_COST, latest: float = QUICK_COST) -> mock.Mock:
+        """A client with lines under way, which take no longer than `latest` as far as one knows."""
+        return mock.Mock(charged=charged, paid=paid, weight=latest, expected=QUICK_COST, latest=latest, cost=QUICK_COST, is_new=False,
+                         is_charged=False)
 
     def test_a_line_is_charged_what_it_took(self) -> None:
-        client = self.client()
-        self.turns.charge(client, 0.03)
-        self.assertAlmostEqual(client.charged, 5.03 - QUICK)
+        client = self.client(latest=LONG)
+        self.turns.charge(client, 0.03 + FREE)
+        self.assertAlmostEqual(client.charged, 5.03 - QUICK_COST)
 
     def test_who_paid_too_much_has_it_back(self) -> None:
-        client = self.client(paid=0.04)
-        self.turns.charge(client, 0.01)
+        client = self.client(paid=0.04, latest=0.04)
+        self.turns.charge(client, 0.01 + FREE)
         self.assertAlmostEqual(client.charged, 4.97)
 
     def test_a_line_that_takes_very_long_is_charged_less(self) -> None:
-        client = self.client()
+        client = self.client(latest=LONG)
         self.turns.charge(client, 20.0)
-        self.assertAlmostEqual(client.charged, 5.0 + MOST_CHARGED - QUICK)
+        self.assertAlmostEqual(client.charged, 5.0 + MOST_CHARGED - QUICK_COST)
 
-    def test_one_line_that_seems_slow_is_not_expected_again(self) -> None:
+    def test_one_line_among_others_that_seems_slow_is_not_charged(self) -> None:
         client = self.client()
-        self.turns.charge(client, 0.01)
-        self.assertEqual((client.expected, client.latest), (QUICK, 0.01))
-        self.turns.charge(client, 0.01)
-        self.assertEqual((client.expected, client.latest), (0.01, 0.01))
+        self.turns.charge(client, 0.01 + FREE)
+        self.assertEqual((client.charged, client.expected), (5.0, QUICK_COST))
+        self.assertAlmostEqual(client.latest, 0.01)
+        self.turns.charge(client, 0.01 + FREE)
+        self.assertAlmostEqual(client.charged, 5.01 - QUICK_COST)
 
     def test_quick_lines_are_believed_bit_by_bit(self) -> None:
         client = self.client(latest=0.01)
@@ -147,7 +149,7 @@ class Charges(unittest.TestCase):
         client = self.client(latest=NEW_LATEST)
         client.is_new = True
         self.turns.settle(client)
-        self.assertEqual((client.expected, client.latest, client.is_new), (QUICK, QUICK, False))
+        self.assertEqual((client.expected, client.latest, client.is_new), (QUICK_COST, QUICK_COST, False))
 
     def test_who_may_have_had_a_slow_line_is_as_new(self) -> None:
         client = self.client()
@@ -157,10 +159,22 @@ class Charges(unittest.TestCase):
         self.assertEqual(client.latest, NEW_LATEST)
 
     def test_nobody_saves_up_time(self) -> None:
-        client = self.client(charged=0.0)
+        first, late = self.client(charged=0.0), self.client(charged=0.0)
         self.turns.now = 1.0
-        self.turns.add(client)
-        self.assertAlmostEqual(client.charged, 1.0 - CREDIT)
+        self.turns.add(first)
+        # Where nobody waited all begin anew, and else a bit before the others.
+        self.assertAlmostEqual(first.charged, 1.0)
+        self.turns.now = 2.0
+        self.turns.add(late)
+        self.assertAlmostEqual(late.charged, 2.0 - CREDIT)
+
+    def test_new_clients_that_come_at_once_are_due_one_behind_the_other(self) -> None:
+        clients = [self.client(charged=-1.0, latest=NEW_LATEST) for _ in range(10)]
+        for it in clients:
+            self.turns.add(it)
+        due = [it[0] for it in sorted(self.turns.waiting)]
+        self.assertEqual(len(set(due)), 10)
+        self.assertEqual({it.charged for it in clients}, {0.0})
 
 
 class Simulated(unittest.TestCase):
