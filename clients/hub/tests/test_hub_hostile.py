@@ -225,19 +225,27 @@ class Marks(Case):
     def memory(self, hub: Hub) -> int:
         return int(asked(hub.socket)["hub_memory"] or 0)
 
-    def test_marks_whose_nodes_went_take_no_memory(self) -> None:
-        """The names take 30 MB in all."""
+    def gone(self, rounds: int, name: int) -> None:
+        """In each round a node goes that has fifty marks, whose names have so many bytes."""
         hub = self.hub("--sync", "never")
         client = hub.client()
-        lines = [*(f"0 mark m{{}}_{it}{'x' * 6_000} /Block/Stmt:0" for it in range(50)), '0 set /Block/Stmt:0 Decl("x",-)']
+        lines = [*(f"0 mark m{{}}_{it}{'x' * name} /Block/Stmt:0" for it in range(50)), '0 set /Block/Stmt:0 Decl("x",-)']
         before = self.memory(hub)
-        for number in range(100):
+        for number in range(rounds):
             client.send(*(it.format(number) for it in lines))
             for _ in lines:
                 self.assertRegex(client.reply(), "^0 ok ")
         self.assertLess(self.memory(hub) - before, 20 << 10)
-        self.assertEqual(client.ask("0 mark last /Block"), "0 ok 100")
+        self.assertEqual(client.ask("0 mark last /Block"), f"0 ok {rounds}")
         self.assertEqual(client.ask("0 where last"), "0 = /Block")
+
+    def test_marks_with_long_names_whose_nodes_went_take_no_memory(self) -> None:
+        """The names take 30 MB in all."""
+        self.gone(100, 6_000)
+
+    def test_a_hundred_thousand_marks_whose_nodes_went_take_no_memory(self) -> None:
+        """The names, with what Python takes for each, are more than 25 MB."""
+        self.gone(2_000, 200)
 
     def test_a_client_that_leaves_with_many_marks_holds_up_nobody(self) -> None:
         """Thirty marks in each of a hundred sessions, all with long names: while they are taken back others are served."""
