@@ -8,7 +8,6 @@ import socket
 import time
 from collections import Counter
 from contextlib import suppress
-from operator import attrgetter
 from pathlib import Path
 from typing import Dict, List, NamedTuple, Optional, Set, Tuple
 
@@ -290,7 +289,8 @@ class Service:
         """So many lines had replies: their clients are charged what these took, each its part, as far as it was expected; but where one
         that should have been quick took long, or the machine stood still, nobody knows whose it was."""
         counts = Counter(it.client for it in slow.members[:lines] if it is not None and it.client is not None)
-        paid, most = (sum(count * one(it) for it, count in counts.items()) for one in (attrgetter("paid"), attrgetter("weight")))
+        paid = sum(count * it.paid for it, count in counts.items())
+        most = sum(count * it.weight for it, count in counts.items())
         is_known = any(it.weight >= LONG for it in counts) or slow.seconds < 2.0 * most + DOUBTED
         for it, count in counts.items():
             if is_known:

@@ -114,7 +114,9 @@ class Turns:
         """So many lines of the client, whose replies came together, took so long each: that is charged in place of what was expected."""
         taken = min(MOST_CHARGED, max(QUICK_COST, seconds - FREE))
         # One line among others may have seemed slow, since the machine was: what its client's lines may take is charged at most.
-        client.expected = min(taken, max(QUICK_COST, client.latest))
+        expected = min(taken, max(QUICK_COST, client.latest))
+        # Whose lines take long now and then is known from lines that went alone.
+        client.expected = max(expected, client.expected * DECAY) if client.weight >= LONG else expected
         client.latest = max(taken, client.latest * DECAY)
         client.is_new, client.is_charged = False, True
         more = lines * ((taken if client.weight >= LONG else client.expected) - client.paid)
