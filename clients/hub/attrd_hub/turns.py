@@ -119,7 +119,8 @@ class Turns:
         client.expected = max(expected, client.expected * DECAY) if client.weight >= LONG else expected
         client.latest = max(taken, client.latest * DECAY)
         client.is_new, client.is_charged = False, True
-        more = lines * ((taken if client.weight >= LONG else client.expected) - client.paid)
+        # Also of one that went alone no more than twice what it might take: the system may have had the processor meanwhile.
+        more = lines * ((min(taken, 2.0 * client.weight) if client.weight >= LONG else client.expected) - client.paid)
         client.charged += more
         # What nobody has paid beforehand goes on for all who wait.
         self.now += max(0.0, more) / (len(self.waiting) + 1)

@@ -118,7 +118,7 @@ class Charges(unittest.TestCase):
                          is_charged=False)
 
     def test_a_line_is_charged_what_it_took(self) -> None:
-        client = self.client(latest=LONG)
+        client = self.client(latest=0.02)
         self.turns.charge(client, 0.03 + FREE)
         self.assertAlmostEqual(client.charged, 5.03 - QUICK_COST)
 
@@ -128,9 +128,14 @@ class Charges(unittest.TestCase):
         self.assertAlmostEqual(client.charged, 4.97)
 
     def test_a_line_that_takes_very_long_is_charged_less(self) -> None:
-        client = self.client(latest=LONG)
+        client = self.client(latest=MOST_CHARGED)
         self.turns.charge(client, 20.0)
         self.assertAlmostEqual(client.charged, 5.0 + MOST_CHARGED - QUICK_COST)
+
+    def test_a_line_that_seems_much_slower_than_it_might_be_is_charged_twice_that(self) -> None:
+        client = self.client(latest=LONG)
+        self.turns.charge(client, 0.03)
+        self.assertAlmostEqual(client.charged, 5.0 + 2 * LONG - QUICK_COST)
 
     def test_one_line_among_others_that_seems_slow_is_not_charged(self) -> None:
         client = self.client()
