@@ -11,6 +11,7 @@ waits for this one line at most, and how long it took is told exactly.
 from __future__ import annotations
 
 import itertools
+import math
 from heapq import heappop, heappush
 from typing import TYPE_CHECKING, List, Tuple
 
@@ -96,9 +97,11 @@ class Turns:
         cost, most = client.cost, client.most_cost
         before = hub.in_flight
         if most >= LONG and before > hub.chores.under_way:
-            # It is its turn, but others are under way.
+            # It is its turn, but others are under way. Behind these it is first: else each quick line that comes meanwhile, and is due
+            # before it, would go alone, too.
             self.until = hub.answered + before
-            heappush(self.waiting, entry)
+            self.now = max(self.now, entry[0])
+            heappush(self.waiting, (-math.inf, entry[1], client))
             return
         client.paid, client.weight = cost, most
         client.is_ready = client.supply(share if most <= QUICK_COST else min(share, max(1, int(TOGETHER / most))))
@@ -117,7 +120,8 @@ class Turns:
         expected = min(taken, max(QUICK_COST, client.latest))
         # Whose lines take long now and then is known from lines that went alone.
         client.expected = max(expected, client.expected * DECAY) if client.weight >= LONG else expected
-        client.latest = max(taken, client.latest * DECAY)
+        # Of a new client nothing was known: its first line tells.
+        client.latest = taken if client.is_new else max(taken, client.latest * DECAY)
         client.is_new, client.is_charged = False, True
         # Also of one that went alone no more than twice what it might take: the system may have had the processor meanwhile.
         more = lines * ((min(taken, 2.0 * client.weight) if client.weight >= LONG else client.expected) - client.paid)

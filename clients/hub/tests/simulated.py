@@ -50,6 +50,7 @@ class Program:
         self._done: List[bytes] = []
         self.now = self._free = self._ran = self._waited = self._counted = self._since = 0.0
         self._next: Optional[Tuple[float, float, float]] = None
+        self._version = 0
 
     def send(self, data: bytes) -> None:
         """Takes lines."""
@@ -66,6 +67,13 @@ class Program:
         stops = self._machine.pause if self._machine.stops and self._chance.random() < 1.0 / self._machine.stops else 0.0
         return max(self._free, came) + runs + waits + stops, runs, waits
 
+    def _reply(self, line: bytes) -> bytes:
+        """An edit is accepted, and of a question the client's number is the answer."""
+        if line.startswith(b"0 token "):
+            self._version += 1
+            return b"0 ok %d\n" % self._version
+        return b"0 = %b\n" % line.rsplit(b":", 1)[1]
+
     def until(self, now: float) -> None:
         """Goes on up to this time."""
         self.now = now
@@ -77,7 +85,7 @@ class Program:
             self._ran, self._waited = self._ran + runs, self._waited + waits
             _, line = self._lines.popleft()
             self.order.append(int(line.rsplit(b":", 1)[1]))
-            self._done.append(b"0 = %b\n" % line.rsplit(b":", 1)[1])
+            self._done.append(self._reply(line))
             self._free, self._next = end, None
             if end - self._since >= TICK:
                 self._since, self._counted = end - end % TICK, self._ran
@@ -169,6 +177,8 @@ class Simulation:
             self.clients = [Client(self.service, it) for it in self.streams]  # type: ignore[arg-type]
         self.sent: Dict[int, int] = dict.fromkeys(range(len(lines)), 0)
         self.ahead = ahead
+        # For how long the hub is held up in its turn, beside its own work.
+        self.held_up = 0.0
 
     def _send(self) -> None:
         """Has each client send what it has to: so many lines are ahead of its replies."""
@@ -190,7 +200,8 @@ class Simulation:
                 service._on_output(0)
             self._send()
             service._hand_on()
-            now += TURN + LINE * (service.hub.answered - before)
+            now += TURN + LINE * (service.hub.answered - before) + self.held_up
+            self.held_up = 0.0
             if self.machine.lates and self.chance.random() < 1.0 / self.machine.lates:
                 now += self.machine.pause
             if not service.ready.waiting or not service.has_room():

@@ -1,15 +1,18 @@
 """Who is served when, over a program and a clock that are made here: equal questions have equal turns, however the machine is."""
 from __future__ import annotations
 
+import tempfile
 import unittest
+from pathlib import Path
 from typing import Callable, Dict, List
 from unittest import mock
 
 from simulated import Machine, Program, Simulation
 
+from attrd_hub.journal import Journal
 from attrd_hub.meter import Meter
 from attrd_hub.room import Room
-from attrd_hub.turns import CREDIT, DECAY, FREE, LONG, MOST_CHARGED, NEW_LATEST, QUICK, QUICK_COST, Turns
+from attrd_hub.turns import CREDIT, DECAY, FREE, LONG, MOST_CHARGED, NEW, NEW_LATEST, QUICK, QUICK_COST, Turns
 
 CLIENTS = 64
 LINE = b"0 ask / slow()/x"
@@ -77,6 +80,34 @@ class Unequal(unittest.TestCase):
         found = self.found([1e-3] * 8 + [4e-3] * 8, 2_000)
         quick, slow = sum(found[it] for it in range(8)), sum(found[it] for it in range(8, 16))
         self.assertTrue(2.5 < quick / slow < 6.0, found)
+
+
+class Edits(unittest.TestCase):
+    """Quick edits, each client's one after the other, which are made safe before they are told; that takes two milliseconds each time."""
+
+    EDIT = b"0 token /Block/Stmt:0 ID y"
+    EDITS = 20
+
+    def times_safe(self, machine: Machine) -> int:
+        """How often edits are made safe until each client has had as many as said, on average."""
+        simulation = Simulation([self.EDIT] * CLIENTS, lambda _: 1e-5, machine, 1, 1)
+
+        def make_safe(_: int) -> None:
+            simulation.held_up += 2e-3
+        with tempfile.TemporaryDirectory() as folder:
+            tree = Path(folder) / "tree.txt"
+            tree.write_text("Program(-)\n")
+            journal = simulation.service.journal = Journal(Path(folder) / "state", "each")
+            journal.open(tree)
+            with mock.patch("os.fdatasync", side_effect=make_safe) as safe:
+                simulation.run(CLIENTS * self.EDITS)
+            journal.close()
+        return safe.call_count
+
+    def test_those_of_many_clients_are_made_safe_together(self) -> None:
+        """The first one of each client goes alone, and some go between two of these; of the others not even three times in a round."""
+        for machine in (Machine(), Machine(share=0.3)):
+            self.assertLess(self.times_safe(machine), 2 * CLIENTS + 3 * self.EDITS)
 
 
 class Times(unittest.TestCase):
@@ -155,6 +186,13 @@ class Charges(unittest.TestCase):
         client.is_new = True
         self.turns.settle(client)
         self.assertEqual((client.expected, client.latest, client.is_new), (QUICK_COST, QUICK_COST, False))
+
+    def test_a_new_client_whose_first_line_was_quick_is_quick(self) -> None:
+        """Also where that line went alone, as it does."""
+        client = self.client(paid=NEW, latest=NEW_LATEST)
+        client.is_new = True
+        self.turns.charge(client, QUICK_COST)
+        self.assertEqual((client.latest, client.is_new), (QUICK_COST, False))
 
     def test_who_may_have_had_a_slow_line_is_as_new(self) -> None:
         client = self.client()
