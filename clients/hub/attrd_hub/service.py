@@ -86,9 +86,10 @@ class Service:
         self._is_stopping = self._is_running = self._has_ended = self._is_renewing = False
         self.began = self._started = time.monotonic()
         self._told: Tuple[int, int] = (0, 0)
-        # When the last reply came, or the first line behind it went to the program; and how many lines were under way then.
+        # When the last reply came, or the first line behind it went to the program; and how many lines have gone there since its start:
+        # the hub's lines under way are more than these, where some wait for the end of a turn.
         self._answered = 0.0
-        self._in_flight = 0
+        self._sent = 0
         self._waiting = self.ready.waiting
         # So many questions may go to the program as they come, before the next lines are handed on by turns: none where a client waits.
         self.at_once = 0
@@ -203,10 +204,11 @@ class Service:
             self._supply()
         hub = self.hub
         if hub.out:
-            if not self._in_flight:
-                self._in_flight, self._answered = hub.in_flight, self.clock()
+            if hub.answered >= self._sent:
+                self._answered = self.clock()
                 if hub.answered < self.ready.until:
                     self.meter.mark()
+            self._sent = hub.answered + hub.in_flight
             self.program.send(hub.lines())
             if self.loop.now >= self.pace.next:
                 self.pace.begin(hub.answered, hub.in_flight, self.loop.now)
@@ -216,6 +218,9 @@ class Service:
                 self._await_room()
         if self.journal is not None and self.journal.pending:
             self.journal.commit()
+            if hub.answered >= self.ready.until:
+                # Replies may be there for a while: how long lines took that go together counts from now on.
+                self._answered = self.clock()
         if self.dirty:
             dirty, self.dirty = self.dirty, []
             for client in dirty:
@@ -267,7 +272,7 @@ class Service:
             log(Level.ERROR, str(fault))
             self._has_ended = True
         if hub.answered != answered:
-            self._answered, self._in_flight = now, hub.in_flight
+            self._answered = now
             if slow is not None:
                 self._charge(slow, hub.answered - answered)
             self.at_once = 0 if self._waiting or hub.answered < self.ready.until else self.pace.most - hub.in_flight
@@ -281,7 +286,7 @@ class Service:
         if replies.find(b"\n") < 0:
             return None
         lines = replies.count(b"\n")
-        seconds = self.meter.look(self._answered, now, lines >= self.hub.in_flight)
+        seconds = self.meter.look(self._answered, now, self.hub.answered + lines >= self._sent)
         is_of_use = seconds > lines * QUICK_LINE or self.hub.answered < self.ready.until
         return Slow(self.hub.first(lines), seconds) if is_of_use else None
 
@@ -336,7 +341,7 @@ class Service:
         """The program has ended: all clients are told by the end of their connections, and it is started again. Whether it is."""
         self.hub.lose()
         self.ready.clear()
-        self.at_once = self._in_flight = 0
+        self.at_once = self._sent = 0
         self._forget_program()
         if self.journal is None or self._is_stopping:
             log(Level.ERROR, "the program has ended")

@@ -167,7 +167,7 @@ class Simulation:
         self.service = Service(Settings("", [], [], ""))
         self.service.loop.close()
         self.loop = self.service.loop = Loop()  # type: ignore[assignment]
-        self.service.clock = lambda: self.loop.now
+        self.service.clock = lambda: self.loop.now + self.held_up
         self.program = Program(cost, machine, self.chance)
         self.service.program = self.program  # type: ignore[assignment]
         self.service.pace, self.service.meter = Pace(self.program.times), Meter(self.program.times, 0.0)
