@@ -82,6 +82,41 @@ class Unequal(unittest.TestCase):
         self.assertTrue(2.5 < quick / slow < 6.0, found)
 
 
+class Late(unittest.TestCase):
+    """A hub that looks at replies late."""
+
+    def setUp(self) -> None:
+        self.simulation = Simulation([LINE] * 2, lambda _: 1e-5, Machine(noise=0.0), 1, 1)
+
+    def send(self, client: int) -> None:
+        """The client sends a line, which the hub reads."""
+        self.simulation.streams[client].lines = self.simulation.lines[client]
+        self.simulation.clients[client]._on_event(1)
+
+    def answer(self, now: float) -> None:
+        """The hub reads the replies that are there at this time."""
+        self.simulation.loop.now = now
+        self.simulation.program.until(now)
+        self.simulation.service._on_output(0)
+
+    def test_a_line_that_waits_for_the_end_of_a_turn_is_not_under_way(self) -> None:
+        service, clients = self.simulation.service, self.simulation.clients
+        for client, now in ((0, 0.1), (1, 0.2)):
+            self.send(client)
+            service._hand_on()
+            self.answer(now)
+            service._hand_on()
+        self.send(0)
+        service._hand_on()
+        self.assertEqual([it.member.unanswered for it in clients], [1, 0])
+        # While the hub stands still for five milliseconds there is a reply, and the other client sends a line.
+        self.send(1)
+        self.assertEqual([it.member.unanswered for it in clients], [1, 1])
+        self.answer(0.205)
+        self.assertEqual([it.member.unanswered for it in clients], [0, 1])
+        self.assertEqual([it.latest for it in clients], [QUICK_COST, QUICK_COST])
+
+
 class Edits(unittest.TestCase):
     """Quick edits, each client's one after the other, which are made safe before they are told; that takes two milliseconds each time."""
 
