@@ -48,7 +48,7 @@ aspect A {
   public int A.b() { int n = 0; for (B b : getBList()) n++; return n; } //: J10/5
   public int A.c() { for (B b : getBList()) n++; return 2; } //: J10/5
   public void A.d() { System.out.println(1); } //: J10/4
-  syn boolean A.e() { for (B b : getBs()) if (b.f()) return true; return false; } //: J3/15
+  syn boolean A.e() { for (B b : getBs()) if (b.f()) return true; return false; }
   public boolean B.f() { return g(); } //: J3/0
   syn boolean A.h() { while (true) return true; return false; } //: J10/5
   syn boolean A.i() { for (B b : getBList()) if (b.f()) return 1; return false; } //: J4/0
