@@ -79,8 +79,8 @@ pub record PutsIn (slot : ℕ) (instance : Instance ℕ) (value : Option (Value 
   pub spared : (k : ℕ) (e : Info) → m k ≡ Some e → (k ≡ slot → ⊥) → (standing_of standings k).traced ≡ true
       → ((standing_of later k).traced ≡ true) ⊎ (IsUser m slot k e × IsAnother m slot value)
 
--- The entry of i came to be kept, by that number, or all that is kept is what it was. It is found, and so is what can be kept again; of what is
--- remembered no more is lost than by a put.
+-- The entry of i came to be kept, by that number, or all that is kept is what it was and no trace came. It is found, and so is what can be kept
+-- again; of what is remembered no more is lost than by a put.
 pub record EntersHeld {E : Type 0} (i : Instance ℕ) (v : Option (Value ℕ)) (looked : List (Location ℕ)) (taken : List (Instance ℕ)) (o : Order)
     (number : ℕ) (lists : Location ℕ → List Edge) (old : Cut) (later : Location ℕ → List Edge) (new : Cut) (r : Result (Unit {0}) E) : Type 0 where
   pub indexed : IsIndexed later (number + 1) (held new.standings.items (memory_of new.entries))
@@ -88,5 +88,6 @@ pub record EntersHeld {E : Type 0} (i : Instance ℕ) (v : Option (Value ℕ)) (
   pub valued : AreValued new.standings.items (memory_of new.entries)
   pub puts : OnOk r (Puts (kept_cut lists old number) i v looked taken (kept_cut later new (number + 1)))
   pub err : OnErr r (KeepsAll (kept_cut lists old number) (kept_cut later new (number + 1)))
+  pub fails : OnErr r (StayTraced (remembered_cut lists old) (remembered_cut later new))
   pub traces : PutsTrace i v looked taken o (remembered_cut lists old) (remembered_cut later new)
   pub spares : SparesOthers i (kept_cut later new (number + 1)) (remembered_cut lists old) (remembered_cut later new)

@@ -66,7 +66,8 @@ pub trait Keeper: Drop {
         ensures puts { OnOk result (Puts (contents self.old) inst (option_map value_view value) (map loc_view reads.now) uses.now (contents self.new)) }
         ensures err { OnErr result (KeepsAll (contents self.old) (contents self.new)) }
         ensures traces { PutsTrace inst (option_map value_view value) (map loc_view reads.now) uses.now order (memories self.old) (memories self.new) }
-        ensures spares { SparesOthers inst (contents self.new) (memories self.old) (memories self.new) };
+        ensures spares { SparesOthers inst (contents self.new) (memories self.old) (memories self.new) }
+        ensures fails { OnErr result (StayTraced (memories self.old) (memories self.new)) };
 
     /// Whether an instance that has no entry has a trace: it can be kept again once all that was used for it is.
     fn has_trace(&self, inst: &Inst) -> bool

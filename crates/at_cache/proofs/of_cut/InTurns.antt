@@ -1,8 +1,8 @@
 -- Memories that differ in whether turns keep again what can be.
-use Rattle.std.proofs.Common.{ℕ, Bool, inl, inr}
+use Rattle.std.proofs.Common.{ℕ, Bool, Err, Ok, OnErr, Result, inl, inr}
 use Rattle.at_model.specs.Run.{Instance}
 use Rattle.at_cache.specs.Kept.{Entries}
-use Rattle.at_cache.specs.Traced.{IsNext, IsOutdated, IsSpared, Memories, Settled, SparesOthers, Trace, below, itself, nothing, one_more}
+use Rattle.at_cache.specs.Traced.{IsNext, IsOutdated, IsSpared, Memories, Settled, SparesOthers, StayTraced, Trace, below, itself, nothing, one_more}
 
 -- the same, and turns keep it again, if so
 abbrev pub with_turns : Bool → Memories → Memories
@@ -26,6 +26,10 @@ module _ (b c : Bool) (old new : Memories) where
   spared_in_turns : (i : Instance ℕ) (t : Trace) → IsSpared old new i t → IsSpared (with_turns b old) (with_turns c new) i t
   spared_in_turns i t (inl there) = inl there
   spared_in_turns i t (inr gone) = inr (outdated_in_turns t gone)
+
+  pub fails_in_turns : {E : Type 0} (r : Result (Unit {0}) E) → OnErr r (StayTraced old new) → OnErr r (StayTraced (with_turns b old) (with_turns c new))
+  fails_in_turns (Ok p) h = tt
+  fails_in_turns (Err e) h = λ i t traced. let s = h i t traced in record { traced = s.traced; value = s.value; uses = s.uses }
 
   pub spares_in_turns : (i : Instance ℕ) (after : Entries) → SparesOthers i after old new → SparesOthers i after (with_turns b old) (with_turns c new)
   spares_in_turns i after h = record { spares = λ j t differs was. spared_in_turns j t (h.spares j t differs was); last = h.last }

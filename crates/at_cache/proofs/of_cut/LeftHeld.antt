@@ -19,7 +19,7 @@ use Rattle.at_cache.specs.Recorded.{IsIndexed, covers}
 use Rattle.at_cache.specs.Renewing.{EntersHeld}
 use Rattle.at_cache.specs.Shedding.{kept_cut}
 use Rattle.at_cache.specs.Standings.{AreValued, IsTied, alive, held, is_alive, kept_held, remembered, shown, standing_of}
-use Rattle.at_cache.specs.Traced.{KeepsTrace, PutsTrace, SparesOthers}
+use Rattle.at_cache.specs.Traced.{KeepsTrace, SparesOthers, StayTraced}
 use Rattle.at_cache.proofs.of_cut.Alive.{tied_on}
 use Rattle.at_cache.proofs.of_cut.Lifting.{kept_still, stale_held}
 use Rattle.at_cache.proofs.Listing.{reads_none, uses_none}
@@ -55,9 +55,7 @@ pub record Left (lists later : Location ℕ → List Edge) (told tnew : Table) (
   pub tied : IsTied later (puts + 1) ts (memory_of tnew)
   pub valued : AreValued ts (memory_of tnew)
   pub err : KeepsAll (kept_held lists told st puts) (kept_held later tnew ts (puts + 1))
-  pub traces : (i : Instance ℕ) (v : Option (Value ℕ)) (reads : List (Location ℕ)) (uses : List (Instance ℕ))
-      (o : Order)
-      → PutsTrace i v reads uses o (remembered lists told st) (remembered later tnew ts)
+  pub stay : StayTraced (remembered lists told st) (remembered later tnew ts)
   pub spares : (i : Instance ℕ) (after : Entries) → SparesOthers i after (remembered lists told st) (remembered later tnew ts)
 
 module _ (lists later : Location ℕ → List Edge) (told tnew : Table)
@@ -108,8 +106,8 @@ module _ (lists later : Location ℕ → List Edge) (told tnew : Table)
         ap (λ (n : Info). is_some n.value) is ∙ v k e there (ap (λ (s : Standing). s.traced) (sym (same k)) ∙ on);
     err = λ j. kept_alike st ts same later tnew (puts + 1) j
         ∙ kept_still st told tnew lists later puts x reads links i stamp r u j;
-    traces = λ i v reads uses o j trace h. inl (stale_traces lists later told tnew st ts t stamp r u.there was
-        (λ k. ap (λ (s : Standing). s.traced) (same k)) j trace h);
+    stay = λ j trace h. stale_traces lists later told tnew st ts t stamp r u.there was
+        (λ k. ap (λ (s : Standing). s.traced) (same k)) j trace h;
     spares = λ i after. record {
       spares = λ j trace apart traced. inl (trace_left j trace traced);
       last = λ j. inl (last_left j);
@@ -125,6 +123,11 @@ module _ (lists : Location ℕ → List Edge) (told : Table) (st : List Standing
   left_alone ts same = left lists lists told told st ts {x = record { slot = 0; stamp = puts }} i t v refl same
       (reads_none _ _ _) (uses_none _ _ _)
 
+-- what holds whatever came
+pub on_err : {A E : Type 0} (r : Result (Unit {0}) E) → A → OnErr r A
+on_err (Ok p) a = tt
+on_err (Err e) a = a
+
 -- so the entry didn't come to be kept
 pub enters_none : {E : Type 0} (i : Instance ℕ) (v : Option (Value ℕ)) (looked : List (Location ℕ))
     (taken : List (Instance ℕ)) (o : Order) (number : ℕ) (lists : Location ℕ → List Edge) (old : Cut)
@@ -136,8 +139,9 @@ enters_none {E = E} i v looked taken o number lists old later new k r off = reco
   tied = k.tied;
   valued = k.valued;
   puts = puts r off;
-  err = err r;
-  traces = k.traces i v looked taken o;
+  err = on_err r k.err;
+  fails = on_err r k.stay;
+  traces = λ j trace h. inl (k.stay j trace h);
   spares = k.spares i (kept_cut later new (number + 1));
 }
   where
@@ -145,7 +149,3 @@ enters_none {E = E} i v looked taken o number lists old later new k r off = reco
         → OnOk r (Puts (kept_cut lists old number) i v looked taken (kept_cut later new (number + 1)))
     puts (Ok p) off = absurd off
     puts (Err e) off = tt
-
-    err : (r : Result (Unit {0}) E) → OnErr r (KeepsAll (kept_cut lists old number) (kept_cut later new (number + 1)))
-    err (Ok p) = tt
-    err (Err e) = k.err

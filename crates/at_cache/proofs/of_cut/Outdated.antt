@@ -17,46 +17,17 @@ use Rattle.at_cache.specs.Kept.{KeepsAll}
 use Rattle.at_cache.specs.Recorded.{IsIndexed, edge_to, is_listed}
 use Rattle.at_cache.specs.Renewing.{IsAwaited, IsSlotFor, StaysAwaited}
 use Rattle.at_cache.specs.Slots.{outdated}
-use Rattle.at_cache.specs.Standings.{IsChanged, IsTied, held, instances_in, is_alive, is_tied, kept_held, last_of, remembered, shown, standing_of, trace_of, untraced}
-use Rattle.at_cache.specs.Traced.{KeepsTrace, Memories, PutsTrace, StayTraced, Trace}
+use Rattle.at_cache.specs.Standings.{IsChanged, IsTied, held, instances_in, is_alive, is_tied, kept_held, remembered, shown, standing_of, trace_of, untraced}
+use Rattle.at_cache.specs.Traced.{IsStill, KeepsTrace, Memories, PutsTrace, StayTraced, Trace}
 use Rattle.at_cache.proofs.Index.{kept_at}
 use Rattle.at_cache.proofs.of_cut.Again.{held_off, tied_there}
 use Rattle.at_cache.proofs.of_cut.Flushed.{shown_held}
 use Rattle.at_cache.proofs.of_cut.Goes.{stay_traced}
-use Rattle.at_cache.proofs.of_cut.HeldSlots.{entry_in, kept_slot, slot_of}
+use Rattle.at_cache.proofs.of_cut.HeldSlots.{entry_in, kept_slot}
 use Rattle.at_cache.proofs.of_cut.LeftHeld.{Left, left_alone}
-use Rattle.at_cache.proofs.of_cut.Retraced.{last_slot, names, trace_is, traced_in, traced_of, traced_slot}
-use Rattle.at_cache.proofs.of_cut.Spared.{kept_trace}
+use Rattle.at_cache.proofs.of_cut.Retraced.{names, trace_is, traced_in, traced_of, traced_slot}
+use Rattle.at_cache.proofs.of_cut.Spared.{kept_trace, last_at}
 use Rattle.at_cache.proofs.Showing.{same_of}
-
--- where the same entries are there, with the same values, the last values are the same
-module _ (lists : Location ℕ → List Edge) (told tnew : Table) (st ts : List Standing)
-    (stays : (k : ℕ) (g : Info) → memory_of told k ≡ Some g
-    → (f : Info) × (memory_of tnew k ≡ Some f) × (f.instance ≡ g.instance))
-    (was : (k : ℕ) (f : Info) → memory_of tnew k ≡ Some f
-    → (g : Info) × (memory_of told k ≡ Some g) × (f.instance ≡ g.instance) × (f.value ≡ g.value)) where
-  pub last_still : (j : Instance ℕ) → (remembered lists tnew ts).last j ≡ (remembered lists told st).last j
-  last_still j = by (lookup (same_instance j) tnew.entries.entries) refl (lookup (same_instance j) told.entries.entries)
-      refl
-    where
-      by : (a : Option Entry) → lookup (same_instance j) tnew.entries.entries ≡ a
-          → (b : Option Entry) → lookup (same_instance j) told.entries.entries ≡ b
-          → (remembered lists tnew ts).last j ≡ (remembered lists told st).last j
-      by None is None had = ap last_of is ∙ sym (ap last_of had)
-      by (Some x) is b had =
-          let (f, now, its) = slot_of tnew j x is in
-          let (g, there, named, value) = was x.slot f now in
-          ap (remembered lists tnew ts).last (sym its)
-          ∙ last_slot lists tnew ts x.slot f now
-          ∙ value
-          ∙ sym (last_slot lists told st x.slot g there)
-          ∙ ap (remembered lists told st).last (sym named ∙ its)
-      by None is (Some y) had =
-          let (g, there, its) = slot_of told j y had in
-          let (f, now, named) = stays y.slot g there in
-          let (x, found, at_s, value) = entry_in tnew y.slot f now in
-          absurd (none-some x (sym (subst (λ i. lookup (same_instance i) tnew.entries.entries ≡ None)
-          (sym (named ∙ its)) is) ∙ found))
 
 -- where an instance's entry is in the slot, that is its slot
 module _ (t : Table) (i : Instance ℕ) (slot : ℕ) (x : Entry)
@@ -250,6 +221,9 @@ module _ (lists : Location ℕ → List Edge) (told tnew : Table) (st ts : List 
       ap (λ us. us ++ instances_in (memory_of told) ps) (names_same p)
       ∙ ap (λ us. names (memory_of tnew p) ++ us) (instances_same ps)
 
+  last_same : (j : Instance ℕ) → (remembered lists tnew ts).last j ≡ (remembered lists told st).last j
+  last_same j = last_at lists lists told tnew st ts j (λ k g had its. stays k g had) (λ k f now its. was k f now)
+
   stay : StayTraced (remembered lists told st) (remembered lists tnew ts)
   stay j trace traced =
       let (k, f, now, named) = traced_in lists tnew ts j trace traced in
@@ -270,8 +244,8 @@ module _ (lists : Location ℕ → List Edge) (told tnew : Table) (st ts : List 
             (sym (stands k differs)) ∙ on)
             ∙ ap (option_map (trace_of lists (memory_of told) k f)) value
             ∙ ap Some alike;
-        value = last_still lists told tnew st ts stays was j;
-        uses = λ u among. last_still lists told tnew st ts stays was u;
+        value = last_same j;
+        uses = λ u among. last_same u;
       }
 
   others_stay : (j : Instance ℕ) → (inst ≡ j → ⊥) → KeepsTrace j (remembered lists told st) (remembered lists tnew ts)
@@ -302,7 +276,7 @@ module _ (lists : Location ℕ → List Edge) (told tnew : Table) (st ts : List 
         keeps = keeps;
         traced = stay;
         others = others_stay;
-        last = last_still lists told tnew st ts stays was;
+        last = last_same;
       }
 
 -- where nothing has changed
@@ -316,21 +290,23 @@ awaited_still lists t st puts i slot a = record {
   last = λ j. refl;
 }
 
--- where each trace was there, nothing was put; and what is put then is put before
-pub puts_nothing : (i : Instance ℕ) (v : Option (Value ℕ)) (reads : List (Location ℕ)) (uses : List (Instance ℕ))
-    (o : Order) (old new : Memories) → StayTraced old new → PutsTrace i v reads uses o old new
-puts_nothing i v reads uses o old new stay j trace traced = inl (stay j trace traced)
+-- where each trace was there, no trace comes; and what is put then is put before
+still_after : (old mid new : Memories) → StayTraced old mid → (j : Instance ℕ) (t : Trace) → IsStill mid new j t → IsStill old new j t
+still_after old mid new stay j trace still =
+    let before = stay j trace still.traced in
+    record {
+      traced = before.traced;
+      value = still.value ∙ before.value;
+      uses = λ u among. still.uses u among ∙ before.uses u among;
+    }
+
+pub stay_after : (old mid new : Memories) → StayTraced old mid → StayTraced mid new → StayTraced old new
+stay_after old mid new first then_stay j t h = still_after old mid new first j t (then_stay j t h)
 
 pub puts_after : (i : Instance ℕ) (v : Option (Value ℕ)) (reads : List (Location ℕ)) (uses : List (Instance ℕ))
     (o : Order) (old mid new : Memories) → StayTraced old mid → PutsTrace i v reads uses o mid new
     → PutsTrace i v reads uses o old new
 puts_after i v reads uses o old mid new stay puts j trace traced = elim (puts j trace traced) [
-  | inl still ↦
-      let before = stay j trace still.traced in
-      inl (record {
-        traced = before.traced;
-        value = still.value ∙ before.value;
-        uses = λ u among. still.uses u among ∙ before.uses u among;
-      })
+  | inl still ↦ inl (still_after old mid new stay j trace still)
   | inr its ↦ inr its
 ]

@@ -113,6 +113,7 @@ returns c =
         valued = done.valued;
         puts = done.puts;
         err = tt;
+        fails = tt;
         traces = done.traces;
         spares = done.spares;
       };
