@@ -3,12 +3,15 @@ use Rattle.std.proofs.Common.{◌≡◌, ◌⊎◌, inl, inr, ℕ, ◌<◌, List
 use Rattle.std.proofs.lemmas.Bool.{cases_eq, eq-eqb, ne_eqb}
 use Rattle.std.proofs.lemmas.Option.{none-some, same_Some}
 use Rattle.std.specs.Map.{lookup}
+use Rattle.slab.specs.Slab.{get}
 use Rattle.indexmap.specs.Layout.{set_value_at, length-set_value_at}
 use Rattle.at_model.specs.Run.{Instance}
 use Rattle.at_body.specs.Same.{same_instance}
 use Rattle.at_cache.specs.declared.edge.Edge.{Edge}
 use Rattle.at_cache.specs.declared.entry.Entry.{Entry}
 use Rattle.at_cache.specs.declared.mark.Mark.{Mark}
+use Rattle.at_cache.specs.declared.table.Table.{Table}
+use Rattle.at_cache.specs.Attributes.{HaveCome}
 use Rattle.at_cache.specs.Flushing.{doomed}
 use Rattle.at_cache.specs.Marking.{HasMark}
 use Rattle.at_cache.specs.Edges.{edges_in}
@@ -16,6 +19,7 @@ use Rattle.at_cache.specs.Info.{Info, Memory, info, is_going, next_of}
 use Rattle.at_cache.specs.Placed.{IsPlaced, at}
 use Rattle.at_cache.specs.Putting.{Enters}
 use Rattle.at_cache.specs.Slots.{HasWritten, with_mark}
+use Rattle.at_cache.proofs.Came.{come_on}
 use Rattle.at_cache.proofs.Moving.{at_changed, at_none, at_slot, at_some, placed, table_by, table_changed, apart_changed, within}
 
 absent_set : (test : Instance ℕ → Bool) (es : List (Instance ℕ × Entry)) (p : ℕ) (w : Entry) → lookup test es ≡ None → lookup test (set_value_at es p w) ≡ None
@@ -66,6 +70,17 @@ module _ (es : List (Instance ℕ × Entry)) (slots : ℕ → Option ℕ) (slot 
             ap (λ b. option_map info (if b then Some (e.0, f e.1) else at es slots k)) (ne_eqb k slot differs)
             ∙ sym (ap (λ b. if b then option_map g (option_map info (at es slots k)) else option_map info (at es slots k)) (ne_eqb k slot differs))
 
+-- where that is done in a table, each entry has its slot still, and none came
+pub still : (t : Table) (slot p : ℕ) → get t.places slot ≡ Some p → (fs : List (Instance ℕ × Entry)) (f : Entry → Entry)
+    → ((e : Entry) → (f e).slot ≡ e.slot) → HasWritten f p t.entries.entries fs
+    → IsPlaced fs (get t.places) × HaveCome fs t.attributes.items
+still t slot p was fs f keeps written =
+    let es = t.entries.entries in
+    let slots = get t.places in (
+      placed_changed es slots slot p t.placed was fs f keeps written,
+      come_on es fs t.attributes.items (absent_changed es slots slot p t.placed was fs f keeps written) t.come,
+    )
+
 -- a mark that tells of what goes
 pub marked : (mark : Mark) (first : Option ℕ) → is_going mark ≡ true → next_of mark ≡ first → (e : Instance ℕ × Entry) → info (e.0, with_mark mark e.1) ≡ doomed first (info e)
 marked mark first going next e = ap (λ (b : Bool). record (info e) { going = b; next = next_of mark }) going ∙ ap (λ (n : Option ℕ). record (info e) { going = true; next = n }) next
@@ -95,15 +110,6 @@ mark_there es slots slot p mark was h = subst (λ o. HasMark (option_map info o)
     by : (o : Option (Instance ℕ × Entry)) → option_map (λ (e : Instance ℕ × Entry). e.1.mark) o ≡ Some mark → HasMark (option_map info o) mark
     by None h = absurd (none-some mark h)
     by (Some e) h = let same : e.1.mark ≡ mark = same_Some e.1.mark mark h in (info e, refl, ap is_going same, ap next_of same)
-
--- nothing is written to a free slot
-pub unwritten : (f : Info → Info) (slot : ℕ) (m : Memory) → m slot ≡ None → (k : ℕ) → m k ≡ (if nat_eq k slot then option_map f (m k) else m k)
-unwritten f slot m none k = elim (cases_eq k slot) [
-  | inl same ↦
-      let free : m k ≡ None = ap m same ∙ none in
-      sym (ap (λ b. if b then option_map f (m k) else m k) (eq-eqb k slot same) ∙ ap (option_map f) free ∙ sym free)
-  | inr differs ↦ sym (ap (λ b. if b then option_map f (m k) else m k) (ne_eqb k slot differs))
-]
 
 pub free_slot : (es : List (Instance ℕ × Entry)) (slots : ℕ → Option ℕ) (slot : ℕ) → slots slot ≡ None → option_map info (at es slots slot) ≡ None
 free_slot es slots slot none = ap (option_map info) (at_none es slots slot none)

@@ -6,12 +6,10 @@ use Rattle.std.proofs.lemmas.Option.{none-some, same_Some}
 use Rattle.slab.proofs.SlabLemmas.{Contains-cons, Contains-cons_cases}
 use Rattle.at_model.specs.Run.{Location}
 use Rattle.at_cache.specs.declared.edge.Edge.{Edge}
-use Rattle.at_cache.specs.Info.{Info}
-use Rattle.at_cache.specs.Info.{Memory}
-use Rattle.at_cache.specs.Flushing.{Reached, Work, IsChain, IsDoomed, IsSame}
+use Rattle.at_cache.specs.Info.{Info, Memory}
+use Rattle.at_cache.specs.Flushing.{Reached, Work, IsChain, IsDoomed, IsSame, Begins}
 use Rattle.at_cache.specs.Flushing as flushing
 use Rattle.at_cache.specs.Recorded.{covers, edge_to, is_listed, same_edge}
-use Rattle.at_cache.specs.Flushing.{Begins}
 use Rattle.at_cache.proofs.Index.{Index, LeavesSlots, LosesSlots, Standing, kept_at, standing}
 use Rattle.at_cache.proofs.Dooming.{head_of}
 use Rattle.at_cache.proofs.Taking.{none_in}
@@ -26,6 +24,20 @@ on_left a b h = ap (λ c. c || b) h
 pub on_right : (a b : Bool) → b ≡ true → (a || b) ≡ true
 on_right true b h = refl
 on_right false b h = h
+
+-- where nothing is to do any more, nothing goes
+pub none_goes : {old m : Memory} {start : List Edge} → Work old start [] None m
+    → (s : ℕ) (e : Info) → m s ≡ Some e → e.going ≡ true → ⊥
+none_goes {m = m} w s e there going = by w.chain w.linked (w.all s e there going)
+  where
+    by : (ss : List ℕ) → IsChain m None ss → Contains ss s → ⊥
+    by [] h c = none_in s c
+    by (t ∷ ts) h c = none-some t (h.0)
+
+pub agree : (a b : Bool) → (a ≡ true → b ≡ true) → (b ≡ true → a ≡ true) → a ≡ b
+agree true b f g = sym (f refl)
+agree false true f g = g refl
+agree false false f g = refl
 
 module _ {X : Type 0} where
   pub some_of : (p : X → Bool) (xs : List X) → list_any p xs ≡ true → (x : X) × Contains xs x × (p x ≡ true)
@@ -97,23 +109,16 @@ module _ {lists : Location ℕ → List Edge} {puts : ℕ} {old : Memory} (index
         (l, covers_more x.slot e there l (opened lists old puts x.slot e there l ∙ on_right (is_listed (edge_to x.slot e) (lists l)) _ linked), said)
 
     module _ {m : Memory} (w : Work old start [] None m) where
-      quiet : (s : ℕ) (e : Info) → m s ≡ Some e → e.going ≡ true → ⊥
-      quiet s e there going = by w.chain w.linked (w.all s e there going)
-        where
-          by : (ss : List ℕ) → IsChain m None ss → Contains ss s → ⊥
-          by [] h c = none_in s c
-          by (t ∷ ts) h c = none-some t (h.0)
-
       quiet_false : (s : ℕ) (e : Info) → m s ≡ Some e → e.going ≡ false
       quiet_false s e there = by e.going refl
         where
           by : (b : Bool) → e.going ≡ b → e.going ≡ false
-          by true h = absurd (quiet s e there h)
+          by true h = absurd (none_goes w s e there h)
           by false h = h
 
       -- what is left isn't doomed
       not_doomed : (s : ℕ) (e f : Info) → m s ≡ Some e → e.stamp ≡ f.stamp → IsDoomed m (edge_to s f) ⊎ Contains [] (edge_to s f) → ⊥
-      not_doomed s e f there same (inl d) = quiet s e there (d e there same)
+      not_doomed s e f there same (inl d) = none_goes w s e there (d e there same)
       not_doomed s e f there same (inr c) = none_in (edge_to s f) c
 
       -- nor is what it links to gone

@@ -1,15 +1,14 @@
 -- Edges of an entry that isn't there yet: all is found as before, and what was kept is kept.
-use Rattle.std.proofs.Common.{◌≡◌, inl, inr, ℕ, zero, suc, ◌+◌, List, ◌||◌, Bool, true, false, Option, None, Some, option_map, Contains, refl, sym, ap, ◌∙◌, subst, arith}
+use Rattle.std.proofs.Common.{◌≡◌, inl, inr, ℕ, zero, suc, ◌+◌, List, ◌||◌, Option, None, Some, option_map, Contains, refl, sym, ap, ◌∙◌, subst, arith}
 use Rattle.std.specs.List.{list_any}
-use Rattle.std.proofs.lemmas.Option.{none-some, same_Some}
 use Rattle.at_model.specs.Run.{Location}
 use Rattle.at_cache.specs.declared.edge.Edge.{Edge}
 use Rattle.at_cache.specs.Info.{Info, Memory}
 use Rattle.at_cache.specs.Recorded.{covers, edge_to, is_listed}
 use Rattle.at_cache.proofs.Index.{Index, kept_at, standing}
-use Rattle.at_cache.specs.Putting.{Reads, Uses, users_at, with_users}
-use Rattle.at_cache.proofs.Ending.{any_same, far_enough, has, is_in, opened}
-use Rattle.at_cache.proofs.Listing.{users_of}
+use Rattle.at_cache.specs.Putting.{Reads, Uses, users_at}
+use Rattle.at_cache.proofs.Ending.{any_same, far_enough, opened}
+use Rattle.at_cache.proofs.Listing.{back, listed_still, users_of}
 
 -- what is kept in a slot, by its entry
 pub kept_of : (lists : Location ℕ → List Edge) (m : Memory) (puts s : ℕ) (e : Info) → m s ≡ Some e → kept_at lists m puts s ≡ Some (standing lists m puts s e)
@@ -23,30 +22,18 @@ same_kept : (lists later : Location ℕ → List Edge) (m n : Memory) (far near 
 same_kept lists later m n far near s e f there found same value h =
     kept_of later n far s f found ∙ ap Some (λ i. record { instance = same i; kept = record { value = value i; covers = λ l. h l i } }) ∙ sym (kept_of lists m near s e there)
 
-agree : (a b : Bool) → (a ≡ true → b ≡ true) → (b ≡ true → a ≡ true) → a ≡ b
-agree true b f g = sym (f refl)
-agree false true f g = g refl
-agree false false f g = refl
-
 -- edges of an entry that isn't there yet
 module _ {lists : Location ℕ → List Edge} {puts : ℕ} {m mid : Memory} {x : Edge} {reads : List (Location ℕ)} {uses : List ℕ} (later : Location ℕ → List Edge) (i : Index lists puts m) (stamp : x.stamp ≡ puts) (r : Reads m x reads lists later) (u : Uses m x uses m mid) where
-  back : (k : ℕ) (f : Info) → mid k ≡ Some f → (e : Info) × (m k ≡ Some e) × (f ≡ with_users f.users e)
-  back k f found = by (m k) refl
-    where
-      by : (o : Option Info) → m k ≡ o → (e : Info) × (m k ≡ Some e) × (f ≡ with_users f.users e)
-      by None none = absurd (none-some f (sym (u.free k none) ∙ found))
-      by (Some e) there = let (g, had, is) = u.there k e there in let same : g ≡ f = same_Some g f (sym had ∙ found) in (e, there, subst (λ (n : Info). n ≡ with_users n.users e) same is)
-
   not_new : (k : ℕ) (f : Info) → mid k ≡ Some f → f.stamp ≡ x.stamp → ⊥
-  not_new k f found same = let (e, there, is) = back k f found in let known = i.known k e there in let a = ap (λ (n : Info). n.stamp) is in omega arith
+  not_new k f found same = let (e, there, is) = back u k f found in let known = i.known k e there in let a = ap (λ (n : Info). n.stamp) is in omega arith
 
   pub stale_indexed : Index later (puts + 1) mid
   stale_indexed = record {
-    idle = λ k f found. let (e, there, is) = back k f found in ap (λ (n : Info). n.going) is ∙ i.idle k e there;
-    known = λ k f found. let (e, there, is) = back k f found in let known = i.known k e there in let a = ap (λ (n : Info). n.stamp) is in omega arith;
-    ordered = λ k f found. let (e, there, is) = back k f found in let ordered = i.ordered k e there in let a = ap (λ (n : Info). n.since) is in omega arith;
+    idle = λ k f found. let (e, there, is) = back u k f found in ap (λ (n : Info). n.going) is ∙ i.idle k e there;
+    known = λ k f found. let (e, there, is) = back u k f found in let known = i.known k e there in let a = ap (λ (n : Info). n.stamp) is in omega arith;
+    ordered = λ k f found. let (e, there, is) = back u k f found in let ordered = i.ordered k e there in let a = ap (λ (n : Info). n.since) is in omega arith;
     used = λ k f found p c.
-        let (e, there, is) = back k f found in
+        let (e, there, is) = back u k f found in
         let (g, was, before, edge) = i.used k e there p (subst (λ ls. Contains ls p) (ap (λ (n : Info). n.links) is) c) in
         let (h, had, alike) = u.there p g was in
         let a = ap (λ (n : Info). n.since) is in
@@ -58,14 +45,14 @@ module _ {lists : Location ℕ → List Edge} {puts : ℕ} {m mid : Memory} {x :
           subst (λ n. Contains h.users (record { slot = k; stamp = n })) (sym (ap (λ (n : Info). n.stamp) is)) (subst (λ es. Contains es (edge_to k e)) (users_of mid p h had) listed),
         );
     uses = λ p g had y c f found same.
-        let (e, there, is) = back y.slot f found in
-        let (h, was, alike) = back p g had in
+        let (e, there, is) = back u y.slot f found in
+        let (h, was, alike) = back u p g had in
         elim (u.users.only p y (subst (λ es. Contains es y) (sym (users_of mid p g had)) c)) [
           | inl d ↦ subst (λ ls. Contains ls p) (sym (ap (λ (n : Info). n.links) is)) (i.uses p h was y (subst (λ es. Contains es y) (users_of m p h was) d) e there (sym (ap (λ (n : Info). n.stamp) is) ∙ same))
           | inr (new, d) ↦ absurd (not_new y.slot f found (same ∙ ap (λ (z : Edge). z.stamp) new))
         ];
     past_readers = λ l y c. elim (r.only l y c) [ inl d ↦ let past = i.past_readers l y d in omega arith | inr (new, d) ↦ let a = ap (λ (z : Edge). z.stamp) new in omega arith ];
-    past_users = λ p g had y c. let (h, was, alike) = back p g had in elim (u.users.only p y (subst (λ es. Contains es y) (sym (users_of mid p g had)) c)) [
+    past_users = λ p g had y c. let (h, was, alike) = back u p g had in elim (u.users.only p y (subst (λ es. Contains es y) (sym (users_of mid p g had)) c)) [
       | inl d ↦ let past = i.past_users p h was y (subst (λ es. Contains es y) (users_of m p h was) d) in omega arith
       | inr (new, d) ↦ let a = ap (λ (z : Edge). z.stamp) new in omega arith
     ];
@@ -73,13 +60,8 @@ module _ {lists : Location ℕ → List Edge} {puts : ℕ} {m mid : Memory} {x :
 
   -- an entry that is there has the edges that it had
   listed_same : (s : ℕ) (e : Info) → m s ≡ Some e → (l : Location ℕ) → is_listed (edge_to s e) (later l) ≡ is_listed (edge_to s e) (lists l)
-  listed_same s e there l = agree _ _ (λ h. has (lists l) (edge_to s e) (was_in (is_in (later l) (edge_to s e) h))) (λ h. has (later l) (edge_to s e) (r.keeps l (edge_to s e) (is_in (lists l) (edge_to s e) h) e there refl))
-    where
-      was_in : Contains (later l) (edge_to s e) → Contains (lists l) (edge_to s e)
-      was_in c = elim (r.only l (edge_to s e) c) [
-        | inl d ↦ d
-        | inr (new, d) ↦ let known = i.known s e there in let a : e.stamp ≡ x.stamp = ap (λ (z : Edge). z.stamp) new in absurd (omega arith)
-      ]
+  listed_same s e there = listed_still r s e there
+      (λ same. let known = i.known s e there in omega (arith, known, same, stamp))
 
   covers_mid : (far s : ℕ) (e : Info) → m s ≡ Some e → (l : Location ℕ) → covers later mid far s l ≡ covers lists m far s l
   covers_mid zero s e there l = refl

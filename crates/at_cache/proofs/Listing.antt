@@ -3,13 +3,40 @@ use Rattle.std.proofs.Common.{◌≡◌, ◌⊎◌, inl, inr, ℕ, List, [], ◌
 use Rattle.std.proofs.lemmas.Bool.{cases_eq, eq-eqb, ne_eqb}
 use Rattle.std.proofs.lemmas.List.Elements.{Contains-append_left, Contains-push, Contains-push_cases}
 use Rattle.slab.proofs.SlabLemmas.{Contains-cons, Contains-cons_cases}
+use Rattle.at_model.specs.Run.{Location}
 use Rattle.at_cache.specs.declared.edge.Edge.{Edge}
-use Rattle.at_cache.specs.Info.{Info}
-use Rattle.std.proofs.lemmas.Option.{none-some}
-use Rattle.at_cache.specs.Info.{Memory}
+use Rattle.at_cache.specs.Info.{Info, Memory}
+use Rattle.std.proofs.lemmas.Option.{none-some, same_Some}
 use Rattle.at_cache.specs.Putting.{AreListed, Keeps, Lists, Reads, Uses, is_current, reused, users_at, with_users}
+use Rattle.at_cache.specs.Recorded.{edge_to, is_listed}
 use Rattle.at_cache.proofs.Dooming.{head_of}
+use Rattle.at_cache.proofs.Ending.{agree, has, is_in}
 use Rattle.at_cache.proofs.Taking.{none_in}
+
+-- what is there with other users was there
+pub back : {told m mid : Memory} {x : Edge} {slots : List ℕ} → Uses told x slots m mid → (k : ℕ) (f : Info)
+    → mid k ≡ Some f → (e : Info) × (m k ≡ Some e) × (f ≡ with_users f.users e)
+back {told} {m} {mid} u k f found = by (m k) refl
+  where
+    by : (o : Option Info) → m k ≡ o → (e : Info) × (m k ≡ Some e) × (f ≡ with_users f.users e)
+    by None none = absurd (none-some f (sym (u.free k none) ∙ found))
+    by (Some e) there =
+        let (g, had, is) = u.there k e there in
+        (e, there, subst (λ (n : Info). n ≡ with_users n.users e) (same_Some g f (sym had ∙ found)) is)
+
+-- an entry that is told of has the edges that it had, where what comes has another number
+pub listed_still : {told : Memory} {x : Edge} {reads : List (Location ℕ)} {lists later : Location ℕ → List Edge}
+    → Reads told x reads lists later → (k : ℕ) (g : Info) → told k ≡ Some g → (g.stamp ≡ x.stamp → ⊥) → (l : Location ℕ)
+    → is_listed (edge_to k g) (later l) ≡ is_listed (edge_to k g) (lists l)
+listed_still {lists = lists} {later = later} r k g there differs l =
+    agree _ _ (λ h. has (lists l) (edge_to k g) (was (is_in (later l) (edge_to k g) h)))
+    (λ h. has (later l) (edge_to k g) (r.keeps l (edge_to k g) (is_in (lists l) (edge_to k g) h) g there refl))
+  where
+    was : Contains (later l) (edge_to k g) → Contains (lists l) (edge_to k g)
+    was d = elim (r.only l (edge_to k g) d) [
+      | inl old ↦ old
+      | inr (one, at_l) ↦ absurd (differs (ap (λ (z : Edge). z.stamp) one))
+    ]
 
 pub current : (m : Memory) (y : Edge) (e : Info) → m y.slot ≡ Some e → e.stamp ≡ y.stamp → is_current m y ≡ true
 current m y e there same = ap (λ (o : Option Info). elim o as (λ _. Bool) [ None ↦ false | Some e ↦ nat_eq e.stamp y.stamp ]) there ∙ eq-eqb e.stamp y.stamp same

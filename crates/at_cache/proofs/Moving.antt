@@ -10,6 +10,7 @@ use Rattle.at_model.specs.Run.{Instance}
 use Rattle.at_body.specs.Same.{same_instance}
 use Rattle.at_body.specs.Sameness.{instances_equiv}
 use Rattle.at_cache.specs.declared.entry.Entry.{Entry}
+use Rattle.at_cache.proofs.Gained.{get_other}
 use Rattle.at_cache.proofs.Lists.{get_left, get_push, get_seam}
 use Rattle.at_cache.specs.Placed.{IsMoved, IsPlaced, at}
 
@@ -23,13 +24,6 @@ module _ {X : Type 0} where
   set_here [] k v h = absurd (omega arith)
   set_here (x ∷ xs) zero v h = refl
   set_here (x ∷ xs) (suc k) v h = set_here xs k v (omega arith)
-
-  set_there : (xs : List X) (k l : ℕ) (v : X) → (l ≡ k → ⊥) → slice_get (slice_set xs k v) l ≡ slice_get xs l
-  set_there [] k l v differs = refl
-  set_there (x ∷ xs) zero zero v differs = absurd (differs refl)
-  set_there (x ∷ xs) zero (suc l) v differs = refl
-  set_there (x ∷ xs) (suc k) zero v differs = refl
-  set_there (x ∷ xs) (suc k) (suc l) v differs = set_there xs k l v (λ same. differs (ap suc same))
 
   pub take_within : (n : ℕ) (xs : List X) (k : ℕ) → k < n → slice_get (take n xs) k ≡ slice_get xs k
   take_within zero xs k h = absurd (omega arith)
@@ -58,7 +52,7 @@ module _ {X : Type 0} where
     moved before = take_within (length xs - 1) _ i before ∙ set_here xs i _ h ∙ sym (got xs (length xs - 1) d (omega arith))
 
     pub stayed : (k : ℕ) → k < length xs - 1 → (k ≡ i → ⊥) → slice_get (swap_remove xs i d) k ≡ slice_get xs k
-    stayed k before differs = take_within (length xs - 1) _ k before ∙ set_there xs i k _ differs
+    stayed k before differs = take_within (length xs - 1) _ k before ∙ get_other xs i k _ differs
 
     pub past : (k : ℕ) → length xs - 1 ≤ k → slice_get (swap_remove xs i d) k ≡ None
     past k behind = take_past (length xs - 1) _ k behind

@@ -18,17 +18,13 @@ use Rattle.at_cache.specs.Recorded.{IsIndexed, covers, edge_to, is_listed}
 use Rattle.at_cache.specs.Standings.{IsTied, alive, held, instances_in, is_alive, kept_held, standing_of}
 use Rattle.at_cache.proofs.of_cut.Again.{held_as, held_on, is_among, tied_there}
 use Rattle.at_cache.proofs.of_cut.Alive.{alive_on, by_holding}
-use Rattle.at_cache.proofs.Ending.{any_of, any_same, far_enough, has, is_in, opened, some_of}
+use Rattle.at_cache.proofs.Ending.{agree, any_of, any_same, far_enough, has, is_in, opened, some_of}
 use Rattle.at_cache.proofs.of_cut.HeldSlots.{as_kept, covers_slots, entry_in, kept_none, kept_slot, off_slot, slot_of}
 use Rattle.at_body.proofs.SamenessLemmas.{same_true}
+use Rattle.at_cache.proofs.Listing.{listed_still}
 use Rattle.at_cache.proofs.Locations.{same_location-is, same_location-itself}
 use Rattle.at_cache.proofs.of_cut.Renewed.{held_indexed, held_links, held_since}
 use Rattle.at_cache.proofs.Testing.{indexed_by}
-
-pub agree : (a b : Bool) → (a ≡ true → b ≡ true) → (b ≡ true → a ≡ true) → a ≡ b
-agree true b f g = sym (f refl)
-agree false true f g = g refl
-agree false false f g = refl
 
 -- the entry comes into the slot, where none is kept; the others are as they were, but for their users
 pub record Comes (m new : Memory) (st ts : List Standing) (puts slot : ℕ) (e : Info) : Type 0 where
@@ -105,19 +101,9 @@ module _ {lists : Location ℕ → List Edge} {m new : Memory} {st ts : List Sta
       -- an entry that was there has the edges that it had
       pub listed_same : (k : ℕ) (g : Info) → m k ≡ Some g → is_alive (standing_of st k) ≡ true → (l : Location ℕ)
           → is_listed (edge_to k g) (later l) ≡ is_listed (edge_to k g) (lists l)
-      listed_same k g had live l = agree _ _ (λ h. has (lists l) (edge_to k g) (was_in (is_in (later l) (edge_to k g) h)))
-          (λ h. has (later l) (edge_to k g) (r.keeps l (edge_to k g) (is_in (lists l) (edge_to k g) h) g
-          (alive_on st m k g had live) refl))
-        where
-          was_in : Contains (later l) (edge_to k g) → Contains (lists l) (edge_to k g)
-          was_in d = elim (r.only l (edge_to k g) d) [
-            | inl old ↦ old
-            | inr (one, at_l) ↦
-                let known = tied.known k g had in
-                let a : g.stamp ≡ e.stamp = ap (λ (z : Edge). z.stamp) one in
-                let b = c.stamp in
-                absurd (omega (arith, known, a, b))
-          ]
+      listed_same k g had live = listed_still r k g (alive_on st m k g had live)
+          (λ same. let known = tied.known k g had in let a : g.stamp ≡ e.stamp = same in let b = c.stamp in
+          omega (arith, known, a, b))
 
       -- and the entry has those of its reads
       pub listed_it : (l : Location ℕ) → is_listed (edge_to slot e) (later l) ≡ list_any (same_location l) reads

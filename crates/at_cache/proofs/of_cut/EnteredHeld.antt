@@ -1,5 +1,5 @@
 -- An entry that is kept from now on, by what its steps have said.
-use Rattle.std.proofs.Common.{◌≡◌, ◌<◌, ◌+◌, ℕ, List, Bool, true, false, length, slice_set, Option, None, Some, IsSome, is_some, option_map, nat_eq, if◌then◌else◌, Contains, refl, sym, ap, ◌∙◌, subst, true≢false}
+use Rattle.std.proofs.Common.{◌≡◌, ℕ, List, Bool, true, false, Option, None, Some, IsSome, is_some, option_map, nat_eq, if◌then◌else◌, Contains, refl, sym, ap, ◌∙◌, subst, true≢false}
 use Rattle.std.specs.List.{list_any}
 use Rattle.std.specs.Map.{lookup}
 use Rattle.std.specs.Option.{option_and_then}
@@ -10,24 +10,18 @@ use Rattle.at_body.specs.Sameness.{instances_equiv}
 use Rattle.at_body.specs.Values.{value_view}
 use Rattle.at_cache.specs.declared.edge.Edge.{Edge}
 use Rattle.at_cache.specs.declared.entry.Entry.{Entry}
-use Rattle.at_cache.specs.declared.keeper.Order.{Order}
-use Rattle.at_cache.specs.declared.keeper.Order.TheVariants as order
 use Rattle.at_cache.specs.declared.standing.Standing.{Standing}
 use Rattle.at_cache.specs.declared.table.Table.{Table}
 use Rattle.at_cache.specs.Info.{Info, Memory, info, memory_of}
-use Rattle.at_cache.specs.Kept.{AreKept, Puts}
-use Rattle.at_cache.specs.Putting.{AreListed, AreTaken, Reads, Uses, fresh_entry, users_at}
-use Rattle.at_cache.specs.Recorded.{IsIndexed}
+use Rattle.at_cache.specs.Kept.{AreKept}
+use Rattle.at_cache.specs.Putting.{AreTaken, Uses, fresh_entry}
 use Rattle.at_cache.specs.Renewing.{IsAwaited, IsSlotFor, PutsIn}
-use Rattle.at_cache.specs.Standings.{AreValued, IsTied, alive, held, instances_in, kept_held, remembered, shown, standing_of}
+use Rattle.at_cache.specs.Standings.{held, instances_in, kept_held, shown, standing_of}
 use Rattle.at_cache.specs.Theirs.{AreTheirs, HasSlot}
-use Rattle.at_cache.specs.Traced.{PutsTrace, SparesOthers}
 use Rattle.at_cache.proofs.of_cut.Again.{held_off}
-use Rattle.at_cache.proofs.of_cut.Enters.{enters_indexed, enters_puts, enters_spares, enters_tied, enters_traces, enters_valued}
 use Rattle.at_cache.proofs.of_cut.Goes.{instance_among}
-use Rattle.at_cache.proofs.of_cut.HeldSlots.{kept_none, kept_slot, off_slot, slot_of}
+use Rattle.at_cache.proofs.of_cut.HeldSlots.{kept_none, off_slot, slot_of, not_kept}
 use Rattle.at_cache.proofs.of_cut.Renewed.{among_is}
-use Rattle.at_cache.proofs.of_cut.Seeing.{set_is}
 use Rattle.at_cache.proofs.Shown.{held_by}
 
 -- what is in the slot of an instance is its entry
@@ -103,13 +97,10 @@ pub not_held : (lists : Location ℕ → List Edge) (t : Table) (st : List Stand
     → held ts m slot ≡ None
 not_held lists t st puts i slot a m ts same u = by (memory_of t slot) refl
   where
-    off : (e : Info) → memory_of t slot ≡ Some e → (b : Bool) → (standing_of st slot).holds ≡ b → held ts m slot ≡ None
-    off e there true is = absurd (none-some _ (sym a.absent ∙ ap (kept_held lists t st puts) (sym (a.its e there)) ∙ kept_slot lists t st puts slot e there is))
-    off e there false is = held_off ts m slot (ap (λ (s : Standing). s.holds) (same slot) ∙ is)
-
     by : (o : Option Info) → memory_of t slot ≡ o → held ts m slot ≡ None
     by None none = ap (option_and_then (shown (standing_of ts slot))) (u.free slot none)
-    by (Some e) there = off e there (standing_of st slot).holds refl
+    by (Some e) there = held_off ts m slot (ap (λ (s : Standing). s.holds) (same slot)
+        ∙ not_kept lists t st puts slot e there (ap (kept_held lists t st puts) (a.its e there) ∙ a.absent))
 
 -- an entry that is to come, by what it has
 module _ (i : Instance ℕ) (e : Entry) (value : Option (Value ℕ)) (links : List ℕ) (stamp : ℕ)
@@ -159,67 +150,3 @@ module _ (lists : Location ℕ → List Edge) (t : Table) (st : List Standing) (
           × ((standing_of st p).holds ≡ true)
       by None none some = absurd (true≢false (sym some ∙ ap is_some none))
       by (Some f) there some = (f, there, on f there (standing_of st p).holds refl)
-
--- All that is owed where an entry has come that is kept.
-pub record HasEntered (lists later : Location ℕ → List Edge) (told tnew : Table) (before after : List Standing)
-    (number : ℕ)
-    (inst : Instance ℕ) (value : Option (Value ℕ)) (reads : List (Location ℕ)) (uses : List (Instance ℕ)) (o : Order)
-    : Type 0 where
-  pub indexed : IsIndexed later (number + 1) (held after (memory_of tnew))
-  pub tied : IsTied later (number + 1) after (memory_of tnew)
-  pub valued : AreValued after (memory_of tnew)
-  pub puts : Puts (kept_held lists told before number) inst value reads uses (kept_held later tnew after
-      (number + 1))
-  pub traces : PutsTrace inst value reads uses o (remembered lists told before) (remembered later tnew after)
-  pub spares : SparesOthers inst (kept_held later tnew after (number + 1)) (remembered lists told before) (remembered later tnew after)
-
-module _ (lists later : Location ℕ → List Edge) (told tnew : Table) (mid : Memory)
-    (zero_st one_st two_st ts : List Standing) (puts slot : ℕ)
-    (inst : Instance ℕ) (value : Option (Value ℕ)) (links slots : List ℕ) (reads : List (Location ℕ))
-    (uses : List (Instance ℕ)) (standing : Standing) (o : Order)
-    (indexed : IsIndexed lists puts (held zero_st (memory_of told))) (tied : IsTied lists puts zero_st (memory_of told))
-    (valued : AreValued zero_st (memory_of told))
-    (absent : kept_held lists told zero_st puts inst ≡ None)
-    (present : AreKept (kept_held lists told zero_st puts) uses)
-    (named : (e : Info) → memory_of told slot ≡ Some e → e.instance ≡ inst)
-    (taken : AreTaken (memory_of told) links) (theirs : AreTheirs told uses links)
-    (room : (k : ℕ) → standing_of one_st k ≡ standing_of zero_st k)
-    (r : Reads (alive zero_st (memory_of told)) (record { slot = slot; stamp = puts }) reads lists later)
-    (listed : AreListed (record { slot = slot; stamp = puts }) reads later)
-    (same : slots ≡ links)
-    (u : Uses (alive zero_st (memory_of told)) (record { slot = slot; stamp = puts }) slots (memory_of told) mid)
-    (used : AreListed (record { slot = slot; stamp = puts }) slots (users_at mid))
-    (p : PutsIn slot inst value links puts one_st mid two_st (memory_of tnew))
-    (set : ts ≡ slice_set two_st slot standing) (within : slot < length two_st)
-    (since : standing.since ≡ puts) (holds : standing.holds ≡ true)
-    (ordered : standing.traced ≡ true → o ≡ order.AsTaken)
-    (has : standing.traced ≡ true → is_some value ≡ true) where
-  abbrev edge : Edge
-  edge = record { slot = slot; stamp = puts }
-
-  pub has_entered : HasEntered lists later told tnew zero_st ts puts inst value reads uses o
-  has_entered =
-      let are = they_are lists told zero_st puts uses links present taken theirs in
-      let hold = they_hold lists told zero_st puts uses links present taken theirs in
-      let u1 = subst (λ ls. Uses (alive zero_st (memory_of told)) edge ls (memory_of told) mid) same u in
-      let used1 = subst (λ ls. AreListed edge ls (users_at mid)) same used in
-      let stand : (k : ℕ) → standing_of ts k ≡ (if nat_eq k slot then standing else standing_of two_st k)
-      = λ k. ap (λ xs. standing_of xs k) set ∙ set_is two_st slot standing within k in
-      record {
-        indexed = enters_indexed lists later told tnew mid zero_st one_st two_st ts puts slot inst value links reads
-            standing o indexed tied valued absent named hold room r listed u1 used1 p stand since holds ordered has;
-        tied = enters_tied lists later told tnew mid zero_st one_st two_st ts puts slot inst value links reads
-            standing o indexed tied valued absent named hold room r listed u1 used1 p stand since holds ordered has;
-        valued = enters_valued lists later told tnew mid zero_st one_st two_st ts puts slot inst value links reads
-            standing o indexed tied valued absent named hold room r listed u1 used1 p stand since holds ordered has;
-        puts = subst (λ us. Puts (kept_held lists told zero_st puts) inst value reads us
-            (kept_held later tnew ts (puts + 1))) are
-            (enters_puts lists later told tnew mid zero_st one_st two_st ts puts slot inst value links reads
-            standing o indexed tied valued absent named hold room r listed u1 used1 p stand since holds ordered has);
-        traces = subst (λ us. PutsTrace inst value reads us o (remembered lists told zero_st)
-            (remembered later tnew ts)) are
-            (enters_traces lists later told tnew mid zero_st one_st two_st ts puts slot inst value links reads
-            standing o indexed tied valued absent named hold room r listed u1 used1 p stand since holds ordered has);
-        spares = enters_spares lists later told tnew mid zero_st one_st two_st ts puts slot inst value links reads
-            standing o indexed tied valued absent named hold room r listed u1 used1 p stand since holds ordered has;
-      }

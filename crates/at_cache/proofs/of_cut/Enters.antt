@@ -1,8 +1,8 @@
 -- What a put leaves, over all its steps: edges of the locations, edges of what it used, the entry, and how that stands.
-use Rattle.std.proofs.Common.{◌≡◌, ◌⊎◌, [], arith, inl, inr, ◌+◌, ℕ, List, Bool, true, false, Option, Some, None, IsSome, is_some, nat_eq, if◌then◌else◌, Contains, refl, sym, ap, ◌∙◌, subst, true≢false, eqb-true}
+use Rattle.std.proofs.Common.{◌≡◌, ◌⊎◌, [], arith, inl, inr, ◌<◌, ◌+◌, length, slice_set, ℕ, List, Bool, true, false, Option, Some, None, IsSome, is_some, nat_eq, if◌then◌else◌, Contains, refl, sym, ap, ◌∙◌, subst, true≢false, eqb-true}
 use Rattle.std.specs.List.{list_any}
 use Rattle.std.proofs.lemmas.Bool.{cases_eq, eq-eqb, false_from_ne_true}
-use Rattle.std.proofs.lemmas.Option.{none-some, same_Some}
+use Rattle.std.proofs.lemmas.Option.{same_Some}
 use Rattle.at_model.specs.Run.{Instance, Location, Value}
 use Rattle.at_cache.specs.declared.edge.Edge.{Edge}
 use Rattle.at_cache.specs.declared.keeper.Order.{Order}
@@ -10,48 +10,79 @@ use Rattle.at_cache.specs.declared.keeper.Order.TheVariants as order
 use Rattle.at_cache.specs.declared.standing.Standing.{Standing}
 use Rattle.at_cache.specs.declared.table.Table.{Table}
 use Rattle.at_cache.specs.Info.{Info, Memory, memory_of}
-use Rattle.at_cache.specs.Kept.{Puts}
-use Rattle.at_cache.specs.Putting.{AreListed, Reads, Uses, users_at, with_users}
+use Rattle.at_cache.specs.Kept.{AreKept, Puts}
+use Rattle.at_cache.specs.Putting.{AreListed, AreTaken, Reads, Uses, users_at, with_users}
 use Rattle.at_cache.specs.Recorded.{IsIndexed, edge_to}
 use Rattle.at_cache.specs.Renewing.{IsAnother, IsUser, PutsIn}
 use Rattle.at_cache.specs.Standings.{AreValued, IsTied, alive, held, instances_in, is_alive, kept_held, remembered, standing_of}
+use Rattle.at_cache.specs.Theirs.{AreTheirs}
 use Rattle.at_cache.specs.Traced.{IsOutdated, IsSpared, IsStill, IsTraceOf, PutsTrace, SparesOthers, Trace}
 use Rattle.at_cache.proofs.of_cut.Again.{tied_there}
 use Rattle.at_cache.proofs.of_cut.Alive.{alive_on, by_trace, was_alive}
 use Rattle.at_cache.proofs.of_cut.Comes.{Comes, comes_indexed, puts_comes}
+use Rattle.at_cache.proofs.of_cut.EnteredHeld.{they_are, they_hold}
 use Rattle.at_cache.proofs.Ending.{is_in}
 use Rattle.at_cache.proofs.Ending as ending
-use Rattle.at_cache.proofs.of_cut.HeldSlots.{kept_slot}
-use Rattle.at_cache.proofs.Listing.{users_of}
+use Rattle.at_cache.proofs.of_cut.HeldSlots.{kept_slot, not_kept}
+use Rattle.at_cache.proofs.Listing.{back, users_of}
 use Rattle.at_cache.proofs.of_cut.Renewed.{renewed_tied}
 use Rattle.at_cache.proofs.of_cut.Goes.{instance_among}
 use Rattle.at_cache.proofs.of_cut.Retraced.{last_slot, puts_traces, trace_is, traced_in}
+use Rattle.at_cache.proofs.of_cut.Seeing.{set_is}
 use Rattle.at_cache.proofs.of_cut.Spared.{kept_trace, last_at}
 use Rattle.at_cache.proofs.Taking.{none_in}
 use Rattle.at_body.specs.Same.{same_instance}
 use Rattle.at_body.specs.Sameness.{instances_equiv}
 use Rattle.at_body.proofs.SamenessLemmas.{same_true}
 
+-- All that is owed where an entry has come that is kept.
+pub record HasEntered (lists later : Location ℕ → List Edge) (told tnew : Table) (before after : List Standing)
+    (number : ℕ)
+    (inst : Instance ℕ) (value : Option (Value ℕ)) (reads : List (Location ℕ)) (uses : List (Instance ℕ)) (o : Order)
+    : Type 0 where
+  pub indexed : IsIndexed later (number + 1) (held after (memory_of tnew))
+  pub tied : IsTied later (number + 1) after (memory_of tnew)
+  pub valued : AreValued after (memory_of tnew)
+  pub puts : Puts (kept_held lists told before number) inst value reads uses (kept_held later tnew after
+      (number + 1))
+  pub traces : PutsTrace inst value reads uses o (remembered lists told before) (remembered later tnew after)
+  pub spares : SparesOthers inst (kept_held later tnew after (number + 1)) (remembered lists told before) (remembered later tnew after)
+
 module _ (lists later : Location ℕ → List Edge) (told tnew : Table) (mid : Memory)
     (zero_st one_st two_st ts : List Standing) (puts slot : ℕ)
-    (inst : Instance ℕ) (value : Option (Value ℕ)) (links : List ℕ) (reads : List (Location ℕ)) (standing : Standing)
-    (o : Order)
+    (inst : Instance ℕ) (value : Option (Value ℕ)) (links slots : List ℕ) (reads : List (Location ℕ))
+    (uses : List (Instance ℕ)) (standing : Standing) (o : Order)
     (indexed : IsIndexed lists puts (held zero_st (memory_of told))) (tied : IsTied lists puts zero_st (memory_of told))
     (valued : AreValued zero_st (memory_of told))
-    (absent : kept_held lists told zero_st puts inst ≡ None) (named : (g : Info) → memory_of told slot ≡ Some g
-    → g.instance ≡ inst)
-    (hold : (p : ℕ) → list_any (nat_eq p) links ≡ true → (f : Info) × (memory_of told p ≡ Some f)
-    × ((standing_of zero_st p).holds ≡ true))
+    (absent : kept_held lists told zero_st puts inst ≡ None)
+    (present : AreKept (kept_held lists told zero_st puts) uses)
+    (named : (e : Info) → memory_of told slot ≡ Some e → e.instance ≡ inst)
+    (taken : AreTaken (memory_of told) links) (theirs : AreTheirs told uses links)
     (room : (k : ℕ) → standing_of one_st k ≡ standing_of zero_st k)
     (r : Reads (alive zero_st (memory_of told)) (record { slot = slot; stamp = puts }) reads lists later)
     (listed : AreListed (record { slot = slot; stamp = puts }) reads later)
-    (u : Uses (alive zero_st (memory_of told)) (record { slot = slot; stamp = puts }) links (memory_of told) mid)
-    (used : AreListed (record { slot = slot; stamp = puts }) links (users_at mid))
+    (same : slots ≡ links)
+    (u0 : Uses (alive zero_st (memory_of told)) (record { slot = slot; stamp = puts }) slots (memory_of told) mid)
+    (used0 : AreListed (record { slot = slot; stamp = puts }) slots (users_at mid))
     (p : PutsIn slot inst value links puts one_st mid two_st (memory_of tnew))
-    (set : (k : ℕ) → standing_of ts k ≡ (if nat_eq k slot then standing else standing_of two_st k))
+    (written : ts ≡ slice_set two_st slot standing) (within : slot < length two_st)
     (since : standing.since ≡ puts) (holds : standing.holds ≡ true)
     (ordered : standing.traced ≡ true → o ≡ order.AsTaken)
     (has : standing.traced ≡ true → is_some value ≡ true) where
+  hold : (p : ℕ) → list_any (nat_eq p) links ≡ true → (f : Info) × (memory_of told p ≡ Some f)
+      × ((standing_of zero_st p).holds ≡ true)
+  hold = they_hold lists told zero_st puts uses links present taken theirs
+
+  u : Uses (alive zero_st (memory_of told)) (record { slot = slot; stamp = puts }) links (memory_of told) mid
+  u = subst (λ ls. Uses (alive zero_st (memory_of told)) (record { slot = slot; stamp = puts }) ls (memory_of told) mid)
+      same u0
+
+  used : AreListed (record { slot = slot; stamp = puts }) links (users_at mid)
+  used = subst (λ ls. AreListed (record { slot = slot; stamp = puts }) ls (users_at mid)) same used0
+
+  set : (k : ℕ) → standing_of ts k ≡ (if nat_eq k slot then standing else standing_of two_st k)
+  set k = ap (λ xs. standing_of xs k) written ∙ set_is two_st slot standing within k
+
   stands_here : standing_of ts slot ≡ standing
   stands_here = set slot ∙ ap (λ b. if b then standing else standing_of two_st slot) (eq-eqb slot slot refl)
 
@@ -59,41 +90,26 @@ module _ (lists later : Location ℕ → List Edge) (told tnew : Table) (mid : M
   stands k differs = set k ∙ ap (λ b. if b then standing else standing_of two_st k)
       (false_from_ne_true (nat_eq k slot) (λ h. differs (eqb-true k slot h)))
 
-  back : (k : ℕ) (f : Info) → mid k ≡ Some f → (e : Info) × (memory_of told k ≡ Some e) × (f ≡ with_users f.users e)
-  back k f found = by (memory_of told k) refl
-    where
-      by : (o : Option Info) → memory_of told k ≡ o → (e : Info) × (memory_of told k ≡ Some e)
-          × (f ≡ with_users f.users e)
-      by None none = absurd (none-some f (sym (u.free k none) ∙ found))
-      by (Some e) there =
-          let (g, had, is) = u.there k e there in
-          let same : g ≡ f = same_Some g f (sym had ∙ found) in
-          (e, there, subst (λ (n : Info). n ≡ with_users n.users e) same is)
-
   edge_is : (record { slot = slot; stamp = puts }) ≡ edge_to slot p.entry
   edge_is n = record { slot = slot; stamp = (sym p.put.2) n }
 
-  pub its_instance : p.entry.instance ≡ inst
+  its_instance : p.entry.instance ≡ inst
   its_instance = by (mid slot) refl
     where
       by : (o : Option Info) → mid slot ≡ o → p.entry.instance ≡ inst
       by None none = p.fresh none
-      by (Some f) there = let (g, had, is) = back slot f there in p.anew f there ∙ ap (λ (n : Info). n.instance) is
+      by (Some f) there = let (g, had, is) = back u slot f there in p.anew f there ∙ ap (λ (n : Info). n.instance) is
           ∙ named g had
 
   off : (g : Info) → memory_of told slot ≡ Some g → (standing_of zero_st slot).holds ≡ false
-  off g had = by (standing_of zero_st slot).holds refl
-    where
-      by : (b : Bool) → (standing_of zero_st slot).holds ≡ b → (standing_of zero_st slot).holds ≡ false
-      by false is = is
-      by true is = absurd (none-some _ (sym absent ∙ ap (kept_held lists told zero_st puts) (sym (named g had))
-          ∙ kept_slot lists told zero_st puts slot g had is))
+  off g had = not_kept lists told zero_st puts slot g had
+      (ap (kept_held lists told zero_st puts) (named g had) ∙ absent)
 
-  pub comes : Comes (memory_of told) (memory_of tnew) zero_st ts puts slot p.entry
+  comes : Comes (memory_of told) (memory_of tnew) zero_st ts puts slot p.entry
   comes = record {
     here = p.here;
     stays = λ k g had differs. let (f, found, is) = u.there k g had in (f, p.others k differs ∙ found, is);
-    was = λ k f in_k differs. back k f (sym (p.others k differs) ∙ in_k);
+    was = λ k f in_k differs. back u k f (sym (p.others k differs) ∙ in_k);
     off = off;
     holds = ap (λ (z : Standing). z.holds) stands_here ∙ holds;
     since = ap (λ (z : Standing). z.since) stands_here ∙ since;
@@ -117,20 +133,20 @@ module _ (lists later : Location ℕ → List Edge) (told tnew : Table) (mid : M
   live k g had differs = was_alive (standing_of zero_st k) (standing_of ts k) (λ on. sym (comes.hold k differs) ∙ on)
       (fewer k g had differs)
 
-  pub enters_tied : IsTied later (puts + 1) ts (memory_of tnew)
+  enters_tied : IsTied later (puts + 1) ts (memory_of tnew)
   enters_tied = renewed_tied later tied refl r u p.entry refl p.put.2 p.put.1 p.put.3 p.put.4 p.here p.others used ts live
 
-  pub enters_indexed : IsIndexed later (puts + 1) (held ts (memory_of tnew))
+  enters_indexed : IsIndexed later (puts + 1) (held ts (memory_of tnew))
   enters_indexed = comes_indexed comes tied indexed later enters_tied
 
-  pub enters_valued : AreValued ts (memory_of tnew)
+  enters_valued : AreValued ts (memory_of tnew)
   enters_valued k f in_k on = elim (cases_eq k slot) [
     | inl same ↦
         let it : p.entry ≡ f = same_Some p.entry f (sym p.here ∙ ap (memory_of tnew) (sym same) ∙ in_k) in
         ap (λ (n : Info). is_some n.value) (sym it) ∙ ap is_some p.put.0
         ∙ has (ap (λ (z : Standing). z.traced) (sym stands_here) ∙ ap (λ n. (standing_of ts n).traced) (sym same) ∙ on)
     | inr differs ↦
-        let (g, had, is) = back k f (sym (p.others k differs) ∙ in_k) in
+        let (g, had, is) = back u k f (sym (p.others k differs) ∙ in_k) in
         ap (λ (n : Info). is_some n.value) is ∙ valued k g had (fewer k g had differs on)
   ]
 
@@ -208,7 +224,7 @@ module _ (lists later : Location ℕ → List Edge) (told tnew : Table) (mid : M
             ∙ p.put.0);
       }
 
-  pub enters_puts : Puts (kept_held lists told zero_st puts) inst value reads
+  enters_puts : Puts (kept_held lists told zero_st puts) inst value reads
       (instances_in (memory_of told) links) (kept_held later tnew ts (puts + 1))
   enters_puts =
       subst (λ i. Puts (kept_held lists told zero_st puts) i value reads (instances_in (memory_of told) links)
@@ -221,7 +237,7 @@ module _ (lists later : Location ℕ → List Edge) (told tnew : Table) (mid : M
       edge_is r) (subst (λ x. AreListed x reads later) edge_is listed)
       (λ g had. named g had ∙ sym its_instance))))
 
-  pub enters_traces : PutsTrace inst value reads (instances_in (memory_of told) links) o
+  enters_traces : PutsTrace inst value reads (instances_in (memory_of told) links) o
       (remembered lists told zero_st) (remembered later tnew ts)
   enters_traces =
       subst (λ i. PutsTrace i value reads (instances_in (memory_of told) links) o (remembered lists told zero_st)
@@ -271,7 +287,7 @@ module _ (lists later : Location ℕ → List Edge) (told tnew : Table) (mid : M
   kept_now = ap is_some (ap (kept_held later tnew ts (puts + 1)) (sym its_instance)
       ∙ kept_slot later tnew ts (puts + 1) slot p.entry p.here comes.holds)
 
-  pub enters_spares : SparesOthers inst (kept_held later tnew ts (puts + 1)) (remembered lists told zero_st) (remembered later tnew ts)
+  enters_spares : SparesOthers inst (kept_held later tnew ts (puts + 1)) (remembered lists told zero_st) (remembered later tnew ts)
   enters_spares = record { spares = spares_it; last = λ u. by u (same_instance inst u) refl }
     where
       by : (u : Instance ℕ) (b : Bool) → same_instance inst u ≡ b
@@ -280,3 +296,15 @@ module _ (lists later : Location ℕ → List Edge) (told tnew : Table) (mid : M
       by u true is = inr (same_true inst u is, kept_now)
       by u false is = inl (last_other u (λ same. true≢false (sym (instances_equiv.refl inst)
           ∙ ap (same_instance inst) same ∙ is)))
+
+  pub has_entered : HasEntered lists later told tnew zero_st ts puts inst value reads uses o
+  has_entered = subst (λ us. HasEntered lists later told tnew zero_st ts puts inst value reads us o)
+      (they_are lists told zero_st puts uses links present taken theirs)
+      (record {
+        indexed = enters_indexed;
+        tied = enters_tied;
+        valued = enters_valued;
+        puts = enters_puts;
+        traces = enters_traces;
+        spares = enters_spares;
+      })

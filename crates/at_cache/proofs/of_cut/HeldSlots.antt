@@ -94,6 +94,15 @@ module _ (lists : Location ℕ → List Edge) (t : Table) (st : List Standing) (
       let (x, found, at_s, valued) = entry_in t s e there in
       kept_by e.instance x found false (ap (λ k. (standing_of st k).holds) at_s ∙ off)
 
+  -- an entry of an instance of which nothing is kept isn't
+  pub not_kept : (s : ℕ) (e : Info) → memory_of t s ≡ Some e → kept_held lists t st puts e.instance ≡ None
+      → (standing_of st s).holds ≡ false
+  not_kept s e there none = by (standing_of st s).holds refl
+    where
+      by : (b : Bool) → (standing_of st s).holds ≡ b → (standing_of st s).holds ≡ false
+      by false is = is
+      by true is = absurd (none-some _ (sym none ∙ kept_slot s e there is))
+
   -- what is kept of an instance holds in its slot
   pub holds_slot : (s : ℕ) (e : Info) → memory_of t s ≡ Some e
       → IsSome (value_at (kept_held lists t st puts e.instance)) → (standing_of st s).holds ≡ true

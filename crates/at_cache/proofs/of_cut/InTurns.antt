@@ -27,9 +27,11 @@ module _ (b c : Bool) (old new : Memories) where
   spared_in_turns i t (inl there) = inl there
   spared_in_turns i t (inr gone) = inr (outdated_in_turns t gone)
 
-  pub fails_in_turns : {E : Type 0} (r : Result (Unit {0}) E) → OnErr r (StayTraced old new) → OnErr r (StayTraced (with_turns b old) (with_turns c new))
+  pub fails_in_turns : {E : Type 0} (r : Result (Unit {0}) E) → OnErr r (StayTraced old new)
+      → OnErr r (StayTraced (with_turns b old) (with_turns c new))
   fails_in_turns (Ok p) h = tt
-  fails_in_turns (Err e) h = λ i t traced. let s = h i t traced in record { traced = s.traced; value = s.value; uses = s.uses }
+  fails_in_turns (Err e) h = λ i t traced.
+      let s = h i t traced in record { traced = s.traced; value = s.value; uses = s.uses }
 
   pub spares_in_turns : (i : Instance ℕ) (after : Entries) → SparesOthers i after old new → SparesOthers i after (with_turns b old) (with_turns c new)
   spares_in_turns i after h = record { spares = λ j t differs was. spared_in_turns j t (h.spares j t differs was); last = h.last }

@@ -2,7 +2,6 @@
 use Rattle.std.proofs.Common.{◌≡◌, inl, ℕ, ◌+◌, List, Option, None, Some, Result, Ok, Err, OnOk, OnErr, is_some, option_map, if◌then◌else◌, refl, sym, ap, ◌∙◌, subst, arith}
 use Rattle.std.specs.Map.{lookup}
 use Rattle.std.specs.Option.{option_and_then}
-use Rattle.std.proofs.lemmas.Option.{none-some, same_Some}
 use Rattle.at_model.specs.Run.{Instance, Location, Value}
 use Rattle.at_body.specs.Same.{same_instance}
 use Rattle.at_body.specs.Values.{value_view}
@@ -14,7 +13,7 @@ use Rattle.at_cache.specs.declared.standing.Standing.{Standing}
 use Rattle.at_cache.specs.declared.table.Table.{Table}
 use Rattle.at_cache.specs.Info.{Info, Memory, memory_of}
 use Rattle.at_cache.specs.Kept.{Entries, Kept, KeepsAll, Puts}
-use Rattle.at_cache.specs.Putting.{Reads, Uses, with_users}
+use Rattle.at_cache.specs.Putting.{Reads, Uses}
 use Rattle.at_cache.specs.Recorded.{IsIndexed, covers}
 use Rattle.at_cache.specs.Renewing.{EntersHeld}
 use Rattle.at_cache.specs.Shedding.{kept_cut}
@@ -22,7 +21,7 @@ use Rattle.at_cache.specs.Standings.{AreValued, IsTied, alive, held, is_alive, k
 use Rattle.at_cache.specs.Traced.{KeepsTrace, SparesOthers, StayTraced}
 use Rattle.at_cache.proofs.of_cut.Alive.{tied_on}
 use Rattle.at_cache.proofs.of_cut.Lifting.{kept_still, stale_held}
-use Rattle.at_cache.proofs.Listing.{reads_none, uses_none}
+use Rattle.at_cache.proofs.Listing.{back, reads_none, uses_none}
 use Rattle.at_cache.proofs.of_cut.Retraced.{stale_traces, trace_is, traced_in}
 use Rattle.at_cache.proofs.of_cut.Spared.{kept_trace, last_at}
 use Rattle.at_cache.proofs.of_cut.Tying.{tied_still}
@@ -65,18 +64,6 @@ module _ (lists later : Location ℕ → List Edge) (told tnew : Table)
     (same : (k : ℕ) → standing_of ts k ≡ standing_of st k)
     (r : Reads (alive st (memory_of told)) x reads lists later)
     (u : Uses (alive st (memory_of told)) x links (memory_of told) (memory_of tnew)) where
-  was : (k : ℕ) (f : Info) → memory_of tnew k ≡ Some f → (e : Info) × (memory_of told k ≡ Some e) ×
-      (f ≡ with_users f.users e)
-  was k f found = by (memory_of told k) refl
-    where
-      by : (o : Option Info) → memory_of told k ≡ o → (e : Info) × (memory_of told k ≡ Some e) ×
-          (f ≡ with_users f.users e)
-      by None none = absurd (none-some f (sym (u.free k none) ∙ found))
-      by (Some e) there =
-          let (g, had, is) = u.there k e there in
-          let one : g ≡ f = same_Some g f (sym had ∙ found) in
-          (e, there, subst (λ (n : Info). n ≡ with_users n.users e) one is)
-
   trace_left : (j : Instance ℕ) → KeepsTrace j (remembered lists told st) (remembered later tnew ts)
   trace_left j trace traced =
       let (k, g, had, named) = traced_in lists told st j trace traced in
@@ -86,13 +73,13 @@ module _ (lists later : Location ℕ → List Edge) (told tnew : Table)
       ap (remembered later tnew ts).traced (sym named)
       ∙ kept_trace lists later told tnew st ts k g f trace had now (ap (λ (n : Info). n.instance) it)
       (ap (λ (n : Info). n.value) it) (ap (λ (z : Standing). z.traced) (same k) ∙ on) its
-      (λ w h. (stale_traces lists later told tnew st ts t stamp r u.there was
+      (λ w h. (stale_traces lists later told tnew st ts t stamp r u.there (back u)
       (λ n. ap (λ (z : Standing). z.traced) (same n)) g.instance w h).traced)
 
   last_left : (j : Instance ℕ) → (remembered later tnew ts).last j ≡ (remembered lists told st).last j
   last_left j = last_at lists later told tnew st ts j
       (λ k g had its. let (f, now, it) = u.there k g had in (f, now, ap (λ (n : Info). n.instance) it))
-      (λ k f now its. let (g, had, it) = was k f now in
+      (λ k f now its. let (g, had, it) = back u k f now in
       (g, had, ap (λ (n : Info). n.instance) it, ap (λ (n : Info). n.value) it))
 
   -- where only edges came
@@ -102,11 +89,11 @@ module _ (lists later : Location ℕ → List Edge) (told tnew : Table)
         (stale_held st told tnew lists later puts x reads links i stamp r u);
     tied = tied_on (puts + 1) ts (omega arith) (λ k f found on. ap is_alive (sym (same k)) ∙ on) (tied_still t stamp r u);
     valued = λ k f found on.
-        let (e, there, is) = was k f found in
+        let (e, there, is) = back u k f found in
         ap (λ (n : Info). is_some n.value) is ∙ v k e there (ap (λ (s : Standing). s.traced) (sym (same k)) ∙ on);
     err = λ j. kept_alike st ts same later tnew (puts + 1) j
         ∙ kept_still st told tnew lists later puts x reads links i stamp r u j;
-    stay = λ j trace h. stale_traces lists later told tnew st ts t stamp r u.there was
+    stay = λ j trace h. stale_traces lists later told tnew st ts t stamp r u.there (back u)
         (λ k. ap (λ (s : Standing). s.traced) (same k)) j trace h;
     spares = λ i after. record {
       spares = λ j trace apart traced. inl (trace_left j trace traced);

@@ -23,7 +23,7 @@ use Rattle.at_cache.proofs.Index.{kept_at}
 use Rattle.at_cache.proofs.of_cut.Again.{held_off, tied_there}
 use Rattle.at_cache.proofs.of_cut.Flushed.{shown_held}
 use Rattle.at_cache.proofs.of_cut.Goes.{stay_traced}
-use Rattle.at_cache.proofs.of_cut.HeldSlots.{entry_in, kept_slot}
+use Rattle.at_cache.proofs.of_cut.HeldSlots.{entry_in, not_kept}
 use Rattle.at_cache.proofs.of_cut.LeftHeld.{Left, left_alone}
 use Rattle.at_cache.proofs.of_cut.Retraced.{names, trace_is, traced_in, traced_of, traced_slot}
 use Rattle.at_cache.proofs.of_cut.Spared.{kept_trace, last_at}
@@ -83,36 +83,30 @@ module _ (lists : Location ℕ → List Edge) (told tnew : Table) (st ts : List 
   ]
 
   was : (k : ℕ) (f : Info) → memory_of tnew k ≡ Some f → (g : Info) × (memory_of told k ≡ Some g)
-      × (f.instance ≡ g.instance) × (f.value ≡ g.value)
+      × (f.instance ≡ g.instance) × (f.value ≡ g.value) × (f.users ≡ g.users)
   was k f now = elim (came k f now) [
     | inl (same, is) ↦ (
       e,
       ap (memory_of told) same ∙ there,
       ap (λ (n : Info). n.instance) (sym is),
       ap (λ (n : Info). n.value) (sym is),
+      ap (λ (n : Info). n.users) (sym is),
     )
-    | inr (differs, had) ↦ (f, had, refl, refl)
+    | inr (differs, had) ↦ (f, had, refl, refl, refl)
   ]
 
   stays : (k : ℕ) (g : Info) → memory_of told k ≡ Some g → (f : Info) × (memory_of tnew k ≡ Some f)
-      × (f.instance ≡ g.instance)
+      × (f.instance ≡ g.instance) × (f.users ≡ g.users)
   stays k g had = elim (cases_eq k slot) [
-    | inl same ↦ (
-      it,
-      ap (memory_of tnew) same ∙ here,
-      ap (λ (n : Info). n.instance) (same_Some e g (sym there ∙ ap (memory_of told) (sym same) ∙ had)),
-    )
-    | inr differs ↦ (g, other k differs ∙ had, refl)
+    | inl same ↦
+        let its = same_Some e g (sym there ∙ ap (memory_of told) (sym same) ∙ had) in
+        (it, ap (memory_of tnew) same ∙ here, ap (λ (n : Info). n.instance) its, ap (λ (n : Info). n.users) its)
+    | inr differs ↦ (g, other k differs ∙ had, refl, refl)
   ]
 
   -- it isn't kept
   off : (standing_of st slot).holds ≡ false
-  off = by (standing_of st slot).holds refl
-    where
-      by : (b : Bool) → (standing_of st slot).holds ≡ b → (standing_of st slot).holds ≡ false
-      by false is = is
-      by true is = absurd (none-some _ (sym a.absent ∙ ap (kept_held lists told st puts) (sym (a.its e there))
-          ∙ kept_slot lists told st puts slot e there is))
+  off = not_kept lists told st puts slot e there (ap (kept_held lists told st puts) (a.its e there) ∙ a.absent)
 
   held_same : (k : ℕ) → held ts (memory_of tnew) k ≡ held st (memory_of told) k
   held_same k = elim (cases_eq k slot) [
@@ -141,25 +135,6 @@ module _ (lists : Location ℕ → List Edge) (told tnew : Table) (st ts : List 
   unlinked : (p : ℕ) → list_any (nat_eq p) it.links ≡ true → ⊥
   unlinked p h = true≢false (sym h ∙ ap (λ ls. list_any (nat_eq p) ls) none)
 
-  -- the users of each are what they were
-  users_now : (p : ℕ) (g : Info) → memory_of told p ≡ Some g → (f : Info) × (memory_of tnew p ≡ Some f)
-      × (f.users ≡ g.users)
-  users_now p g had = elim (cases_eq p slot) [
-    | inl same ↦ (
-      it,
-      ap (memory_of tnew) same ∙ here,
-      ap (λ (n : Info). n.users) (same_Some e g (sym there ∙ ap (memory_of told) (sym same) ∙ had)),
-    )
-    | inr differs ↦ (g, other p differs ∙ had, refl)
-  ]
-
-  users_were : (p : ℕ) (f : Info) → memory_of tnew p ≡ Some f → (g : Info) × (memory_of told p ≡ Some g)
-      × (f.users ≡ g.users)
-  users_were p f now = elim (came p f now) [
-    | inl (same, is) ↦ (e, ap (memory_of told) same ∙ there, ap (λ (n : Info). n.users) (sym is))
-    | inr (differs, had) ↦ (f, had, refl)
-  ]
-
   tied_test : (s : ℕ) (f : Info) (p : ℕ) (g : Info) → memory_of tnew p ≡ Some g
       → is_listed (edge_to s f) g.users ≡ true → is_tied (memory_of tnew) s f p ≡ true
   tied_test s f p g now listed = ap (λ (o : Option Info). elim o as (λ _. Bool)
@@ -183,11 +158,11 @@ module _ (lists : Location ℕ → List Edge) (told tnew : Table) (st ts : List 
       | inl (same, is) ↦ absurd (unlinked p (ap (λ (n : Info). list_any (nat_eq p) n.links) is ∙ h))
       | inr (differs, had) ↦
           let (g, at_p, listed) = tied_there (memory_of told) k f p (a.tied.used k f had (live k differs on) p h) in
-          let (n, now_p, users) = users_now p g at_p in
+          let (n, now_p, named, users) = stays p g at_p in
           tied_test k f p n now_p (ap (is_listed (edge_to k f)) users ∙ listed)
     ];
     uses = λ p f now x h g at_x stamp.
-        let (old, had, users) = users_were p f now in
+        let (old, had, named, value, users) = was p f now in
         let listed = ap (is_listed x) (sym users) ∙ h in
         elim (came x.slot g at_x) [
           | inl (same, is) ↦
@@ -198,7 +173,7 @@ module _ (lists : Location ℕ → List Edge) (told tnew : Table) (st ts : List 
         ];
     past_readers = λ l x h. let less = a.tied.past_readers l x h in omega (arith, less);
     past_users = λ p f now x h.
-        let (old, had, users) = users_were p f now in
+        let (old, had, named, value, users) = was p f now in
         let less = a.tied.past_users p old had x (ap (is_listed x) (sym users) ∙ h) in
         omega (arith, less);
   }
@@ -222,7 +197,9 @@ module _ (lists : Location ℕ → List Edge) (told tnew : Table) (st ts : List 
       ∙ ap (λ us. names (memory_of tnew p) ++ us) (instances_same ps)
 
   last_same : (j : Instance ℕ) → (remembered lists tnew ts).last j ≡ (remembered lists told st).last j
-  last_same j = last_at lists lists told tnew st ts j (λ k g had its. stays k g had) (λ k f now its. was k f now)
+  last_same j = last_at lists lists told tnew st ts j
+      (λ k g had its. let (f, now, named, users) = stays k g had in (f, now, named))
+      (λ k f now its. let (g, had, named, value, users) = was k f now in (g, had, named, value))
 
   stay : StayTraced (remembered lists told st) (remembered lists tnew ts)
   stay j trace traced =
@@ -291,7 +268,8 @@ awaited_still lists t st puts i slot a = record {
 }
 
 -- where each trace was there, no trace comes; and what is put then is put before
-still_after : (old mid new : Memories) → StayTraced old mid → (j : Instance ℕ) (t : Trace) → IsStill mid new j t → IsStill old new j t
+still_after : (old mid new : Memories) → StayTraced old mid → (j : Instance ℕ) (t : Trace)
+    → IsStill mid new j t → IsStill old new j t
 still_after old mid new stay j trace still =
     let before = stay j trace still.traced in
     record {

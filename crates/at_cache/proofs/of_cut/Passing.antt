@@ -14,11 +14,12 @@ use Rattle.at_cache.specs.declared.edge.Edge.{Edge}
 use Rattle.at_cache.specs.declared.mark.Mark.{Mark}
 use Rattle.at_cache.specs.declared.standing.Standing.{Standing}
 use Rattle.at_cache.specs.declared.table.Table.{Table}
-use Rattle.at_cache.specs.Flushing.{Begins, IsChain, IsIdle, Work, dooms, first_after}
+use Rattle.at_cache.specs.Flushing.{Begins, IsIdle, Work, dooms, first_after}
 use Rattle.at_cache.specs.Info.{Info, Memory, memory_of, table_len}
 use Rattle.at_cache.specs.Marking.{Aside, GoesOver, HasMark, IsQuiet, Passes, TakesAway, Untraces, aside_cut, beside, held_among, held_in, of_trace, of_value, stamps_of, unmarked}
 use Rattle.at_cache.specs.Putting.{is_current, reused, users_at, with_users}
 use Rattle.at_cache.specs.Standings.{IsChanged, held, shape, shown, standing_of, unheld, untraced}
+use Rattle.at_cache.proofs.Ending.{none_goes}
 use Rattle.at_cache.proofs.Dooming.{dooming, head_of}
 use Rattle.at_cache.proofs.of_cut.Again.{held_from, held_off, held_on}
 use Rattle.at_cache.proofs.of_cut.Resting.{resting}
@@ -473,10 +474,3 @@ takes_away says lists a b c start first begins over works passes idle =
           (subst (λ s. Untraces [] s b.standings.items c.standings.items) (stamps_past (memory_of a.entries) (memory_of b.entries) (entries_aside a b over.aside)) passes.traces));
       entries = entries_after a c (λ k. passes.entries k ∙ entries_aside a b over.aside k) (λ q. passes.quiet (quiet_aside a b over.aside q)) idle (none_goes w);
     }
-  where
-    none_goes : {old m : Memory} {start : List Edge} → Work old start [] None m → (k : ℕ) (e : Info) → m k ≡ Some e → e.going ≡ true → ⊥
-    none_goes {m = m} w k e there going = by w.chain w.linked (w.all k e there going)
-      where
-        by : (ss : List ℕ) → IsChain m None ss → Contains ss k → ⊥
-        by [] h c = none_in k c
-        by (t ∷ ts) h c = none-some t (h.0)

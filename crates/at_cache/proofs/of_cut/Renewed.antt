@@ -2,7 +2,7 @@
 use Rattle.std.proofs.Common.{◌≡◌, inl, inr, [], ◌<◌, ◌+◌, ℕ, List, Bool, true, false, Option, Some, None, nat_eq, Contains, refl, sym, ap, ◌∙◌, subst, arith, eqb-true}
 use Rattle.std.specs.List.{list_any}
 use Rattle.std.proofs.lemmas.Bool.{cases_eq}
-use Rattle.std.proofs.lemmas.Option.{none-some, same_Some}
+use Rattle.std.proofs.lemmas.Option.{same_Some}
 use Rattle.at_model.specs.Run.{Location}
 use Rattle.at_cache.specs.declared.edge.Edge.{Edge}
 use Rattle.at_cache.specs.declared.standing.Standing.{Standing}
@@ -13,7 +13,7 @@ use Rattle.at_cache.specs.Standings.{IsTied, alive, held, is_alive, is_tied, sta
 use Rattle.at_cache.proofs.of_cut.Again.{held_as, held_from, held_on, is_among, there_used, tied_there, used_there}
 use Rattle.at_cache.proofs.of_cut.Alive.{alive_on, by_holding}
 use Rattle.at_cache.proofs.Ending.{has, is_in, some_of}
-use Rattle.at_cache.proofs.Listing.{users_of}
+use Rattle.at_cache.proofs.Listing.{back, users_of}
 use Rattle.at_cache.proofs.Taking.{none_in}
 
 -- what the test finds is among them
@@ -81,16 +81,6 @@ module _ {lists : Location ℕ → List Edge} {puts : ℕ} {st : List Standing} 
     (tied : IsTied lists puts st m) (stamp : x.stamp ≡ puts) (r : Reads (alive st m) x reads lists later)
     (u : Uses (alive st m) x uses m mid)
   where
-    back : (k : ℕ) (f : Info) → mid k ≡ Some f → (e : Info) × (m k ≡ Some e) × (f ≡ with_users f.users e)
-    back k f found = by (m k) refl
-      where
-        by : (o : Option Info) → m k ≡ o → (e : Info) × (m k ≡ Some e) × (f ≡ with_users f.users e)
-        by None none = absurd (none-some f (sym (u.free k none) ∙ found))
-        by (Some e) there =
-            let (g, had, is) = u.there k e there in
-            let same : g ≡ f = same_Some g f (sym had ∙ found) in
-            (e, there, subst (λ (n : Info). n ≡ with_users n.users e) same is)
-
     -- with the entry
     module _ {slot : ℕ} {new : Memory} (e : Info) (at_slot : x.slot ≡ slot) (its_stamp : e.stamp ≡ puts)
         (its_links : e.links ≡ uses)
@@ -104,7 +94,7 @@ module _ {lists : Location ℕ → List Edge} {puts : ℕ} {st : List Standing} 
 
       was : (k : ℕ) (f : Info) → new k ≡ Some f → (k ≡ slot → ⊥) → (g : Info) × (m k ≡ Some g)
           × (f ≡ with_users f.users g)
-      was k f found differs = back k f (sym (others k differs) ∙ found)
+      was k f found differs = back u k f (sym (others k differs) ∙ found)
 
       -- all have the users that they had
       users_same : (p : ℕ) → users_at new p ≡ users_at mid p

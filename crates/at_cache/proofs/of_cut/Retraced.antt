@@ -22,8 +22,9 @@ use Rattle.at_cache.specs.Standings.{IsTied, alive, held, instances_in, is_alive
 use Rattle.at_cache.specs.Traced.{IsStill, IsTraceOf, PutsTrace, StayTraced, Trace}
 use Rattle.at_cache.proofs.of_cut.Again.{tied_there}
 use Rattle.at_cache.proofs.of_cut.Alive.{alive_on, by_trace}
-use Rattle.at_cache.proofs.of_cut.Comes.{Comes, agree, listed_it, listed_same}
-use Rattle.at_cache.proofs.Ending.{has, is_in, on_right}
+use Rattle.at_cache.proofs.of_cut.Comes.{Comes, listed_it, listed_same}
+use Rattle.at_cache.proofs.Listing.{listed_still}
+use Rattle.at_cache.proofs.Ending.{on_right}
 use Rattle.at_cache.proofs.of_cut.HeldSlots.{entry_in, slot_of}
 use Rattle.at_cache.proofs.Taking.{none_in}
 
@@ -222,18 +223,8 @@ module _ (lists later : Location ℕ → List Edge) (told tmid : Table) (st ts :
     (same : (k : ℕ) → (standing_of ts k).traced ≡ (standing_of st k).traced) where
   still_listed : (k : ℕ) (g : Info) → memory_of told k ≡ Some g → is_alive (standing_of st k) ≡ true → (l : Location ℕ)
       → is_listed (edge_to k g) (later l) ≡ is_listed (edge_to k g) (lists l)
-  still_listed k g had live l = agree _ _ (λ h. has (lists l) (edge_to k g) (was_in (is_in (later l) (edge_to k g) h)))
-      (λ h. has (later l) (edge_to k g) (r.keeps l (edge_to k g) (is_in (lists l) (edge_to k g) h) g
-      (alive_on st (memory_of told) k g had live) refl))
-    where
-      was_in : Contains (later l) (edge_to k g) → Contains (lists l) (edge_to k g)
-      was_in d = elim (r.only l (edge_to k g) d) [
-        | inl old ↦ old
-        | inr (one, at_l) ↦
-            let known = tied.known k g had in
-            let a : g.stamp ≡ x.stamp = ap (λ (z : Edge). z.stamp) one in
-            absurd (omega (arith, known, a, stamp))
-      ]
+  still_listed k g had live = listed_still r k g (alive_on st (memory_of told) k g had live)
+      (λ same. let known = tied.known k g had in omega (arith, known, same, stamp))
 
   still_named : (ps : List ℕ) → ((p : ℕ) → list_any (nat_eq p) ps ≡ true → (f : Info) × (memory_of told p ≡ Some f))
       → instances_in (memory_of tmid) ps ≡ instances_in (memory_of told) ps

@@ -1,5 +1,5 @@
 -- An entry that stays stands for what it stood for, where others are folded into it.
-use Rattle.std.proofs.Common.{◌≡◌, inl, inr, ℕ, zero, suc, ◌<◌, ◌≤◌, ◌+◌, List, Bool, true, false, true≢false, Option, None, Some, Contains, option_map, refl, sym, ap, ◌∙◌, subst, arith}
+use Rattle.std.proofs.Common.{◌≡◌, inl, inr, ℕ, zero, suc, ◌<◌, ◌≤◌, ◌+◌, List, true, true≢false, Option, None, Some, Contains, option_map, refl, sym, ap, ◌∙◌, subst, arith}
 use Rattle.std.specs.List.{list_any}
 use Rattle.std.proofs.lemmas.Option.{none-some, same_Some}
 use Rattle.at_model.specs.Run.{Location}
@@ -7,14 +7,9 @@ use Rattle.at_cache.specs.declared.edge.Edge.{Edge}
 use Rattle.at_cache.specs.Folding.{Folded, Folds, IsLeft, Rewritten, Tells}
 use Rattle.at_cache.specs.Info.{Info, Memory}
 use Rattle.at_cache.specs.Recorded.{covers, edge_to, is_listed}
-use Rattle.at_cache.proofs.Ending.{any_of, either, far_enough, has, is_in, on_left, on_right, opened, some_of}
+use Rattle.at_cache.proofs.Ending.{agree, any_of, either, far_enough, has, is_in, on_left, on_right, opened, some_of}
 use Rattle.at_cache.proofs.Entered.{kept_of}
 use Rattle.at_cache.proofs.Index.{Index, Standing, kept_at, standing}
-
-agree : (a b : Bool) → (a ≡ true → b ≡ true) → (b ≡ true → a ≡ true) → a ≡ b
-agree true b f g = sym (f refl)
-agree false true f g = g refl
-agree false false f g = refl
 
 module _ {lists later : Location ℕ → List Edge} {puts : ℕ} {m n : Memory} {into : ℕ → List ℕ} (i : Index lists puts m) (j : Index later puts n) (plan : Folds m into) (d : Folded lists m into later n) (l : Location ℕ) where
   old_more : (s : ℕ) (e : Info) → m s ≡ Some e → covers lists m (suc puts) s l ≡ true → covers lists m puts s l ≡ true

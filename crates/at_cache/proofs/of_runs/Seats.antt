@@ -308,9 +308,13 @@ free_pushed seats seat is runs node free s h = elim (pushed_at seats seat node s
   | inr (alike, at) ↦ on_nowhere runs s (ap (λ (z : Seat). z.place) alike ∙ is)
 ]
 
-pub seated_keeps : {m : Memory} {x : Edge} {seats : List Seat} {old new : List Run} → AreSeated seats old → KeepsRuns m x old new → AreSeated seats new
-seated_keeps a keeps = record {
+pub seated_on : {seats : List Seat} {old new : List Run} → AreSeated seats old
+    → ((k : ℕ) → count_of old k ≤ count_of new k) → (ArePast old → ArePast new) → AreSeated seats new
+seated_on a given past = record {
   apart = a.apart;
-  given = λ n s h. let c = a.given n s h in let d = keeps.given s.run in omega (arith, c, d);
-  past = keeps.past a.past;
+  given = λ n s h. let c = a.given n s h in let d = given s.run in omega (arith, c, d);
+  past = past a.past;
 }
+
+pub seated_keeps : {m : Memory} {x : Edge} {seats : List Seat} {old new : List Run} → AreSeated seats old → KeepsRuns m x old new → AreSeated seats new
+seated_keeps a keeps = seated_on a keeps.given keeps.past

@@ -2,7 +2,6 @@ use Rattle.std.proofs.Common.{◌∙◌, eqb-true, length, map, sym}
 use Rattle.at_store.specs.Located.{loc_view}
 use Rattle.at_cache.specs.Finding.{edges_to}
 use Rattle.at_cache.specs.Readers.{edges_at}
-use Rattle.at_cache.proofs.Listing.{reads_unchanged}
 use Rattle.at_cache.proofs.of_runs.Over.{noted_from, noted_to}
 use Rattle.at_cache.proofs.of_runs.Stretches.{adds_beside, both_ok, but_all, but_beside, but_then, in_back, in_front, in_parts, lists_parts, none_left, reads_parts, reads_then, reads_within}
 use Rattle.at_cache.proofs.linking.add_fold.Goals as goal
@@ -15,46 +14,33 @@ pub returns-in_err-rest-clause-reads : goal.returns-in_err-rest-clause-reads
 returns-in_err-rest-clause-reads c =
     let xs = c.args.locations.now in
     let n = c.before_fold-place.result in
-    let first = reads_parts (in_front loc_view n xs) (in_back loc_view n xs) (rw c.split_at.ensures.front at c.add_own.ensures.reads)
-    (adds_beside (edges_at c.add_own.new.readers.own.items) (rw c.split_at.ensures.back at c.add_stretch.ensures.adds)) in
-    first
+    reads_parts (in_front loc_view n xs) (in_back loc_view n xs) (rw c.split_at.ensures.front at c.add_own.ensures.reads)
+    (adds_beside (edges_at c.add_own.new.readers.own.items) (rw c.split_at.ensures.back at c.add_stretch.ensures.adds))
 
 pub returns-in_err-rest-clause-noted : goal.returns-in_err-rest-clause-noted
 returns-in_err-rest-clause-noted c h =
     let rs = c.add_own.new.readers in
     let nodes = c.add_own.new.index_read.items in
-    let noted = noted_from rs.own.items c.add_stretch.new.seats.items c.add_stretch.new.runs.items nodes
-    (noted_to rs.own.items rs.seats.items rs.runs.items nodes (c.add_own.ensures.noted h)) in
-    noted
+    noted_from rs.own.items c.add_stretch.new.seats.items c.add_stretch.new.runs.items nodes
+    (noted_to rs.own.items rs.seats.items rs.runs.items nodes (c.add_own.ensures.noted h))
 
 pub loop-init : goal.loop-init
 loop-init c =
     let xs = c.args.locations.now in
     let n = c.before_fold-place.result in
     let own = edges_at c.add_own.new.readers.own.items in
+    let rs = c.add_own.new.readers in
+    let nodes = c.add_own.new.index_read.items in
     record {
-      reads = reads_unchanged _ _ _ _;
-      noted = λ h. h;
+      reads = reads_parts (in_front loc_view n xs) (in_back loc_view n xs)
+          (rw c.split_at.ensures.front at c.add_own.ensures.reads)
+          (adds_beside own (rw c.split_at.ensures.back at c.add_stretch.ensures.adds));
+      noted = λ h. noted_from rs.own.items c.add_stretch.new.seats.items c.add_stretch.new.runs.items nodes
+          (noted_to rs.own.items rs.seats.items rs.runs.items nodes (c.add_own.ensures.noted h));
       listed = lists_parts _ (in_back loc_view n xs) (in_parts loc_view n xs) (rw c.split_at.ensures.front at c.in_ok-add_own.ensures.listed)
           (adds_beside own (rw c.split_at.ensures.back at c.add_stretch.ensures.adds))
           (but_beside own (rw c.split_at.ensures.back at c.in_ok-rest.ensures.listed));
     }
-
-pub returns-then-is_empty-clause-reads : goal.returns-then-is_empty-clause-reads
-returns-then-is_empty-clause-reads c =
-    let xs = c.args.locations.now in
-    let n = c.before_fold-place.result in
-    let first = reads_parts (in_front loc_view n xs) (in_back loc_view n xs) (rw c.split_at.ensures.front at c.add_own.ensures.reads)
-    (adds_beside (edges_at c.add_own.new.readers.own.items) (rw c.split_at.ensures.back at c.add_stretch.ensures.adds)) in
-    reads_then first c.loop.invariant.reads (λ l d. d)
-
-pub returns-then-is_empty-clause-noted : goal.returns-then-is_empty-clause-noted
-returns-then-is_empty-clause-noted c h =
-    let rs = c.add_own.new.readers in
-    let nodes = c.add_own.new.index_read.items in
-    let noted = noted_from rs.own.items c.add_stretch.new.seats.items c.add_stretch.new.runs.items nodes
-    (noted_to rs.own.items rs.seats.items rs.runs.items nodes (c.add_own.ensures.noted h)) in
-    c.loop.invariant.noted noted
 
 pub returns-then-is_empty-clause-listed : goal.returns-then-is_empty-clause-listed
 returns-then-is_empty-clause-listed c =
@@ -63,19 +49,7 @@ returns-then-is_empty-clause-listed c =
 
 pub returns-in_err-rest-2-clause-reads : goal.returns-in_err-rest-2-clause-reads
 returns-in_err-rest-2-clause-reads c =
-    let xs = c.args.locations.now in
-    let n = c.before_fold-place.result in
-    let first = reads_parts (in_front loc_view n xs) (in_back loc_view n xs) (rw c.split_at.ensures.front at c.add_own.ensures.reads)
-    (adds_beside (edges_at c.add_own.new.readers.own.items) (rw c.split_at.ensures.back at c.add_stretch.ensures.adds)) in
-    reads_then first (reads_then c.loop.invariant.reads c.add_further.ensures.reads c.loop.invariant.listed.rest) (λ l d. d)
-
-pub returns-in_err-rest-2-clause-noted : goal.returns-in_err-rest-2-clause-noted
-returns-in_err-rest-2-clause-noted c h =
-    let rs = c.add_own.new.readers in
-    let nodes = c.add_own.new.index_read.items in
-    let noted = noted_from rs.own.items c.add_stretch.new.seats.items c.add_stretch.new.runs.items nodes
-    (noted_to rs.own.items rs.seats.items rs.runs.items nodes (c.add_own.ensures.noted h)) in
-    c.add_further.ensures.noted (c.loop.invariant.noted noted)
+    reads_then c.loop.invariant.reads c.add_further.ensures.reads c.loop.invariant.listed.rest
 
 pub loop-preserved : goal.loop-preserved
 loop-preserved c = record {
@@ -86,20 +60,8 @@ loop-preserved c = record {
 
 pub returns-clause-reads : goal.returns-clause-reads
 returns-clause-reads c =
-    let xs = c.args.locations.now in
-    let n = c.before_fold-place.result in
-    let first = reads_parts (in_front loc_view n xs) (in_back loc_view n xs) (rw c.split_at.ensures.front at c.add_own.ensures.reads)
-    (adds_beside (edges_at c.add_own.new.readers.own.items) (rw c.split_at.ensures.back at c.add_stretch.ensures.adds)) in
-    reads_then first (reads_then c.loop.invariant.reads c.add_own-2.ensures.reads c.loop.invariant.listed.rest) (λ l d. d)
+    reads_then c.loop.invariant.reads c.add_own-2.ensures.reads c.loop.invariant.listed.rest
 
 pub returns-clause-listed : goal.returns-clause-listed
 returns-clause-listed c =
     both_ok c.add_own-2.result (λ stay listed. but_all _ c.loop.invariant.listed stay listed) c.add_own-2.ensures.stay c.add_own-2.ensures.listed
-
-pub returns-clause-noted : goal.returns-clause-noted
-returns-clause-noted c h =
-    let rs = c.add_own.new.readers in
-    let nodes = c.add_own.new.index_read.items in
-    let noted = noted_from rs.own.items c.add_stretch.new.seats.items c.add_stretch.new.runs.items nodes
-    (noted_to rs.own.items rs.seats.items rs.runs.items nodes (c.add_own.ensures.noted h)) in
-    c.add_own-2.ensures.noted (c.loop.invariant.noted noted)

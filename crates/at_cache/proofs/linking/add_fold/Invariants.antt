@@ -9,7 +9,7 @@ use Rattle.at_cache.proofs.linking.add_fold.Given as goal
 
 abbrev pub invariant-loop : goal.invariant-loop
 invariant-loop l = record {
-  reads : Reads (alive_in l.cut) l.edge (map loc_view l.locations) (edges_to l.initial.readers) (edges_to l.readers);
-  noted : AreNoted (edges_to l.initial.readers) l.initial.index_read.items → AreNoted (edges_to l.readers) l.index_read.items;
+  reads : Reads (alive_in l.cut) l.edge (map loc_view l.locations) (edges_to l.fn.readers) (edges_to l.readers);
+  noted : AreNoted (edges_to l.fn.readers) l.fn.index_read.items → AreNoted (edges_to l.readers) l.index_read.items;
   listed : ListsBut l.edge (map loc_view l.locations) (map loc_view l.rest) (edges_to l.readers);
 }

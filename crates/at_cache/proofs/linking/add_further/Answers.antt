@@ -12,35 +12,28 @@ pub returns-in_err-add_own-clause-reads : goal.returns-in_err-add_own-clause-rea
 returns-in_err-add_own-clause-reads c =
     reads_within (rw c.split_at.ensures.front at c.add_own.ensures.reads) (in_front loc_view c.in_ok-width.width c.args.locations.now)
 
-pub returns-clause-reads : goal.returns-clause-reads
-returns-clause-reads c =
+pub returns : goal.returns
+returns c =
     let xs = c.args.locations.now in
     let n = c.in_ok-width.width in
-    let own = edges_at c.add_own.new.readers.own.items in
-    reads_parts (in_front loc_view n xs) (in_back loc_view n xs) (rw c.split_at.ensures.front at c.add_own.ensures.reads)
-    (adds_beside own (rw c.split_at.ensures.back at c.add_along.ensures.adds))
-
-pub returns-clause-stay : goal.returns-clause-stay
-returns-clause-stay c =
-    let own = edges_at c.add_own.new.readers.own.items in
-    IfOk-weaker c.add_along.result _ (λ left. Stays c.args.edge (edges_to c.args.readers.now)
-    (λ l. own l ++ edges_over c.add_along.new.seats.items c.add_along.new.runs.items l))
-    (λ left but l d. stays_added (adds_beside own c.add_along.ensures.adds) l (c.in_ok-add_own.ensures.stay l d)) c.add_along.ensures.listed
-
-pub returns-clause-listed : goal.returns-clause-listed
-returns-clause-listed c =
-    let xs = c.args.locations.now in
-    let n = c.in_ok-width.width in
-    let own = edges_at c.add_own.new.readers.own.items in
-    IfOk-weaker c.add_along.result _ (λ left. ListsBut c.args.edge (map loc_view xs) (map loc_view left.now)
-    (λ l. own l ++ edges_over c.add_along.new.seats.items c.add_along.new.runs.items l))
-    (λ left but. lists_parts _ (in_back loc_view n xs) (in_parts loc_view n xs) (rw c.split_at.ensures.front at c.in_ok-add_own.ensures.listed)
-    (adds_beside own (rw c.split_at.ensures.back at c.add_along.ensures.adds)) (but_beside own (rw c.split_at.ensures.back at but)))
-    c.add_along.ensures.listed
-
-pub returns-clause-noted : goal.returns-clause-noted
-returns-clause-noted c n =
     let rs = c.add_own.new.readers in
+    let own = edges_at rs.own.items in
     let nodes = c.add_own.new.index_read.items in
-    noted_from rs.own.items c.add_along.new.seats.items c.add_along.new.runs.items nodes
-    (noted_to rs.own.items rs.seats.items rs.runs.items nodes (c.add_own.ensures.noted n))
+    let adds = rw c.split_at.ensures.back at c.add_along.ensures.adds in
+    record {
+      reads = reads_parts (in_front loc_view n xs) (in_back loc_view n xs)
+          (rw c.split_at.ensures.front at c.add_own.ensures.reads)
+          (adds_beside own adds);
+      stay = IfOk-weaker c.add_along.result _ (λ left. Stays c.args.edge (edges_to c.args.readers.now)
+          (λ l. own l ++ edges_over c.add_along.new.seats.items c.add_along.new.runs.items l))
+          (λ left but l d. stays_added (adds_beside own c.add_along.ensures.adds) l (c.in_ok-add_own.ensures.stay l d))
+          c.add_along.ensures.listed;
+      listed = IfOk-weaker c.add_along.result _ (λ left. ListsBut c.args.edge (map loc_view xs) (map loc_view left.now)
+          (λ l. own l ++ edges_over c.add_along.new.seats.items c.add_along.new.runs.items l))
+          (λ left but. lists_parts _ (in_back loc_view n xs) (in_parts loc_view n xs)
+          (rw c.split_at.ensures.front at c.in_ok-add_own.ensures.listed)
+          (adds_beside own adds) (but_beside own (rw c.split_at.ensures.back at but)))
+          c.add_along.ensures.listed;
+      noted = λ h. noted_from rs.own.items c.add_along.new.seats.items c.add_along.new.runs.items nodes
+          (noted_to rs.own.items rs.seats.items rs.runs.items nodes (c.add_own.ensures.noted h));
+    }

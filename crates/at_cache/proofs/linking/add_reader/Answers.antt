@@ -1,4 +1,4 @@
-use Rattle.std.proofs.Common.{◌∙◌, sym, refl}
+use Rattle.std.proofs.Common.{◌∙◌, sym, refl, rules}
 use Rattle.std.proofs.lemmas.Option.{slice_get_read}
 use Rattle.std.proofs.lemmas.Result.{on_ok_weaker}
 use Rattle.at_cache.proofs.Gained.{list_changed, list_gained, list_stays}
@@ -9,23 +9,17 @@ use Rattle.at_cache.proofs.linking.add_reader.Goals as goal
 pub returns-in_err-make_list-clause-lists : goal.returns-in_err-make_list-clause-lists
 returns-in_err-make_list-clause-lists c l = lists_same (c.make_list.ensures.same l)
 
-pub returns-clause-lists : goal.returns-clause-lists
-returns-clause-lists c l =
-    let at = slice_get_read c.make_list.new.readers.items _ c.index.result c.index_mut-list.result.now refl (rw c.index.ensures c.in_ok-make_list.ensures.there) c.index_mut-list.ensures.value in
-    list_changed _ _ _ _ c.add_among.new.readers c.make_list.ensures.same at refl c.add_among.ensures.lists l
-
-pub returns-clause-has : goal.returns-clause-has
-returns-clause-has c =
+pub returns : goal.returns
+returns c =
     let at = slice_get_read c.make_list.new.readers.items _ c.index.result c.index_mut-list.result.now refl (rw c.index.ensures c.in_ok-make_list.ensures.there) c.index_mut-list.ensures.value in
     let new = c.add_among.new.readers in
-    let here = stands_at c.args.node c.args.facet in
-    on_ok_weaker c.add_among.result
-    (λ has l stands. list_gained _ _ _ _ new c.make_list.ensures.same at refl c.args.edge l
-    (here l stands ∙ sym c.index.ensures) (rw c.index.ensures (has l stands)))
-    (c.add_among.ensures.has c.args.node)
-
-pub returns-clause-others : goal.returns-clause-others
-returns-clause-others c l off =
-    let at = slice_get_read c.make_list.new.readers.items _ c.index.result c.index_mut-list.result.now refl (rw c.index.ensures c.in_ok-make_list.ensures.there) c.index_mut-list.ensures.value in
-    list_stays _ _ _ _ c.add_among.new.readers c.make_list.ensures.same at refl l
-    (rw c.index.ensures (c.add_among.ensures.others c.args.node l off))
+    record {
+      lists = λ l. list_changed _ _ _ _ new c.make_list.ensures.same at refl c.add_among.ensures.lists l;
+      has = on_ok_weaker c.add_among.result
+          (λ has l stands. list_gained _ _ _ _ new c.make_list.ensures.same at refl c.args.edge l
+          (stands_at c.args.node c.args.facet l stands ∙ sym c.index.ensures) (rw c.index.ensures (has l stands)))
+          (c.add_among.ensures.has c.args.node);
+      others = λ l off. list_stays _ _ _ _ new c.make_list.ensures.same at refl l
+          (rw c.index.ensures (c.add_among.ensures.others c.args.node l off));
+      short = search rules;
+    }

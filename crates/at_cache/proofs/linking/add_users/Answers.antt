@@ -1,4 +1,4 @@
-use Rattle.std.proofs.Common.{◌∙◌, ◌+◌, arith, sym, subst, take_all, Contains, refl}
+use Rattle.std.proofs.Common.{◌∙◌, ◌+◌, arith, sym, subst, take_all, Contains, refl, rules}
 use Rattle.std.proofs.lemmas.Bool.{cases_eq}
 use Rattle.std.proofs.lemmas.List.{take_more}
 use Rattle.std.proofs.lemmas.List.Elements.{Contains-get_or}
@@ -45,8 +45,8 @@ loop-slot-preserved c =
       absent = λ i h. c.add_user.ensures.absent i (l.invariant.absent i h);
     }
 
-pub returns-in_err-add_user-clause-uses : goal.returns-in_err-add_user-clause-uses
-returns-in_err-add_user-clause-uses c =
+pub returns-in_err-add_user : goal.returns-in_err-add_user
+returns-in_err-add_user c =
     let l = c.loop-slot in
     let was = c.args.cut.now in
     let on = sym (take_more c.args.slots.now l.slot-index 0 c.loop-slot-test.true) in
@@ -54,31 +54,22 @@ returns-in_err-add_user-clause-uses c =
     let told = told_uses was.standings.items l.cut.standings.items (memory_of was.entries) (memory_of l.cut.entries) l.invariant.standings
     l.invariant.uses in
     let (users, written, lists, has) = c.add_user.ensures.lists in
-    uses_all (l.slot-index + 1) _ (subst (λ ss. Uses (alive_in was) c.args.edge ss (memory_of was.entries) (memory_of c.add_user.new.cut.entries)) on
-    (uses_more _ told l.invariant.uses users some written lists))
+    record {
+      uses = uses_all (l.slot-index + 1) _ (subst (λ ss. Uses (alive_in was) c.args.edge ss (memory_of was.entries)
+          (memory_of c.add_user.new.cut.entries)) on (uses_more _ told l.invariant.uses users some written lists));
+      listed = search rules;
+      standings = c.add_user.ensures.standings ∙ l.invariant.standings;
+      key = c.add_user.ensures.key ∙ l.invariant.key;
+      absent = λ i h. c.add_user.ensures.absent i (l.invariant.absent i h);
+    }
 
-pub returns-clause-uses : goal.returns-clause-uses
-returns-clause-uses c = subst (λ ss. Uses (alive_in c.args.cut.now) c.args.edge ss (memory_of c.args.cut.now.entries) (memory_of c.loop-slot.cut.entries))
-    (take_all c.loop-slot.slot-index c.args.slots.now c.loop-slot-test.false) c.loop-slot.invariant.uses
-
-pub returns-clause-listed : goal.returns-clause-listed
-returns-clause-listed c = subst (λ ss. AreListed c.args.edge ss (users_at (memory_of c.loop-slot.cut.entries)))
-    (take_all c.loop-slot.slot-index c.args.slots.now c.loop-slot-test.false) c.loop-slot.invariant.listed
-
-pub returns-in_err-add_user-clause-standings : goal.returns-in_err-add_user-clause-standings
-returns-in_err-add_user-clause-standings c = c.add_user.ensures.standings ∙ c.loop-slot.invariant.standings
-
-pub returns-clause-standings : goal.returns-clause-standings
-returns-clause-standings c = c.loop-slot.invariant.standings
-
-pub returns-in_err-add_user-clause-absent : goal.returns-in_err-add_user-clause-absent
-returns-in_err-add_user-clause-absent c i h = c.add_user.ensures.absent i (c.loop-slot.invariant.absent i h)
-
-pub returns-clause-absent : goal.returns-clause-absent
-returns-clause-absent c i h = c.loop-slot.invariant.absent i h
-
-pub returns-in_err-add_user-clause-key : goal.returns-in_err-add_user-clause-key
-returns-in_err-add_user-clause-key c = c.add_user.ensures.key ∙ c.loop-slot.invariant.key
-
-pub returns-clause-key : goal.returns-clause-key
-returns-clause-key c = c.loop-slot.invariant.key
+pub returns : goal.returns
+returns c = record {
+  uses = subst (λ ss. Uses (alive_in c.args.cut.now) c.args.edge ss (memory_of c.args.cut.now.entries)
+      (memory_of c.loop-slot.cut.entries)) (take_all c.loop-slot.slot-index c.args.slots.now c.loop-slot-test.false) c.loop-slot.invariant.uses;
+  listed = subst (λ ss. AreListed c.args.edge ss (users_at (memory_of c.loop-slot.cut.entries)))
+      (take_all c.loop-slot.slot-index c.args.slots.now c.loop-slot-test.false) c.loop-slot.invariant.listed;
+  standings = c.loop-slot.invariant.standings;
+  key = c.loop-slot.invariant.key;
+  absent = λ i h. c.loop-slot.invariant.absent i h;
+}

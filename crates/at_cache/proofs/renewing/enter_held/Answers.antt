@@ -9,7 +9,8 @@ use Rattle.at_cache.specs.Finding.{edges_to}
 use Rattle.at_cache.specs.Renewing.{IsSlotFor}
 use Rattle.at_cache.specs.Standings.{standing_of}
 use Rattle.at_cache.proofs.of_cut.Alive.{reads_stand, uses_stand}
-use Rattle.at_cache.proofs.of_cut.EnteredHeld.{has_entered, made_so, not_held, puts_so, slot_still}
+use Rattle.at_cache.proofs.of_cut.EnteredHeld.{made_so, not_held, puts_so, slot_still}
+use Rattle.at_cache.proofs.of_cut.Enters.{has_entered}
 use Rattle.at_cache.proofs.of_cut.Goes.{has_shown}
 use Rattle.at_cache.proofs.of_cut.LeftHeld.{enters_none, left, left_alone, uses_alike}
 use Rattle.at_cache.proofs.Listing.{uses_none}

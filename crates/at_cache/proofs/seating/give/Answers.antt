@@ -10,38 +10,18 @@ returns-in_err-place-clause-past c =
     let there = lent xs c.args.run was c.in_ok-found.ensures.item.0 c.in_ok-found.ensures.value in
     set_past xs _ c.args.run was was there refl (omega arith) (λ x d. inl d)
 
-pub returns-clause-same : goal.returns-clause-same
-returns-clause-same c =
-    let xs = c.args.runs.now.items in
-    let was = c.in_ok-found.found.now in
-    let there = lent xs c.args.run was c.in_ok-found.ensures.item.0 c.in_ok-found.ensures.value in
-    let v : Run = record { count = c.in_ok-place.place; edges = was.edges } in
-    set_on xs _ c.args.run was v there refl refl
-
-pub returns-clause-given : goal.returns-clause-given
-returns-clause-given c =
-    let xs = c.args.runs.now.items in
-    let was = c.in_ok-found.found.now in
-    let there = lent xs c.args.run was c.in_ok-found.ensures.item.0 c.in_ok-found.ensures.value in
-    let v : Run = record { count = c.in_ok-place.place; edges = was.edges } in
-    let next = c.in_ok-place.ensures.1 in
-    set_given xs _ c.args.run was v there refl (omega (arith, next))
-
-pub returns-clause-past : goal.returns-clause-past
-returns-clause-past c =
-    let xs = c.args.runs.now.items in
-    let was = c.in_ok-found.found.now in
-    let there = lent xs c.args.run was c.in_ok-found.ensures.item.0 c.in_ok-found.ensures.value in
-    let v : Run = record { count = c.in_ok-place.place; edges = was.edges } in
-    let next = c.in_ok-place.ensures.1 in
-    set_past xs _ c.args.run was v there refl (omega (arith, next)) (λ x d. inl d)
-
-pub returns-clause-next : goal.returns-clause-next
-returns-clause-next c =
+pub returns : goal.returns
+returns c =
     let xs = c.args.runs.now.items in
     let was = c.in_ok-found.found.now in
     let there = lent xs c.args.run was c.in_ok-found.ensures.item.0 c.in_ok-found.ensures.value in
     let v : Run = record { count = c.in_ok-place.place; edges = was.edges } in
     let next = c.in_ok-place.ensures.1 in
     let count = count_is xs c.args.run was there in
-    (omega (arith, next, count), sym (count_is _ c.args.run v (set_here xs _ c.args.run was v there refl)))
+    record {
+      same = set_on xs _ c.args.run was v there refl refl;
+      given = set_given xs _ c.args.run was v there refl (omega (arith, next));
+      past = set_past xs _ c.args.run was v there refl (omega (arith, next)) (λ x d. inl d);
+      none = tt;
+      next = (omega (arith, next, count), sym (count_is _ c.args.run v (set_here xs _ c.args.run was v there refl)));
+    }

@@ -19,17 +19,18 @@ returns-in_err-place-clause-others c is =
     let slots = get c.args.slots.now in
     subst (λ s. (k : ℕ) → at es (get s) k ≡ (if nat_eq k c.args.slot then None else at es slots k)) (sym c.in_err-place.ensures.absent) (nothing_removed es slots c.args.slot (sym c.in_err-place.ensures.value))
 
-pub returns-in_err-_instance-clause-placed : goal.returns-in_err-_instance-clause-placed
-returns-in_err-_instance-clause-placed c is = absurd (entry_there _ _ c.args.slot _ (table_by is) (sym c.in_ok-place.ensures.value) (sym c.in_err-_instance.ensures.entry))
-
-pub returns-in_err-_instance-clause-removed : goal.returns-in_err-_instance-clause-removed
-returns-in_err-_instance-clause-removed c is = absurd (entry_there _ _ c.args.slot _ (table_by is) (sym c.in_ok-place.ensures.value) (sym c.in_err-_instance.ensures.entry))
-
-pub returns-in_err-_instance-clause-others : goal.returns-in_err-_instance-clause-others
-returns-in_err-_instance-clause-others c is = absurd (entry_there _ _ c.args.slot _ (table_by is) (sym c.in_ok-place.ensures.value) (sym c.in_err-_instance.ensures.entry))
-
-pub returns-in_err-_instance-clause-len : goal.returns-in_err-_instance-clause-len
-returns-in_err-_instance-clause-len c is = absurd (entry_there _ _ c.args.slot _ (table_by is) (sym c.in_ok-place.ensures.value) (sym c.in_err-_instance.ensures.entry))
+pub returns-in_err-_instance : goal.returns-in_err-_instance
+returns-in_err-_instance c =
+    let none = λ (is : IsPlaced c.args.entries.now.entries (get c.args.slots.now)).
+    entry_there _ _ c.args.slot _ (table_by is) (sym c.in_ok-place.ensures.value)
+    (sym c.in_err-_instance.ensures.entry) in
+    record {
+      placed = λ is. absurd (none is);
+      removed = λ is. absurd (none is);
+      others = λ is. absurd (none is);
+      absent = λ i h. ap (lookup (same_instance i)) c.in_err-_instance.ensures.unchanged ∙ h;
+      len = λ is. absurd (none is);
+    }
 
 pub returns-clause-placed : goal.returns-clause-placed
 returns-clause-placed c is =
@@ -47,9 +48,6 @@ returns-clause-others c is =
     let (table, others) = removes c.args.entries.now.entries (get c.args.slots.now) (get c.try_remove.new.self) (get c.note.new.slots) c.args.slot c.in_ok-place.place _ (table_by is) (sym c.in_ok-place.ensures.value) updates.changed updates.others (sym c.in_ok-_instance.ensures.entry)
     (subst (λ es. IsMoved (option_map (λ e. e.1.slot) (slice_get es c.in_ok-place.place)) c.in_ok-place.place (get c.try_remove.new.self) (get c.note.new.slots)) c.in_ok-_instance.ensures.entries c.note.ensures) in
     subst (λ es. (k : ℕ) → at es (get c.note.new.slots) k ≡ (if nat_eq k c.args.slot then None else at c.args.entries.now.entries (get c.args.slots.now) k)) (sym c.in_ok-_instance.ensures.entries) others
-
-pub returns-in_err-_instance-clause-absent : goal.returns-in_err-_instance-clause-absent
-returns-in_err-_instance-clause-absent c i h = ap (lookup (same_instance i)) c.in_err-_instance.ensures.unchanged ∙ h
 
 pub returns-clause-absent : goal.returns-clause-absent
 returns-clause-absent c i h = c.in_ok-_instance.ensures.updates.0 i ∙ none_still (same_instance _ i) _ h

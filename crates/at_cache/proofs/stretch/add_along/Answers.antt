@@ -1,6 +1,6 @@
 use Rattle.std.proofs.Common.{◌<◌, arith}
 use Rattle.at_cache.proofs.of_runs.Along.{adds_along, lists_along}
-use Rattle.at_cache.proofs.of_runs.Seats.{counted, has_run}
+use Rattle.at_cache.proofs.of_runs.Seats.{counted, has_run, seated_on}
 use Rattle.at_cache.proofs.of_runs.Stretches.{adds_before, lists_kept}
 use Rattle.at_cache.proofs.stretch.add_along.Goals as goal
 
@@ -16,14 +16,8 @@ returns-in_err-add_reach-clause-seated c =
     let f = rw c.as_slice-2.ensures.value at c.in_ok-last.ensures.follows in
     let few = c.if-last-behind-lt-FEW.false in
     let more : c.in-Some.behind < c.in_ok-last.last = omega (arith, few) in
-    record {
-      apart = c.requires.apart;
-      given = λ n s h.
-          let a = c.requires.given n s h in
-          let e = c.add_reach.ensures.given s.run in
-          omega (arith, a, e);
-      past = c.add_reach.ensures.past (counted c.args.runs.now.items c.requires.given f more) c.requires.past;
-    }
+    seated_on {new = c.add_reach.new.runs.items} c.requires (λ k. let e = c.add_reach.ensures.given k in omega (arith, e))
+    (c.add_reach.ensures.past (counted c.args.runs.now.items c.requires.given f more))
 
 pub returns-in_err-add_reach-clause-adds : goal.returns-in_err-add_reach-clause-adds
 returns-in_err-add_reach-clause-adds c =
@@ -35,14 +29,8 @@ lengthen-requires c =
     let f = rw c.as_slice-2.ensures.value at c.in_ok-last.ensures.follows in
     let few = c.if-last-behind-lt-FEW.false in
     let more : c.in-Some.behind < c.in_ok-last.last = omega (arith, few) in
-    record {
-      apart = c.requires.apart;
-      given = λ n s h.
-          let a = c.requires.given n s h in
-          let e = c.add_reach.ensures.given s.run in
-          omega (arith, a, e);
-      past = c.add_reach.ensures.past (counted c.args.runs.now.items c.requires.given f more) c.requires.past;
-    }
+    seated_on {new = c.add_reach.new.runs.items} c.requires (λ k. let e = c.add_reach.ensures.given k in omega (arith, e))
+    (c.add_reach.ensures.past (counted c.args.runs.now.items c.requires.given f more))
 
 pub returns-in_err-lengthen-clause-adds : goal.returns-in_err-lengthen-clause-adds
 returns-in_err-lengthen-clause-adds c =

@@ -18,18 +18,13 @@ invariant_of-self c =
       sure = λ off. absurd (true≢false off);
     }
 
-pub returns-clause-held : goal.returns-clause-held
-returns-clause-held c = (rw c.as_slice.ensures.value at c.shed.ensures.sheds).only
-
-pub returns-clause-kept : goal.returns-clause-kept
-returns-clause-kept c =
+pub returns : goal.returns
+returns c =
     let k = c.args.self.now in
-    keeps_shed (edges_to k.readers) k.cut.entries c.shed.new.entries k.cut.standings.items k.puts (rw c.as_slice.ensures.value at c.shed.ensures.sheds)
-
-pub returns-clause-stay : goal.returns-clause-stay
-returns-clause-stay c =
-    let k = c.args.self.now in
-    stay_shed (edges_to k.readers) k.cut.entries c.shed.new.entries k.cut.standings.items k.puts (rw c.as_slice.ensures.value at c.shed.ensures.sheds) k.indexed
-
-pub returns-clause-fewer : goal.returns-clause-fewer
-returns-clause-fewer c = c.shed.ensures.fewer
+    let sheds = rw c.as_slice.ensures.value at c.shed.ensures.sheds in
+    record {
+      held = sheds.only;
+      kept = keeps_shed (edges_to k.readers) k.cut.entries c.shed.new.entries k.cut.standings.items k.puts sheds;
+      stay = stay_shed (edges_to k.readers) k.cut.entries c.shed.new.entries k.cut.standings.items k.puts sheds k.indexed;
+      fewer = c.shed.ensures.fewer;
+    }

@@ -21,26 +21,18 @@ invariant_of-self g c =
       sure = λ off. absurd (true≢false off);
     }
 
-pub returns-clause-leaves : goal.returns-clause-leaves
-returns-clause-leaves g c =
-    leaves_then (Answers (goal.F-post g c.args.touched.now)) c.let_go.ensures.kept
-    (leaves_held (Answers (goal.F-post g c.args.touched.now)) (edges_to c.let_go.new.self.readers) c.let_go.new.self.puts c.let_go.new.self.cut c.take_away.new.cut c.take_away.ensures.takes c.let_go.new.self.indexed)
-
-pub returns-clause-loses : goal.returns-clause-loses
-returns-clause-loses g c =
-    loses_then (Answers (goal.F-post g c.args.touched.now)) c.let_go.ensures.kept
-    (loses_held (Answers (goal.F-post g c.args.touched.now)) (edges_to c.let_go.new.self.readers) c.let_go.new.self.puts c.let_go.new.self.cut c.take_away.new.cut c.take_away.ensures.takes c.let_go.new.self.indexed)
-
-pub returns-clause-traces : goal.returns-clause-traces
-returns-clause-traces g c =
-    flushes_then (Answers (goal.F-post g c.args.touched.now)) _ _ _ c.let_go.ensures.stay
-    (flushes_traces (Answers (goal.F-post g c.args.touched.now)) (edges_to c.let_go.new.self.readers) c.let_go.new.self.puts c.let_go.new.self.cut c.take_away.new.cut c.take_away.ensures.takes)
-
-pub returns-clause-spares : goal.returns-clause-spares
-returns-clause-spares g c =
-    spares_then (Answers (goal.F-post g c.args.touched.now)) (is_crowded c.args.self.now.cut) _ _ _ c.let_go.ensures.stay c.let_go.ensures.spares
-    (flushes_traces (Answers (goal.F-post g c.args.touched.now)) (edges_to c.let_go.new.self.readers) c.let_go.new.self.puts c.let_go.new.self.cut c.take_away.new.cut c.take_away.ensures.takes)
-    (spares_edit (Answers (goal.F-post g c.args.touched.now)) (edges_to c.let_go.new.self.readers) c.let_go.new.self.puts c.let_go.new.self.cut c.take_away.new.cut c.take_away.ensures.takes)
-
-pub returns-clause-fewer : goal.returns-clause-fewer
-returns-clause-fewer g c = omega (arith, c.take_away.ensures.len, c.let_go.ensures.fewer)
+pub returns : goal.returns
+returns g c =
+    let says = Answers (goal.F-post g c.args.touched.now) in
+    let k = c.let_go.new.self in
+    let lists = edges_to k.readers in
+    let t = c.take_away.ensures.takes in
+    let traces = flushes_traces says lists k.puts k.cut c.take_away.new.cut t in
+    record {
+      leaves = leaves_then says c.let_go.ensures.kept (leaves_held says lists k.puts k.cut c.take_away.new.cut t k.indexed);
+      loses = loses_then says c.let_go.ensures.kept (loses_held says lists k.puts k.cut c.take_away.new.cut t k.indexed);
+      traces = flushes_then says _ _ _ c.let_go.ensures.stay traces;
+      spares = spares_then says (is_crowded c.args.self.now.cut) _ _ _ c.let_go.ensures.stay c.let_go.ensures.spares traces
+          (spares_edit says lists k.puts k.cut c.take_away.new.cut t);
+      fewer = omega (arith, c.take_away.ensures.len, c.let_go.ensures.fewer);
+    }

@@ -15,7 +15,8 @@ use Rattle.at_cache.proofs.of_cut.Spared.{alike_itself, spares_after, spares_ali
 use Rattle.at_cache.proofs.keep_recorded.KeepRecordedKeeper.put.Goals as goal
 
 -- the instance that is put isn't kept
-awaited : (k : KeepRecorded) (i : Instance ℕ) (slot : ℕ) → kept_held (edges_to k.readers) k.cut.entries k.cut.standings.items k.puts i ≡ None
+awaited : (k : KeepRecorded) (i : Instance ℕ) (slot : ℕ)
+    → kept_held (edges_to k.readers) k.cut.entries k.cut.standings.items k.puts i ≡ None
     → IsSlotFor k.cut.entries i slot → ((e : Info) → memory_of k.cut.entries slot ≡ Some e → e.instance ≡ i)
     → IsAwaited (edges_to k.readers) k.cut.entries k.cut.standings.items k.puts i slot
 awaited k i slot absent place its = record {
@@ -35,7 +36,8 @@ returns-in_err-slot-clause-spares c = spares_alike c.args.inst _ _ _ (alike_itse
 
 pub invariant_of-self : goal.invariant_of-self
 invariant_of-self c =
-    let s = c.outdate-known.ensures _ _ (awaited c.args.self.now c.args.inst _ c.requires.absent c.in_ok-slot.ensures.slot c.in_ok-slot.ensures.its) in
+    let s = c.outdate-known.ensures _ _ (awaited c.args.self.now c.args.inst _ c.requires.absent c.in_ok-slot.ensures.slot
+    c.in_ok-slot.ensures.its) in
     record {
       indexed = s.awaited.indexed;
       tied = s.awaited.tied;
@@ -46,7 +48,8 @@ invariant_of-self c =
 
 pub returns-then-stamp : goal.returns-then-stamp
 returns-then-stamp c =
-    let s = c.outdate-known.ensures _ _ (awaited c.args.self.now c.args.inst _ c.requires.absent c.in_ok-slot.ensures.slot c.in_ok-slot.ensures.its) in
+    let s = c.outdate-known.ensures _ _ (awaited c.args.self.now c.args.inst _ c.requires.absent c.in_ok-slot.ensures.slot
+    c.in_ok-slot.ensures.its) in
     record {
       puts = tt;
       err = s.keeps;
@@ -57,7 +60,8 @@ returns-then-stamp c =
 
 pub enter_held-requires : goal.enter_held-requires
 enter_held-requires c =
-    let s = c.outdate-known.ensures _ _ (awaited c.args.self.now c.args.inst _ c.requires.absent c.in_ok-slot.ensures.slot c.in_ok-slot.ensures.its) in
+    let s = c.outdate-known.ensures _ _ (awaited c.args.self.now c.args.inst _ c.requires.absent c.in_ok-slot.ensures.slot
+    c.in_ok-slot.ensures.its) in
     record {
       awaited = s.awaited;
       present = subst (λ (es : Entries). AreKept es c.args.uses.now) (λ n j. sym (s.keeps j) n) c.requires.present;
@@ -74,7 +78,8 @@ invariant_of-self-in-Break-branch-2 c = record {
 
 pub returns-in_err-enter_held : goal.returns-in_err-enter_held
 returns-in_err-enter_held c =
-    let s = c.outdate-known.ensures _ _ (awaited c.args.self.now c.args.inst _ c.requires.absent c.in_ok-slot.ensures.slot c.in_ok-slot.ensures.its) in
+    let s = c.outdate-known.ensures _ _ (awaited c.args.self.now c.args.inst _ c.requires.absent c.in_ok-slot.ensures.slot
+    c.in_ok-slot.ensures.its) in
     record {
       puts = search rules;
       err = let all = λ (j : Instance ℕ). (rw c.in_err-enter_held.was at c.enter_held.ensures.enters.err) j ∙ s.keeps j in search rules;
@@ -87,7 +92,8 @@ returns-in_err-enter_held c =
 pub invariant_of-self-2 : goal.invariant_of-self-2
 invariant_of-self-2 c =
     let k = c.args.self.now in
-    let s = c.outdate-known.ensures _ _ (awaited k c.args.inst _ c.requires.absent c.in_ok-slot.ensures.slot c.in_ok-slot.ensures.its) in
+    let s = c.outdate-known.ensures _ _ (awaited k c.args.inst _ c.requires.absent c.in_ok-slot.ensures.slot
+    c.in_ok-slot.ensures.its) in
     let v = option_map value_view c.args.value in
     let looked = map loc_view c.args.reads.now in
     let last = kept_held (edges_to c.enter_held.new.readers) c.enter_held.new.cut.entries
@@ -109,7 +115,8 @@ invariant_of-self-2 c =
 
 pub returns : goal.returns
 returns c =
-    let s = c.outdate-known.ensures _ _ (awaited c.args.self.now c.args.inst _ c.requires.absent c.in_ok-slot.ensures.slot c.in_ok-slot.ensures.its) in
+    let s = c.outdate-known.ensures _ _ (awaited c.args.self.now c.args.inst _ c.requires.absent c.in_ok-slot.ensures.slot
+    c.in_ok-slot.ensures.its) in
     let last = kept_held (edges_to c.enter_held.new.readers) c.enter_held.new.cut.entries
     c.enter_held.new.cut.standings.items (c.outdate-known.new.puts + 1) in
     record {

@@ -4,8 +4,7 @@ use Rattle.at_cache.specs.Edges.{edges_in}
 use Rattle.at_cache.specs.Folding.{relinked}
 use Rattle.at_cache.specs.Info.{info, memory_of}
 use Rattle.at_cache.specs.Slots.{with_rest}
-use Rattle.at_cache.proofs.Came.{come_on}
-use Rattle.at_cache.proofs.Changing.{absent_changed, memory_changed, place_within, placed_changed}
+use Rattle.at_cache.proofs.Changing.{still, memory_changed, place_within}
 use Rattle.at_cache.proofs.Moving.{at_none}
 use Rattle.at_cache.proofs.of_folding.Relinking.{unwritten}
 use Rattle.at_cache.proofs.table.Table.relink.Goals as goal
@@ -15,15 +14,9 @@ write_rest-requires c = place_within c.args.self.now.entries.entries (get c.args
 
 pub invariant_of-self : goal.invariant_of-self
 invariant_of-self c =
-    let es = c.args.self.now.entries.entries in
-    let slots = get c.args.self.now.places in
-    let f = with_rest c.args.links c.args.users in
-    let was = sym c.in-Some.ensures in
-    record {
-      placed = placed_changed es slots c.args.slot _ c.args.self.now.placed was _ f (λ e. refl) c.write_rest.ensures;
-      come = come_on es _ c.args.self.now.attributes.items
-          (absent_changed es slots c.args.slot _ c.args.self.now.placed was _ f (λ e. refl) c.write_rest.ensures) c.args.self.now.come;
-    }
+    let (placed, come) = still c.args.self.now c.args.slot _ (sym c.in-Some.ensures) _
+    (with_rest c.args.links c.args.users) (λ e. refl) c.write_rest.ensures in
+    record { placed = placed; come = come }
 
 pub returns-in-Some : goal.returns-in-Some
 returns-in-Some c =

@@ -2,8 +2,7 @@ use Rattle.std.proofs.Common.{option_map, refl, sym}
 use Rattle.slab.specs.Slab.{get}
 use Rattle.at_body.specs.Values.{value_view}
 use Rattle.at_cache.specs.Slots.{renewed, with_entry}
-use Rattle.at_cache.proofs.Came.{come_on}
-use Rattle.at_cache.proofs.Changing.{absent_changed, length_changed, memory_changed, place_within, placed_changed, taken_slot}
+use Rattle.at_cache.proofs.Changing.{still, length_changed, memory_changed, place_within, taken_slot}
 use Rattle.at_cache.proofs.table.Table.renew.Goals as goal
 
 pub write_entry-requires : goal.write_entry-requires
@@ -11,13 +10,9 @@ write_entry-requires c = place_within c.args.self.now.entries.entries (get c.arg
 
 pub invariant_of-self : goal.invariant_of-self
 invariant_of-self c =
-    let es = c.args.self.now.entries.entries in
-    let slots = get c.args.self.now.places in
-    let f = with_entry c.args.value c.args.links c.args.stamp in
-    record {
-      placed = placed_changed es slots c.args.slot _ c.args.self.now.placed (sym c.in-Some.ensures) _ f (λ e. refl) c.write_entry.ensures;
-      come = come_on es _ c.args.self.now.attributes.items (absent_changed es slots c.args.slot _ c.args.self.now.placed (sym c.in-Some.ensures) _ f (λ e. refl) c.write_entry.ensures) c.args.self.now.come;
-    }
+    let (placed, come) = still c.args.self.now c.args.slot _ (sym c.in-Some.ensures) _
+    (with_entry c.args.value c.args.links c.args.stamp) (λ e. refl) c.write_entry.ensures in
+    record { placed = placed; come = come }
 
 pub returns-in-Some-clause-written : goal.returns-in-Some-clause-written
 returns-in-Some-clause-written c = memory_changed c.args.self.now.entries.entries (get c.args.self.now.places) c.args.slot _ c.args.self.now.placed (sym c.in-Some.ensures) _ (with_entry c.args.value c.args.links c.args.stamp) (λ e. refl) c.write_entry.ensures

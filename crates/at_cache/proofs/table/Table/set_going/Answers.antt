@@ -2,8 +2,7 @@ use Rattle.std.proofs.Common.{sym, refl}
 use Rattle.slab.specs.Slab.{get}
 use Rattle.at_cache.specs.Slots.{with_mark}
 use Rattle.at_cache.specs.Flushing.{doomed}
-use Rattle.at_cache.proofs.Came.{come_on}
-use Rattle.at_cache.proofs.Changing.{absent_changed, length_changed, marked, memory_changed, place_within, placed_changed, taken_slot}
+use Rattle.at_cache.proofs.Changing.{still, length_changed, marked, memory_changed, place_within, taken_slot}
 use Rattle.at_cache.proofs.table.Table.set_going.Goals as goal
 
 pub write_mark-requires : goal.write_mark-requires
@@ -11,12 +10,9 @@ write_mark-requires c = place_within c.args.self.now.entries.entries (get c.args
 
 pub invariant_of-self : goal.invariant_of-self
 invariant_of-self c =
-    let es = c.args.self.now.entries.entries in
-    let slots = get c.args.self.now.places in
-    record {
-      placed = placed_changed es slots c.args.slot _ c.args.self.now.placed (sym c.in-Some.ensures) _ (with_mark c.before-in-Some.result) (λ e. refl) c.write_mark.ensures;
-      come = come_on es _ c.args.self.now.attributes.items (absent_changed es slots c.args.slot _ c.args.self.now.placed (sym c.in-Some.ensures) _ (with_mark c.before-in-Some.result) (λ e. refl) c.write_mark.ensures) c.args.self.now.come;
-    }
+    let (placed, come) = still c.args.self.now c.args.slot _ (sym c.in-Some.ensures) _
+    (with_mark c.before-in-Some.result) (λ e. refl) c.write_mark.ensures in
+    record { placed = placed; come = come }
 
 pub returns-in-Some-clause-written : goal.returns-in-Some-clause-written
 returns-in-Some-clause-written c = memory_changed c.args.self.now.entries.entries (get c.args.self.now.places) c.args.slot _ c.args.self.now.placed (sym c.in-Some.ensures) _ (with_mark c.before-in-Some.result) (λ e. refl) c.write_mark.ensures (doomed c.args.first) (marked c.before-in-Some.result c.args.first c.before-in-Some.ensures.going c.before-in-Some.ensures.next)

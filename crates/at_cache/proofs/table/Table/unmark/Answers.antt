@@ -1,10 +1,11 @@
 use Rattle.std.proofs.Common.{sym, refl}
 use Rattle.slab.specs.Slab.{get}
 use Rattle.at_cache.specs.declared.mark.Mark.TheVariants as mark
+use Rattle.at_cache.specs.Info.{memory_of}
 use Rattle.at_cache.specs.Marking.{unmarked}
 use Rattle.at_cache.specs.Slots.{with_mark}
-use Rattle.at_cache.proofs.Came.{come_on}
-use Rattle.at_cache.proofs.Changing.{absent_changed, free_slot, length_changed, mark_there, memory_changed, place_within, placed_changed, unwritten}
+use Rattle.at_cache.proofs.Changing.{still, free_slot, length_changed, mark_there, memory_changed, place_within}
+use Rattle.at_cache.proofs.of_folding.Relinking.{unwritten}
 use Rattle.at_cache.proofs.table.Table.unmark.Goals as goal
 
 pub exchange_mark-requires : goal.exchange_mark-requires
@@ -12,12 +13,9 @@ exchange_mark-requires c = place_within c.args.self.now.entries.entries (get c.a
 
 pub invariant_of-self : goal.invariant_of-self
 invariant_of-self c =
-    let es = c.args.self.now.entries.entries in
-    let slots = get c.args.self.now.places in
-    record {
-      placed = placed_changed es slots c.args.slot _ c.args.self.now.placed (sym c.in-Some.ensures) _ (with_mark mark.Stays) (λ e. refl) c.exchange_mark.ensures.written;
-      come = come_on es _ c.args.self.now.attributes.items (absent_changed es slots c.args.slot _ c.args.self.now.placed (sym c.in-Some.ensures) _ (with_mark mark.Stays) (λ e. refl) c.exchange_mark.ensures.written) c.args.self.now.come;
-    }
+    let (placed, come) = still c.args.self.now c.args.slot _ (sym c.in-Some.ensures) _
+    (with_mark mark.Stays) (λ e. refl) c.exchange_mark.ensures.written in
+    record { placed = placed; come = come }
 
 pub returns-in-Some-clause-written : goal.returns-in-Some-clause-written
 returns-in-Some-clause-written c = memory_changed c.args.self.now.entries.entries (get c.args.self.now.places) c.args.slot _ c.args.self.now.placed (sym c.in-Some.ensures) _ (with_mark mark.Stays) (λ e. refl) c.exchange_mark.ensures.written unmarked (λ e. refl)
@@ -32,4 +30,5 @@ pub returns-in-None-clause-none : goal.returns-in-None-clause-none
 returns-in-None-clause-none c = (free_slot c.args.self.now.entries.entries (get c.args.self.now.places) c.args.slot (sym c.in-None.ensures), λ k. refl)
 
 pub returns-in-None-clause-written : goal.returns-in-None-clause-written
-returns-in-None-clause-written c = unwritten unmarked c.args.slot _ (free_slot c.args.self.now.entries.entries (get c.args.self.now.places) c.args.slot (sym c.in-None.ensures))
+returns-in-None-clause-written c = unwritten (memory_of c.args.self.now) c.args.slot unmarked
+    (free_slot c.args.self.now.entries.entries (get c.args.self.now.places) c.args.slot (sym c.in-None.ensures))
