@@ -1,5 +1,5 @@
 -- What a question is answered, and what becomes of what is kept.
-use Rattle.std.specs.Prelude.{◌≡◌, ◌||◌, ◌+◌, ◌^◌, ℕ, Bool, false, Option, Some, None, IfNone, IfOk, IfSome, IsSome, OnErr, Result, nat_lt}
+use Rattle.std.specs.Prelude.{◌≡◌, ◌||◌, ◌+◌, ◌^◌, ℕ, Bool, false, [], Option, Some, None, IfNone, IfOk, IfSome, IsSome, OnErr, Result, nat_lt}
 use Rattle.std.specs.Option.{option_map}
 use Rattle.at_model.specs.Run.{Contents, Instance, Location}
 use Rattle.at_model.specs.Rules.{Rules}
@@ -15,8 +15,8 @@ use Rattle.at_cache.specs.Traced.{FlushesTraces, Memories, SparesAtEdit, StayTra
 use Rattle.at_demand.specs.declared.answer.Answer.{Answer as AnswerCode}
 use Rattle.at_demand.specs.declared.question.Question.{Question}
 use Rattle.at_demand.specs.declared.trials.Trials.{Trials}
-use Rattle.at_evaluate.specs.Made.{Makes}
-use Rattle.at_demand.specs.Went.{Went}
+use Rattle.at_demand.specs.State.{State}
+use Rattle.at_demand.specs.Went.{IsAsked, Went}
 use Rattle.at_evaluate.specs.Valued.{equations, meaning, kept_values, ArePlain, IsKept}
 use Rattle.at_demand.specs.Known.{answer_view}
 use Rattle.at_evaluate.specs.Right.{AreRight, IsThere}
@@ -156,18 +156,18 @@ pub record HasTurnedOften {E : Type 0} (rules : Rules) (s : Shown) (m : Memories
 
 -- The instance has its answer; what can be kept again is right still, and of the tree. Unless turns were given, just what had a reason was made;
 -- else that was made by steps, some of which are turns.
-pub record IsAnswered {E : Type 0} (rules : Rules) (s : Shown) (before after : Entries) (former latter : Memories)
-    (earlier later : ℕ) (i : Instance ℕ) (r : Result AnswerCode E) (turned : Bool) (first next : ℕ) : Type 0 where
-  pub answered : HasAnswered rules s before after earlier later i r
-  pub traces : StayJustified rules s i former latter
-  pub makes : turned ≡ false → Makes before after former latter first next
-  pub went : Went former first latter next
+pub record IsAnswered {E : Type 0} (rules : Rules) (s : Shown) (old new : State) (i : Instance ℕ) (r : Result AnswerCode E) (turned : Bool)
+    : Type 0 where
+  pub answered : HasAnswered rules s old.entries new.entries old.work new.work i r
+  pub traces : StayJustified rules s i old.memories new.memories
+  pub makes : turned ≡ false → IsAsked old new
+  pub went : Went old [] new
 
 -- turns come to that, and trace nothing; what they put, they put as turns do
-pub record TracesNothing (Turns : Type 0) (former latter : Memories) (first next : ℕ) : Type 0 where
+pub record TracesNothing (Turns : Type 0) (old new : State) : Type 0 where
   pub turned : Turns
-  pub traces : StayTraced former latter
-  pub went : Went former first latter next
+  pub traces : StayTraced old.memories new.memories
+  pub went : Went old [] new
 
 -- whether more entries are in memory than a bound allows
 abbrev pub is_over : (most : Option ℕ) → (count : ℕ) → Bool
@@ -177,11 +177,10 @@ is_over (Some most) count = nat_lt most count
 -- An edit leaves all that it doesn't touch, and loses the rest alone, unless more was in memory than a bound allows. It takes traces for which
 -- what it touches was looked at, and others where more was in memory than that, or much more than is kept. The work stays as it was, and
 -- nothing is made.
-pub record Forgets (says : Location ℕ → Bool → Type 0) (over crowded : Bool) (before after : Entries) (former latter : Memories)
-    (earlier later first next : ℕ) : Type 0 where
-  pub leaves : LeavesUntouched says before after
-  pub loses : over ≡ false → LosesTouched says before after
-  pub traces : FlushesTraces says former latter
-  pub spares : SparesAtEdit says (over || crowded) former latter
-  pub work : later ≡ earlier
-  pub made : next ≡ first
+pub record Forgets (says : Location ℕ → Bool → Type 0) (over crowded : Bool) (old new : State) : Type 0 where
+  pub leaves : LeavesUntouched says old.entries new.entries
+  pub loses : over ≡ false → LosesTouched says old.entries new.entries
+  pub traces : FlushesTraces says old.memories new.memories
+  pub spares : SparesAtEdit says (over || crowded) old.memories new.memories
+  pub work : new.work ≡ old.work
+  pub made : new.made ≡ old.made

@@ -26,13 +26,7 @@ pub data WasPut (i : Instance ℕ) (t : Trace) (old : Memories) : (new : Memorie
   earlier : (n o : Memories) (j : Instance ℕ) (e : Entries) (p : PutsInTurns old n) (s : SparesOthers j e n o) (stay : StayTraced n o)
       → WasPut i t old n p → WasPut i t old o (one_more n o j e p s stay)
 
--- A turn comes to that, and puts values so. The number counts those that came to be kept.
-pub record PutsAndCounts (Turn : Type 0) (before after : Entries) (former latter : Memories) (first next : ℕ) : Type 0 where
-  pub turned : Turn
-  pub traces : PutsInTurns former latter
-  pub counts : CountsKept before after first next
-
--- so it is, where nothing is counted yet
+-- a turn comes to that, and puts values so; nothing is counted yet
 pub record PutsSo (Turn : Type 0) (former latter : Memories) : Type 0 where
   pub turned : Turn
   pub traces : PutsInTurns former latter

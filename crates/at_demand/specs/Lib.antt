@@ -23,5 +23,7 @@ pub mod LastTried
 pub mod Answered
 pub mod Keeping
 pub mod InTurns
+pub mod State
 pub mod Went
+pub mod StateOf
 pub mod Answerable

@@ -12,6 +12,7 @@ ghost use Rattle.at_evaluate.specs.Valued.{meaning};
 ghost use Rattle.at_evaluate.specs.Made.{Makes};
 ghost use Rattle.at_demand.specs.Keeping.{IsKeptWhereLazy, IsPlaced, IsPut};
 ghost use Rattle.at_demand.specs.Answered.{Forgets, IsAnswered, is_over};
+ghost use Rattle.at_demand.specs.State.{state_by};
 ghost use Rattle.at_evaluate.specs.Led.{AreLed};
 ghost use Rattle.at_evaluate.specs.Sparing.{AreSpare, HasWorthy};
 ghost use Rattle.at_evaluate.specs.Inner.{Gains};
@@ -89,9 +90,8 @@ impl<K: Keeper> Demand<K> {
         inst: &Inst,
     ) -> Result<Answer, AllocError>
         requires { CanBeAsked rules.now store.now (K.contents self.old.keeper) (K.memories self.old.keeper) inst.now }
-        ensures { IsAnswered rules.now store.now (K.contents self.old.keeper) (K.contents self.new.keeper)
-            (K.memories self.old.keeper) (K.memories self.new.keeper) self.old.work self.new.work inst.now result self.new.in_turns
-            self.old.made self.new.made }
+        ensures { IsAnswered rules.now store.now (state_by K.contents K.memories self.old.keeper self.old.work self.old.made)
+            (state_by K.contents K.memories self.new.keeper self.new.work self.new.made) inst.now result self.new.in_turns }
     {
         if let Some(value) = self.keeper.get(inst) {
             return Ok(Answer::Value(value.copy()?));
@@ -115,9 +115,8 @@ impl<K: Keeper> Demand<K> {
         inst: &Inst,
     ) -> Result<Answer, AllocError>
         requires { CanBeAsked rules.now store.now (K.contents self.old.keeper) (K.memories self.old.keeper) inst.now }
-        ensures { IsAnswered rules.now store.now (K.contents self.old.keeper) (K.contents self.new.keeper)
-            (K.memories self.old.keeper) (K.memories self.new.keeper) self.old.work self.new.work inst.now result self.new.in_turns
-            self.old.made self.new.made }
+        ensures { IsAnswered rules.now store.now (state_by K.contents K.memories self.old.keeper self.old.work self.old.made)
+            (state_by K.contents K.memories self.new.keeper self.new.work self.new.made) inst.now result self.new.in_turns }
     {
         self.in_turns = false;
         let at_once = self.answer_at_once(rules, store, inst, DEPTH)?;
@@ -170,8 +169,8 @@ impl<K: Keeper> Demand<K> {
         inst: &Inst,
     ) -> Result<Answer, AllocError>
         requires { CanBeAsked rules.now store.now (K.contents self.old.keeper) (K.memories self.old.keeper) inst.now }
-        ensures { IsAnswered rules.now store.now (K.contents self.old.keeper) (K.contents self.new.keeper)
-            (K.memories self.old.keeper) (K.memories self.new.keeper) self.old.work self.new.work inst.now result true self.old.made self.new.made }
+        ensures { IsAnswered rules.now store.now (state_by K.contents K.memories self.old.keeper self.old.work self.old.made)
+            (state_by K.contents K.memories self.new.keeper self.new.work self.new.made) inst.now result true }
     {
         let mut question = self.post(inst.copy(self.alloc)?)?;
         // Positions among the finds of one question say nothing of another one.
@@ -231,8 +230,9 @@ impl<K: Keeper> Demand<K> {
     )
         requires callable { F.IsAlwaysCallable touched.now }
         requires named { AreNamed places.now (F.post touched.now) }
-        ensures forgets { Forgets (Says (F.post touched.now)) (is_over most (K.count self.old.keeper)) (K.crowded self.old.keeper) (K.contents self.old.keeper)
-            (K.contents self.new.keeper) (K.memories self.old.keeper) (K.memories self.new.keeper) self.old.work self.new.work self.old.made self.new.made }
+        ensures forgets { Forgets (Says (F.post touched.now)) (is_over most (K.count self.old.keeper)) (K.crowded self.old.keeper)
+            (state_by K.contents K.memories self.old.keeper self.old.work self.old.made)
+            (state_by K.contents K.memories self.new.keeper self.new.work self.new.made) }
         ensures bound { IfSome most (λ m. K.count self.new.keeper ≤ m) }
     {
         fit(&mut self.keeper, most);

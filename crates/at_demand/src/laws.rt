@@ -1,6 +1,6 @@
 //! Laws over the definitions: each is the contract of a function that does nothing.
 
-ghost use Rattle.std.specs.Prelude.{◌≡◌, ◌↔◌, ℕ, Ok, Some, true};
+ghost use Rattle.std.specs.Prelude.{◌≡◌, ◌↔◌, ℕ, List, Ok, Some, true};
 ghost use Rattle.at_model.specs.Trees.{Tree, conforms};
 ghost use Rattle.at_model.specs.Paths.{Node};
 ghost use Rattle.at_model.specs.Run.{Contents, Instance, Location};
@@ -28,8 +28,8 @@ ghost use Rattle.at_demand.specs.Called.{KeptBy, Keeps};
 ghost use Rattle.at_demand.specs.Touched.{Touches};
 ghost use Rattle.at_evaluate.specs.Traces.{AreJustified, AreOfTree, IsRemembered};
 ghost use Rattle.at_cache.specs.Traced.{FlushesTraces, Memories, StayTraced, Trace};
-ghost use Rattle.at_evaluate.specs.Made.{Makes};
-ghost use Rattle.at_demand.specs.Went.{HasCause, Went, asked};
+ghost use Rattle.at_demand.specs.State.{State as Now};
+ghost use Rattle.at_demand.specs.Went.{HasCause, IsAsked, Went, asked};
 
 /// Over an edit that is done, what is kept stays right where it stands for no location that the edit touches.
 pub fn what_is_kept_stays_right()
@@ -86,11 +86,11 @@ pub fn what_stays_traced_is_right()
 {}
 
 /// What could be kept again is made by a question only if, since then, an edit touched what was looked at for its value, or something that was
-/// used for it was put with another value, or a turn put it itself, or an edit let go of it, whatever it touched: since more was in memory than
-/// the engine's bound allows, or much more than was kept.
+/// used for it was put with another value, or a turn put it itself, or an edit let go of it, whatever it touched: where an edit may do that,
+/// `Forgets` says.
 pub fn what_is_made_again_has_a_cause()
-    ensures { (old new later : Memories) (first k l : ℕ) (w : Went old first new k) (e f : Entries) (x : Makes e f new later k l)
-        → (i : Instance ℕ) (t : Trace) → old.traced i ≡ Some t → Among i x.made → HasCause old first i t later l (asked new later e f k l w x) }
+    ensures { (old new later : Now) (es : List (Shown × Edit)) (w : Went old es new) (x : IsAsked new later)
+        → (i : Instance ℕ) (t : Trace) → old.memories.traced i ≡ Some t → Among i x.makes.made → HasCause old i t es later (asked new later es w x) }
 {}
 
 /// Where no attribute is circular, what is said by formulas is what equations alone say: outcomes and answers, what an instance leads to, and

@@ -3,8 +3,8 @@
 //! **Its specs**, in order: `Known` is what is known meanwhile, `UnderWay` how far an evaluation has come; `Covering` says how the locations of
 //! an entry come together, `Only` that nothing else does, `Keeping` what becomes of a find that is to be kept, and which entries without a
 //! value come before; `Worth` what is worth keeping for a question, and how much comes, `Advancing` what an evaluation comes to and `Answered`
-//! a question, `Touched` and `Spared` what an edit leaves, `Called` the same by paths. `InTurns` is what turns put, and `Went` how that goes on
-//! over questions, turns and edits. Of questions in turns, `Turns` shows one in the words of `at_model`, `Attempts` is what one try comes to,
+//! a question, `Touched` and `Spared` what an edit leaves, `Called` the same by paths. `State` is what questions change, `InTurns` what turns
+//! put, and `Went` how states follow each other over questions, turns and edits. Of questions in turns, `Turns` shows one in the words of `at_model`, `Attempts` is what one try comes to,
 //! `ChainSteps` what that does to the chain, `KeptTrials` the trials that stay while turns follow each other. `Answerable` says once on which
 //! conditions all of that is asked for. Where attributes are circular a question goes level by level: `Levels` says what stands between turns,
 //! `Forming` and `Tries` what a try comes to, `Groups` what becomes of instances that are solved together, `Searches` how a search goes on

@@ -56,10 +56,10 @@ pub by_both : {K : Type 0} (entries : K → Entries) (memories : K → Memories)
     → GoesBy entries memories old mid → GoesBy entries memories mid new
     → GoesBy entries memories old new
 by_both entries memories old mid _ first nowhere = first
-by_both entries memories old mid _ first (by_line next new line before after wants second served went) =
-    by_line next new line before after wants (by_both entries memories old mid next first second) served went
-by_both entries memories old mid _ first (by_turns next new limit before after spent second spends went) =
-    by_turns next new limit before after spent (by_both entries memories old mid next first second) spends went
+by_both entries memories old mid _ first (by_line next new line before after wants second served) =
+    by_line next new line before after wants (by_both entries memories old mid next first second) served
+by_both entries memories old mid _ first (by_turns next new limit before after spent second spends) =
+    by_turns next new limit before after spent (by_both entries memories old mid next first second) spends
 
 -- what belongs together is kept together in a call, where it is over the count of what was answered `memory`
 pub served_whole_so : (rules : Rules) (wants : Bool) (desk next : Desk) → next.memory ≡ desk.memory + (if wants then 1 else 0)

@@ -19,7 +19,7 @@ use Rattle.at_engine.specs.declared.stream.desk.RunFault.TheVariants.{Read, Writ
 use Rattle.at_engine.specs.Ends.{Counted, Remembers}
 use Rattle.at_engine.specs.Going.{SendsEach}
 use Rattle.at_engine.specs.Loop.{Progress}
-use Rattle.at_engine.specs.Stepping.{GoesBy}
+use Rattle.at_engine.specs.Stepping.{GoesBy, edits_in}
 use Rattle.at_engine.specs.Taking.{EndsIn, wants}
 
 -- The reader came to its end. What was written is the output of the bytes that it gave, with so many turns behind each line and
@@ -152,7 +152,8 @@ KeepsWhole rules (Ok report) = HasNoneCircular rules ⊎ (report.memory ≡ 0)
 KeepsWhole rules (Err fault) = HasNoneCircular rules
 
 -- What a run of at most so many reads promises, by what is known of the reader and of the writer: what it has done, which of its
--- calls failed, what the engine has gone through, and what is kept. Where it doesn't gather replies each is sent on before the next line.
+-- calls failed, what the engine has gone through, what is kept, and that nothing but questions, turns and the edits of its lines led to what
+-- can be kept again. Where it doesn't gather replies each is sent on before the next line.
 pub record RunsFor {K R W : Type 0} (entries : K → Entries) (memories : K → Memories)
     (remaining : R → Option (List ℕ)) (misread ending : R → Option Bool)
     (count : R → Option ℕ) (contents : W → Option (List ℕ)) (failure : W → Option Bool) (waiting : W → Bool) (most_reads : ℕ)
@@ -170,5 +171,5 @@ pub record RunsFor {K R W : Type 0} (entries : K → Entries) (memories : K → 
   pub spare : KeepsWhole (rules_of old) result → IsSpare entries old → IsSpare entries new
   pub rules : rules_of new ≡ rules_of old
   pub settings : settings_of new ≡ settings_of old
-  pub went : WentOn memories old new
+  pub went : WentOn entries memories (edits_in entries memories old new by) old new
   pub sound : IsSound entries memories new

@@ -8,6 +8,7 @@ use Rattle.at_cache.specs.Traced.{Memories}
 use Rattle.at_demand.specs.declared.question.Question.{Question}
 use Rattle.at_engine.specs.Engines.{rules_of, state_of}
 use Rattle.at_engine.specs.Keeping.{IsSpare, KeepsWhole}
+use Rattle.at_engine.specs.Making.{WentOn}
 use Rattle.at_engine.specs.Turning.{AnswersIn, CountsTurns, StaysOpen}
 use Rattle.at_engine.specs.declared.engine.Engine.{Engine}
 use Rattle.at_engine.specs.declared.engine.turning.Spent.{Spent}
@@ -33,7 +34,8 @@ is_memory None = false
 is_memory (Some wants) = wants
 
 -- Turns were given to the open question with the least number: as many as may be, or up to the one that had an answer, which is
--- appended. Each tried one equation. What was kept spare is so still, where what belongs together is kept together.
+-- appended. Each tried one equation. What was kept spare is so still, where what belongs together is kept together; and nothing but
+-- questions and turns led to what can be kept again.
 pub record Spends {K : Type 0} (entries : K → Entries) (memories : K → Memories) (limit : Option ℕ) (old new : Engine K)
     (before after : List ℕ) (spent : Spent) : Type 0 where
   pub first : Posted
@@ -48,6 +50,7 @@ pub record Spends {K : Type 0} (entries : K → Entries) (memories : K → Memor
   pub named : option_map (λ (x : Bool × Reply). x.0) told ≡ spent.told
   pub tried : HasTried entries memories limit old new first others given told
   pub spare : KeepsWhole (rules_of old) (is_memory spent.told) → IsSpare entries old → IsSpare entries new
+  pub went : WentOn entries memories [] old new
 
 -- so it was; or no question is open, and nothing changes
 pub data HasGiven {K : Type 0} (entries : K → Entries) (memories : K → Memories) (limit : Option ℕ) (old new : Engine K)

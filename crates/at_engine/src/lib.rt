@@ -8,8 +8,9 @@
 //! promises), `Meant` (what its words come to), `Following` and `Telling` (what a verdict leads to, in the program's
 //! words), `Hearing` (one step, and what turns try for a line that waits), `Lasting` (where the last question was
 //! asked). By numbers for nodes: `Seen`, `Naming`, `Marks`, `Asking`, `Answered`, `Fitting`, `Collected`. Open
-//! questions: `Posted`, `PostedFor`, `Turning`, `Turned`. What is kept: `Keeping`, `KeptOver`, `KeepingRuns`; what is
-//! made, and that it has a cause: `Making`. What a value may carry: `OneProof`.
+//! questions: `Posted`, `PostedFor`, `Turning`, `Turned`. What is kept: `Keeping`, `KeptOver`, `KeepingRuns`. How what
+//! can be kept again came to be what it is: `Making`, by questions, turns and the edit of the line, on the tree as it was;
+//! which edits those of a run are: `edits_in` of `Stepping`. What a value may carry: `OneProof`.
 //!
 //! **Where to begin:** `engine.rt` serves one line, `engine/` has its commands, whose words are read over a `View`;
 //! `stream.rt` serves all, between an `Input` and an `Output`.

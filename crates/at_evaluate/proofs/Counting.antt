@@ -37,7 +37,7 @@ module _ (old new : Entries) where
   counts_same w small same = counts_shared w w refl small (λ i some. same i) (λ i. ap value_at (same i))
 
   -- one value comes
-  gains_one : (i : Instance ℕ) (k : Kept) (v : Value ℕ) → k.value ≡ Some v → old i ≡ None → ((j : Instance ℕ) → new j ≡ (if same_instance i j then Some k else old j)) → AreGained old new (i ∷ [])
+  pub gains_one : (i : Instance ℕ) (k : Kept) (v : Value ℕ) → k.value ≡ Some v → old i ≡ None → ((j : Instance ℕ) → new j ≡ (if same_instance i j then Some k else old j)) → AreGained old new (i ∷ [])
   gains_one i k v valued absent adds = record {
     distinct = (λ h. h, tt);
     exactly = λ j. (λ h. there j h, λ h. inl (by j (same_instance i j) refl (adds j) h.0 h.1));

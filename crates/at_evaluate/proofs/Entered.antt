@@ -73,3 +73,12 @@ put_stays old new i entry absent adds j some = by (same_instance i j) refl (adds
     by : (b : Bool) → same_instance i j ≡ b → new j ≡ (if b then Some entry else old j) → new j ≡ old j
     by true s e = absurd (not_none (old j) some (subst (λ x. old x ≡ None) (same_true i j s) absent))
     by false s e = e
+
+-- one without a value leaves the values that are kept
+pub put_unvalued : (old new : Entries) (i : Instance ℕ) (entry : Kept) → entry.value ≡ None → old i ≡ None
+    → ((j : Instance ℕ) → new j ≡ (if same_instance i j then Some entry else old j)) → (j : Instance ℕ) → kept_values new j ≡ kept_values old j
+put_unvalued old new i entry none absent adds j = by (same_instance i j) refl (adds j)
+  where
+    by : (b : Bool) → same_instance i j ≡ b → new j ≡ (if b then Some entry else old j) → kept_values new j ≡ kept_values old j
+    by true s e = ap value_at e ∙ none ∙ sym (ap value_at (subst (λ x. old x ≡ None) (same_true i j s) absent))
+    by false s e = ap value_at e

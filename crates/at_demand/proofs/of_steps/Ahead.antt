@@ -11,16 +11,13 @@ use Rattle.at_model.specs.of_fixpoints.Searching.{Level, posted as search_posted
 use Rattle.at_rules.specs.Circular.{HasNoneCircular}
 use Rattle.at_store.specs.Shown.{Shown, contents}
 use Rattle.at_cache.specs.Kept.{Entries}
-use Rattle.at_cache.specs.Traced.{Memories}
 use Rattle.at_demand.specs.declared.answer.Answer.{Answer as AnswerCode}
-use Rattle.at_demand.specs.declared.demand.Demand.{Demand}
 use Rattle.at_demand.specs.declared.question.Question.{Question}
 use Rattle.at_demand.specs.declared.trials.Trials.{Trials}
 use Rattle.at_demand.specs.Answerable.{CanBegin}
 use Rattle.at_demand.specs.Answered.{AddsMet, GainsAtMost, HasTurnedWith, HasWorthyFor, IsAnswered}
 use Rattle.at_evaluate.specs.Inner.{Gains}
 use Rattle.at_evaluate.specs.InParts.{HasGrown, Held, held}
-use Rattle.at_demand.specs.InTurns.{CountsKept, PutsInTurns}
 use Rattle.at_demand.specs.Known.{answer_view}
 use Rattle.at_evaluate.specs.Valued.{meaning}
 use Rattle.at_demand.specs.Levels.{IsSearch, LevelCode, asked_by}
@@ -29,7 +26,8 @@ use Rattle.at_demand.specs.Sound.{AreSound}
 use Rattle.at_evaluate.specs.Sparing.{AddsWorthy, AreSpare, Counts}
 use Rattle.at_evaluate.specs.Traces.{StayJustified}
 use Rattle.at_demand.specs.Turns.{IsSparingTurns, IsStanding, under_way}
-use Rattle.at_demand.specs.Went.{Went, turned as turned_then}
+use Rattle.at_demand.specs.State.{State}
+use Rattle.at_demand.specs.Went.{IsTurned, Went, turned as turned_then}
 use Rattle.at_evaluate.proofs.Counting.{counts_more}
 use Rattle.at_demand.proofs.Standing.{answers_right, asked_same, last_led, sound_after, worthy_both}
 use Rattle.at_demand.proofs.of_searches.Reaching.{asked_at}
@@ -39,16 +37,6 @@ use Rattle.at_demand.proofs.of_steps.Grown.{spares_grown, stands_grown}
 use Rattle.at_demand.proofs.of_steps.Reasoned.{StandsReasoned, ahead_all, reasoned_met, turned_all, turned_on}
 use Rattle.at_evaluate.proofs.of_traces.Putting.{traced_on, traced_then, traced_up}
 use Rattle.at_demand.proofs.of_traces.TurnsPut.{puts_stay, went_made, went_then}
-
--- what turns change
-pub record State : Type 0 where
-  pub entries : Entries
-  pub memories : Memories
-  pub work : ℕ
-  pub made : ℕ
-
-abbrev pub state_of : {K : Type 0} → (K → Entries) → (K → Memories) → Demand K → State
-state_of entries memories d = record { entries = entries d.keeper; memories = memories d.keeper; work = d.work; made = d.made }
 
 abbrev pub held_in : State → Held
 held_in a = held a.entries a.memories [] a.work a.made
@@ -62,13 +50,12 @@ pub record StandsAhead (rules : Rules) (s : Shown) (i : Instance ℕ) (first now
   pub sparing : AreSpare rules (contents s) first.entries → IsSparingTurns rules (contents s) now.entries q
   pub reasoned : StandsReasoned rules s i first.entries now.entries q
   pub traces : StayJustified rules s i first.memories now.memories
-  pub went : Went first.memories first.made now.memories now.made
+  pub went : Went first [] now
 
 module _ (rules : Rules) (s : Shown) (i : Instance ℕ) (can : CanBegin rules s i) (first : State) where
   -- so it is answered
   abbrev Answered : State → Result AnswerCode AllocError → Type 0
-  Answered now r = IsAnswered {E = AllocError} rules s first.entries now.entries first.memories now.memories first.work now.work i r true
-      first.made now.made
+  Answered now r = IsAnswered {E = AllocError} rules s first now i r true
 
   module _ (old : State) (q : Question) (so : StandsAhead rules s i first old q) where
     -- where no turn more can be given
@@ -106,9 +93,8 @@ module _ (rules : Rules) (s : Shown) (i : Instance ℕ) (can : CanBegin rules s 
       traced_ahead = traced_then rules s i first.memories old.memories mid.memories so.traces
           (traced_up rules s can.basis.idle i q.inst old.memories mid.memories led_ahead ahead.traces)
 
-      went_ahead : Went first.memories first.made mid.memories mid.made
-      went_ahead = went_then first.memories old.memories mid.memories first.made old.made mid.made so.went
-          (went_made old.entries mid.entries old.memories mid.memories old.made mid.made ahead.makes)
+      went_ahead : Went first [] mid
+      went_ahead = went_then first old mid so.went (went_made old mid (record { makes = ahead.makes; counts = ahead.gains.counts }))
 
       -- memory was wanting in that
       pub broken_ahead : (r : Result AnswerCode AllocError) (e : AllocError) → r ≡ Err e → Answered mid r
@@ -152,13 +138,13 @@ module _ (rules : Rules) (s : Shown) (i : Instance ℕ) (can : CanBegin rules s 
           counts = counts_turned turned;
         }
 
-        module _ (puts : PutsInTurns mid.memories new.memories) (counts : CountsKept mid.entries new.entries mid.made new.made) where
+        module _ (step : IsTurned mid new) where
           traced_turned : StayJustified rules s i first.memories new.memories
           traced_turned = traced_then rules s i first.memories mid.memories new.memories traced_ahead
-              (traced_on rules s i mid.memories new.memories (puts_stay mid.memories new.memories puts) traced_ahead.justified)
+              (traced_on rules s i mid.memories new.memories (puts_stay mid.memories new.memories step.puts) traced_ahead.justified)
 
-          went_turned : Went first.memories first.made new.memories new.made
-          went_turned = turned_then mid.memories new.memories mid.entries new.entries mid.made new.made went_ahead puts counts
+          went_turned : Went first [] new
+          went_turned = turned_then mid new [] went_ahead step
 
           abbrev Turned : Question → Trials → Option AnswerCode → Type 0
           Turned p t o = HasTurnedWith {E = AllocError} rules s mid.entries new.entries mid.work new.work q p t (Ok o)

@@ -41,7 +41,7 @@ module _ (says : Location ℕ → Bool → Type 0) (crowded late : Bool) (old mi
       subst (λ z. SparesAtEdit says crowded z o) (same refl) (subst (λ b. SparesAtEdit says b n o) (alike refl) spares)
 
   pub forgets : (over : Bool) (w k : ℕ) → (over ≡ false → mid ≡ old) → (over ≡ false → n ≡ m) → (over ≡ false → late ≡ crowded) →
-      Forgets says over crowded old new m o w w k k
+      Forgets says over crowded (record { entries = old; memories = m; work = w; made = k }) (record { entries = new; memories = o; work = w; made = k })
   forgets over w k all same alike = record {
     leaves = λ i e is. let (there, free) = leaves i e is in (kept i e there, free);
     loses = λ off. subst (λ z. LosesTouched says z new) (all off) loses;

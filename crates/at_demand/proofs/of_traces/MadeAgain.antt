@@ -1,16 +1,16 @@
 -- What could be kept again is made for a cause alone.
-use Rattle.std.proofs.Common.{◌≡◌, ◌⊎◌, inl, inr, ℕ, Bool, Some}
+use Rattle.std.proofs.Common.{◌≡◌, ◌⊎◌, inl, inr, ℕ, Bool, List, ◌∷◌, Some}
 use Rattle.at_model.specs.Edits.{Edit}
 use Rattle.at_model.specs.Run.{Instance}
 use Rattle.at_model.specs.Meaning.{Among}
 use Rattle.at_store.specs.Shown.{Shown}
-use Rattle.at_cache.specs.Kept.{Entries}
-use Rattle.at_cache.specs.Traced.{Memories, SparesAtEdit, Trace}
-use Rattle.at_demand.specs.InTurns.{CountsKept, PutsInTurns}
-use Rattle.at_evaluate.specs.Made.{Makes}
-use Rattle.at_demand.specs.Touched.{Touches}
+use Rattle.at_cache.specs.Traced.{Trace}
+use Rattle.at_demand.specs.State.{State}
 use Rattle.at_demand.specs.Went.{
   HasCause,
+  IsAsked,
+  IsEdited,
+  IsTurned,
   Went,
   asked,
   before_edit,
@@ -26,46 +26,50 @@ use Rattle.at_demand.specs.Went.{
 }
 use Rattle.at_demand.proofs.of_traces.TurnsPut.{spared_in_turns}
 
-module _ (old : Memories) (first : ℕ) (i : Instance ℕ) (t : Trace) (before : old.traced i ≡ Some t) where
-  at_question : (n o : Memories) (e f : Entries) (k l : ℕ) (w : Went old first n k) (x : Makes e f n o k l)
-      → ((n.traced i ≡ Some t) ⊎ HasCause old first i t n k w) → (o.traced i ≡ Some t) ⊎ HasCause old first i t o l (asked n o e f k l w x)
-  at_question n o e f k l w x (inl there) = elim (x.spares i t there) [
-    | inl still ↦ inl still
-    | inr other ↦ inr (outdated n o e f k l w x other)
-  ]
-  at_question n o e f k l w x (inr cause) = inr (before_question n o e f k l w x cause)
+module _ (old : State) (i : Instance ℕ) (t : Trace) (before : old.memories.traced i ≡ Some t) where
+  -- it still can be kept again then
+  abbrev IsThere : State → Type 0
+  IsThere n = n.memories.traced i ≡ Some t
 
-  at_turns : (n o : Memories) (e f : Entries) (k l : ℕ) (w : Went old first n k) (p : PutsInTurns n o) (c : CountsKept e f k l)
-      → ((n.traced i ≡ Some t) ⊎ HasCause old first i t n k w) → (o.traced i ≡ Some t) ⊎ HasCause old first i t o l (turned n o e f k l w p c)
-  at_turns n o e f k l w p c (inl there) = elim (spared_in_turns i t n o p there) [
+  at_question : (n o : State) (es : List (Shown × Edit)) (w : Went old es n) (x : IsAsked n o) → IsThere n ⊎ HasCause old i t es n w
+      → IsThere o ⊎ HasCause old i t es o (asked n o es w x)
+  at_question n o es w x (inl there) = elim (x.makes.spares i t there) [
     | inl still ↦ inl still
-    | inr was ↦ inr (put_in_turns n o e f k l w p c was)
+    | inr other ↦ inr (outdated n o es w x other)
   ]
-  at_turns n o e f k l w p c (inr cause) = inr (before_turns n o e f k l w p c cause)
+  at_question n o es w x (inr cause) = inr (before_question n o es w x cause)
 
-  at_edit : (n o : Memories) (s : Shown) (x : Edit) (b : Bool) (k : ℕ) (w : Went old first n k) (h : SparesAtEdit (Touches s x) b n o)
-      → ((n.traced i ≡ Some t) ⊎ HasCause old first i t n k w) → (o.traced i ≡ Some t) ⊎ HasCause old first i t o k (edited n o s x b k w h)
-  at_edit n o s x b k w h (inl there) = elim (h i t there) [
+  at_turns : (n o : State) (es : List (Shown × Edit)) (w : Went old es n) (x : IsTurned n o) → IsThere n ⊎ HasCause old i t es n w
+      → IsThere o ⊎ HasCause old i t es o (turned n o es w x)
+  at_turns n o es w x (inl there) = elim (spared_in_turns i t n.memories o.memories x.puts there) [
+    | inl still ↦ inl still
+    | inr was ↦ inr (put_in_turns n o es w x was)
+  ]
+  at_turns n o es w x (inr cause) = inr (before_turns n o es w x cause)
+
+  at_edit : (n o : State) (es : List (Shown × Edit)) (s : Shown) (e : Edit) (b : Bool) (w : Went old es n) (h : IsEdited s e b n o)
+      → IsThere n ⊎ HasCause old i t es n w → IsThere o ⊎ HasCause old i t ((s, e) ∷ es) o (edited n o es s e b w h)
+  at_edit n o es s e b w h (inl there) = elim (h.spares i t there) [
     | inl still ↦ inl still
     | inr gone ↦ elim gone [
-      | inl at ↦ (let (l, looked, said) = at in inr (touched n o s x b k w h l looked said))
-      | inr off ↦ inr (let_go n o s x b k w h there off.0 off.1)
+      | inl at ↦ (let (l, looked, said) = at in inr (touched n o es s e b w h l looked said))
+      | inr off ↦ inr (let_go n o es s e b w h there off.0 off.1)
     ]
   ]
-  at_edit n o s x b k w h (inr cause) = inr (before_edit n o s x b k w h cause)
+  at_edit n o es s e b w h (inr cause) = inr (before_edit n o es s e b w h cause)
 
   -- it still can be, or there was a cause
-  pub spared_over : (new : Memories) (l : ℕ) (w : Went old first new l) → (new.traced i ≡ Some t) ⊎ HasCause old first i t new l w
+  pub spared_over : (es : List (Shown × Edit)) (new : State) (w : Went old es new) → IsThere new ⊎ HasCause old i t es new w
   spared_over _ _ begun = inl before
-  spared_over _ _ (asked n o e f k l w x) = at_question n o e f k l w x (spared_over n k w)
-  spared_over _ _ (turned n o e f k l w p c) = at_turns n o e f k l w p c (spared_over n k w)
-  spared_over _ _ (edited n o s x b k w h) = at_edit n o s x b k w h (spared_over n k w)
+  spared_over _ _ (asked n o es w x) = at_question n o es w x (spared_over es n w)
+  spared_over _ _ (turned n o es w x) = at_turns n o es w x (spared_over es n w)
+  spared_over _ _ (edited n o es s e b w h) = at_edit n o es s e b w h (spared_over es n w)
 
   -- a question that makes it has a cause itself, or there was one
-  pub made_for_a_cause : (new later : Memories) (k l : ℕ) (w : Went old first new k) (e f : Entries) (x : Makes e f new later k l) → Among i x.made
-      → HasCause old first i t later l (asked new later e f k l w x)
-  made_for_a_cause new later k l w e f x among = by (spared_over new k w)
+  pub made_for_a_cause : (new later : State) (es : List (Shown × Edit)) (w : Went old es new) (x : IsAsked new later) → Among i x.makes.made
+      → HasCause old i t es later (asked new later es w x)
+  made_for_a_cause new later es w x among = by (spared_over es new w)
     where
-      by : (new.traced i ≡ Some t) ⊎ HasCause old first i t new k w → HasCause old first i t later l (asked new later e f k l w x)
-      by (inl still) = outdated new later e f k l w x (x.reason i t among still)
-      by (inr cause) = before_question new later e f k l w x cause
+      by : IsThere new ⊎ HasCause old i t es new w → HasCause old i t es later (asked new later es w x)
+      by (inl still) = outdated new later es w x (x.makes.reason i t among still)
+      by (inr cause) = before_question new later es w x cause

@@ -1,5 +1,5 @@
 -- What turns put, one behind the other.
-use Rattle.std.proofs.Common.{◌≡◌, ◌≤◌, ◌+◌, ◌-◌, ◌^◌, ◌⊎◌, min, inl, inr, ℕ, Bool, true, false, List, length, Option, Some, refl, arith, subst, sym, ◌∙◌, ap, true≢false}
+use Rattle.std.proofs.Common.{◌≡◌, ◌≤◌, ◌<◌, ◌+◌, ◌-◌, ◌^◌, ◌⊎◌, min, inl, inr, ℕ, Bool, true, false, List, [], ◌++◌, length, Option, Some, refl, arith, subst, sym, ◌∙◌, ap, true≢false}
 use Rattle.std.specs.Prelude.{nat_lt}
 use Rattle.std.proofs.lemmas.Bool.{ltb-false, ltb-true}
 use Rattle.at_model.specs.Edits.{Edit}
@@ -7,16 +7,18 @@ use Rattle.at_model.specs.Run.{Instance, Location, Value}
 use Rattle.at_store.specs.Shown.{Shown}
 use Rattle.at_body.specs.Same.{same_instance}
 use Rattle.at_cache.specs.Kept.{Entries}
-use Rattle.at_cache.specs.Traced.{AreAlike, Memories, PutsTrace, SparesAtEdit, SparesOthers, StayTraced, Trace}
+use Rattle.at_cache.specs.Traced.{Memories, PutsTrace, SparesOthers, StayTraced, Trace}
 use Rattle.at_cache.specs.declared.keeper.Order.TheVariants as order
 use Rattle.at_demand.specs.InTurns.{CountsKept, PutsInTurns, WasPut, another, earlier, itself, nothing, one_more}
-use Rattle.at_evaluate.specs.Made.{Makes}
 use Rattle.at_evaluate.specs.Sparing.{Counts}
-use Rattle.at_demand.specs.Touched.{Touches}
-use Rattle.at_demand.specs.Went.{Went, asked, begun, edited, turned}
+use Rattle.at_demand.specs.Again.{HasKeptAgain}
+use Rattle.at_demand.specs.State.{State}
+use Rattle.at_demand.specs.Went.{IsAsked, IsTurned, Went, asked, begun, edited, turned}
 use Rattle.at_evaluate.proofs.Sameness.{same_refl, same_true}
 use Rattle.at_evaluate.proofs.of_traces.Justified.{stay_any, stay_same, stay_then}
-use Rattle.at_evaluate.proofs.of_traces.Making.{makes_alike}
+use Rattle.at_evaluate.proofs.of_traces.Making.{makes_as, makes_none, makes_settled}
+use Rattle.at_evaluate.proofs.Counting.{counts_none}
+use Rattle.at_evaluate.proofs.of_traces.Settled.{settled_counts}
 
 pub puts_same : (m : Memories) → PutsInTurns m m
 puts_same m = nothing
@@ -75,33 +77,34 @@ since_then k w x l most other d less is n more =
     summed k n (k + d) l most (omega (arith, all, less)) is (nat_lt (k + d) most) refl
 
 -- steps behind steps
-steps_then : (old : Memories) (j : ℕ) (mid : Memories) (k : ℕ) → Went old j mid k → (new : Memories) (l : ℕ) → Went mid k new l → Went old j new l
-steps_then old j mid k w _ _ begun = w
-steps_then old j mid k w _ _ (asked n o e f x y v h) = asked n o e f x y (steps_then old j mid k w n x v) h
-steps_then old j mid k w _ _ (turned n o e f x y v p c) = turned n o e f x y (steps_then old j mid k w n x v) p c
-steps_then old j mid k w _ _ (edited n o s x b y v h) = edited n o s x b y (steps_then old j mid k w n y v) h
+pub steps_then : (old mid : State) (es : List (Shown × Edit)) → Went old es mid → (new : State) (fs : List (Shown × Edit)) → Went mid fs new
+    → Went old (fs ++ es) new
+steps_then old mid es w _ _ begun = w
+steps_then old mid es w _ _ (asked n o fs v h) = asked n o (fs ++ es) (steps_then old mid es w n fs v) h
+steps_then old mid es w _ _ (turned n o fs v h) = turned n o (fs ++ es) (steps_then old mid es w n fs v) h
+steps_then old mid es w _ _ (edited n o fs s e b v h) = edited n o (fs ++ es) s e b (steps_then old mid es w n fs v) h
 
-pub went_then : (old mid new : Memories) (j k l : ℕ) → Went old j mid k → Went mid k new l → Went old j new l
-went_then old mid new j k l w v = steps_then old j mid k w new l v
+pub went_then : (old mid new : State) → Went old [] mid → Went mid [] new → Went old [] new
+went_then old mid new w v = steps_then old mid [] w new [] v
 
-pub went_made : (e f : Entries) (m n : Memories) (k l : ℕ) → Makes e f m n k l → Went m k n l
-went_made e f m n k l h = asked m n e f k l begun h
+-- nothing was made or kept
+pub asked_none : (s : State) → s.work < 2 ^ 64 → IsAsked s s
+asked_none s few = record { makes = makes_none s.entries s.memories s.made; counts = counts_none s.entries s.work few }
+
+pub went_made : (old new : State) → IsAsked old new → Went old [] new
+went_made old new h = asked old new [] begun h
 
 -- what was kept again makes nothing
-pub went_again : (e : Entries) (m n : Memories) (k l : ℕ) → l ≡ k → AreAlike m n → Went m k n l
-went_again e m n k l same alike = subst (λ x. Went m k n x) (sym same) (went_made e e m n k k (makes_alike e e m n k alike))
-
--- an edit makes nothing
-pub went_edited : (m n : Memories) (s : Shown) (x : Edit) (b : Bool) (k l : ℕ) → l ≡ k → SparesAtEdit (Touches s x) b m n → Went m k n l
-went_edited m n s x b k l same spares = subst (λ j. Went m k n j) (sym same) (edited m n s x b k begun spares)
-
--- a turn behind steps
-pub went_turned : (e f : Entries) (first m n o : Memories) (j k x l : ℕ) → Went first j m k → Went m k n x → PutsInTurns n o
-    → CountsKept e f x l → Went first j o l
-went_turned e f first m n o j k x l w v p counts = turned n o e f x l (went_then first m n j k x w v) p counts
+pub went_again : (old new : State) (q : Instance ℕ) → old.work < 2 ^ 64
+    → HasKeptAgain old.memories new.memories old.entries new.entries old.work new.work q → new.made ≡ old.made → Went old [] new
+went_again old new q few again same = went_made old new (record {
+  makes = makes_as same (makes_settled q again.count old.entries new.entries old.memories new.memories old.made again.settled again.alike);
+  counts = settled_counts old.memories q again.count old.entries new.entries old.work new.work again.settled few again.counts;
+})
 
 -- what was kept again, and then a turn
-pub went_on : (e f : Entries) (first m n o : Memories) (j k x l : ℕ) → Went first j m k → x ≡ k → AreAlike m n → PutsInTurns n o
-    → CountsKept e f x l → Went first j o l
-went_on e f first m n o j k x l w same alike p counts =
-    went_turned e f first m n o j k x l w (went_again e m n k x same alike) p counts
+pub went_on : (first old mid new : State) (q : Instance ℕ) → Went first [] old → old.work < 2 ^ 64
+    → HasKeptAgain old.memories mid.memories old.entries mid.entries old.work mid.work q → mid.made ≡ old.made → IsTurned mid new
+    → Went first [] new
+went_on first old mid new q w few again same turn =
+    turned mid new [] (went_then first old mid w (went_again old mid q few again same)) turn

@@ -20,7 +20,9 @@ ghost use Rattle.at_demand.specs.Searches.{CanResolve, CanSpoil, CanTryLast, Can
 ghost use Rattle.at_demand.specs.Tries.{CanCarryOn, HasCarriedOn};
 ghost use Rattle.at_demand.specs.KeptTrials.{Fit, IsNotedRight};
 ghost use Rattle.at_demand.specs.LastTried.{CanForm, HasFormed, IsDeeperLast, IsPassedLast, IsPassedOver, IsSettledLast};
-ghost use Rattle.at_demand.specs.InTurns.{PutsAndCounts, PutsInTurns, PutsSo};
+ghost use Rattle.at_demand.specs.InTurns.{PutsInTurns, PutsSo};
+ghost use Rattle.at_demand.specs.StateOf.{state_of};
+ghost use Rattle.at_demand.specs.Went.{TakesTurn};
 ghost use Rattle.at_evaluate.specs.Traces.{AreJustified};
 
 use super::Demand;
@@ -69,7 +71,7 @@ impl<K: Keeper> Demand<K> {
         requires justified { AreJustified rules.now (contents store.now) (K.memories self.old.keeper) }
         ensures { TracesNothing (HasTurnedOften rules.now store.now (K.memories self.old.keeper) (K.contents self.old.keeper)
             (K.contents self.new.keeper) self.old.work self.new.work limit question.old question.new result)
-            (K.memories self.old.keeper) (K.memories self.new.keeper) self.old.made self.new.made }
+            (state_of K.contents K.memories self.old) (state_of K.contents K.memories self.new) }
     {
         // Positions among the finds of one question say nothing of another one.
         self.sharing.clear();
@@ -101,9 +103,9 @@ impl<K: Keeper> Demand<K> {
         trials: &mut Trials<'a>,
     ) -> Result<Option<Answer>, AllocError>
         requires { CanTurnWith rules.now store.now (K.contents self.old.keeper) question.old trials.old }
-        ensures { PutsAndCounts (HasTurnedWith rules.now store.now (K.contents self.old.keeper) (K.contents self.new.keeper)
-            self.old.work self.new.work question.old question.new trials.new result) (K.contents self.old.keeper) (K.contents self.new.keeper)
-            (K.memories self.old.keeper) (K.memories self.new.keeper) self.old.made self.new.made }
+        ensures { TakesTurn (HasTurnedWith rules.now store.now (K.contents self.old.keeper) (K.contents self.new.keeper)
+            self.old.work self.new.work question.old question.new trials.new result)
+            (state_of K.contents K.memories self.old) (state_of K.contents K.memories self.new) }
     {
         let before = self.work;
         let made = self.made;

@@ -27,7 +27,7 @@ module _ {K : Type 0} (entries : K → Entries) (memories : K → Memories)
     err = on_err result _ refl;
     spares = λ spare. stays_spare entries e v spare result quiet;
     stays = record { rules = refl; settings = refl; sound = held; known = λ k. k };
-    went = went_same memories e e refl;
+    went = went_same entries memories _ e e refl;
   }
 
   pub refused_so : {E : Type 0} (r : Refusal) → Follows (rules_of e) (state_of e) v (form.Refused r) (state_of e) → Fulfils {E = E} entries memories e v (Ok (form.Refused r)) e
@@ -43,7 +43,7 @@ module _ {K : Type 0} (entries : K → Entries) (memories : K → Memories)
         err = refl;
         spares = λ spare. failed_spares entries e v spare;
         stays = record { rules = refl; settings = refl; sound = held; known = λ k. k };
-        went = went_same memories e e refl;
+        went = went_same entries memories _ e e refl;
       } in
       subst (λ (r : Result Form E). Fulfils entries memories e v r e) (sym is) all
 
@@ -55,7 +55,7 @@ quiet_so entries memories old new v result same_numbers same_tree same_demand st
   err = err;
   spares = λ was. quiet_spares entries old new same_numbers same_tree stays.rules same_demand result v quiet (spare was);
   stays = stays;
-  went = went_same memories old new same_demand;
+  went = went_same entries memories _ old new same_demand;
 }
 
 -- the verdict comes to another one

@@ -176,8 +176,9 @@ module _ {K : Type 0} (kept : K → Entries) (memories : K → Memories) (e : En
             → after ≡ before ++ reply_text reply
             → HasTried kept memories limit e n p others given (Some (wants, reply))
             → (KeepsWhole (rules_of e) wants → IsSpare kept e → IsSpare kept n)
+            → WentOn kept memories [] e m
             → HasGiven kept memories limit e n before after (record { turns = counted; told = Some wants })
-        spent_so given counted wants reply some counts turns appended tried spare = gives (record {
+        spent_so given counted wants reply some counts turns appended tried spare went = gives (record {
           first = p;
           others = others;
           least = least;
@@ -190,6 +191,7 @@ module _ {K : Type 0} (kept : K → Entries) (memories : K → Memories) (e : En
           named = refl;
           tried = tried;
           spare = spare;
+          went = went_along kept memories [] e m n demand_end went;
         })
 
         -- the last of them answers it
@@ -197,8 +199,9 @@ module _ {K : Type 0} (kept : K → Entries) (memories : K → Memories) (e : En
             → Came {E = AllocError} kept memories limit e m.demand p o (Ok (counted, Some f)) → (wants : Bool)
             → IsSaid (told_of p m.version (Ok f)) wants before after
             → (IsSpare kept e → IsSpare kept n)
+            → WentOn kept memories [] e m
             → HasGiven kept memories limit e n before after (record { turns = counted; told = Some wants })
-        gives_told counted f (given, counts, x, ends) wants said spare =
+        gives_told counted f (given, counts, x, ends) wants said spare went =
             let t = told_so wants before after f x said in
             let start = turns_given p.question in
             let some = some_given kept memories e m.demand p given x.form ends in
@@ -213,7 +216,7 @@ module _ {K : Type 0} (kept : K → Entries) (memories : K → Memories) (e : En
             (state_of n)) as_now turns) in
             spent_so given counted wants t.reply some (counts_same {B = Bool × Reply} limit given counted f
             (wants, t.reply) counts) all t.appended
-            (by given counted wants t.reply x.form t.is_form ends counts) (λ whole. spare)
+            (by given counted wants t.reply x.form t.is_form ends counts) (λ whole. spare) went
           where
             by : (given counted : ℕ) (wants : Bool) (reply : Reply) (g : FormOf) → (wants ≡ false → reply.form ≡ g)
                 → EndsSo kept memories e m.demand p given g
@@ -231,8 +234,9 @@ module _ {K : Type 0} (kept : K → Entries) (memories : K → Memories) (e : En
             → (wants : Bool)
             → IsSaid (told_of p m.version (Err e')) wants before after
             → (HasNoneCircular (rules_of e) → IsSpare kept e → IsSpare kept n)
+            → WentOn kept memories [] e m
             → HasGiven kept memories limit e n before after (record { turns = 1; told = Some wants })
-        gives_failed e' out some wants said spare = by wants (failed_so wants before after e' said)
+        gives_failed e' out some wants said spare went = by wants (failed_so wants before after e' said)
           where
             by : (wants : Bool) → (wants ≡ true) × TurnTold (rules_of e) (state_of e) (view p)
                 (state_of n) wants Memory before after
@@ -240,7 +244,7 @@ module _ {K : Type 0} (kept : K → Entries) (memories : K → Memories) (e : En
             by true (is, t) = spent_so 1 1 true t.reply (omega arith) (counts_refused {A = Bool × Reply} limit
                 (true, t.reply) some)
                 (telling (view p) (ap first_of viewed) t.turns (spent (state_of n))) t.appended
-                (subst (λ (d : Demand K). RunsOut kept memories limit e d p) (sym demand_end) out) spare
+                (subst (λ (d : Demand K). RunsOut kept memories limit e d p) (sym demand_end) out) spare went
             by false (is, t) = absurd cc
 
     -- it has no answer yet
@@ -248,8 +252,9 @@ module _ {K : Type 0} (kept : K → Entries) (memories : K → Memories) (e : En
         → (counted : ℕ) (before after : List ℕ) → after ≡ before
         → IfSome limit (λ n. 0 < n) → Came {E = AllocError} kept memories limit e m.demand p o (Ok (counted, None))
         → (IsSpare kept e → IsSpare kept m)
+        → WentOn kept memories [] e m
         → HasGiven kept memories limit e m before after (record { turns = counted; told = None })
-    gives_silent limit o opens counted before after same some (given, counts, still) spare =
+    gives_silent limit o opens counted before after same some (given, counts, still) spare went =
         let start = turns_given p.question in
         let count : turns_given o ≡ start + given = ap turns_given still.holds.1 ∙ still.holds.2.counted in
         let turns = silent_turns (rules_of e) (state_of e) (view p)
@@ -269,6 +274,7 @@ module _ {K : Type 0} (kept : K → Entries) (memories : K → Memories) (e : En
           named = refl;
           tried = (o, still, opens.items ∙ ap (λ (l : List Posted). slice_set l 0 (record p { question = o })) least);
           spare = λ whole. spare;
+          went = went;
         })
 
 -- no question is open, and nothing is done
@@ -402,12 +408,12 @@ first_gone kept memories limit e m r some a =
 -- what a call promises that gives turns
 pub called : {K T E : Type 0} (kept : K → Entries) (memories : K
     → Memories) (e m n : Engine K) (out next : Vec ℕ Global) (Done : T → Type 0) (t : T)
-    → WentOn memories e m → IsSound kept memories e → m ≡ record e { demand = m.demand; posts = m.posts }
+    → IsSound kept memories e → m ≡ record e { demand = m.demand; posts = m.posts }
     → n ≡ record m { posts = record n.posts { count = m.posts.count } }
     → IsHeld kept memories n → vec_capacity out ≤ vec_capacity next
     → Done t
     → Calls {E = E} kept memories e n out next Done (Ok t)
-called {K} kept memories e m n out next Done t went sound rest tells held room done = record {
+called {K} kept memories e m n out next Done t sound rest tells held room done = record {
   done = done;
   same = tt;
   full = tt;
@@ -420,5 +426,4 @@ called {K} kept memories e m n out next Done t went sound rest tells held room d
     typed = typed_end m n tells (typed_rest e m rest sound.typed);
     known = subst (Knows {K = K}) (sym tells) (subst (Knows {K = K}) (sym rest) sound.known);
   };
-  went = went_along memories e m n (ap (λ (x : Engine K). x.demand) tells) went;
 }

@@ -25,7 +25,6 @@ use Rattle.at_engine.specs.declared.engine.turning.Spent.{Spent}
 use Rattle.at_engine.specs.declared.stream.desk.Desk.{Desk}
 use Rattle.at_engine.specs.KeptOver.{NonePosts}
 use Rattle.at_engine.specs.declared.stream.desk.RunFault.{RunFault}
-use Rattle.at_engine.specs.Making.{WentOn}
 use Rattle.at_engine.specs.Stepping.{GoesBy, by_turns, nowhere}
 use Rattle.at_engine.specs.Keeping.{IsSpare, KeepsWhole}
 use Rattle.at_engine.specs.Turned.{HasGiven, gives, is_memory, listed, none_open}
@@ -190,9 +189,9 @@ module _ {K : Type 0} (kept : K
   given_spare (gives s) whole spare = s.spare whole spare
 
   -- so the engine has gone on
-  pub has_gone : WentOn memories old new → HasGiven kept memories limit old new before after it → GoesBy kept memories old new
-  has_gone went (none_open none same appended told) = subst (GoesBy kept memories old) (sym same) nowhere
-  has_gone went (gives s) = by_turns old new limit before after it nowhere s went
+  pub has_gone : HasGiven kept memories limit old new before after it → GoesBy kept memories old new
+  has_gone (none_open none same appended told) = subst (GoesBy kept memories old) (sym same) nowhere
+  has_gone (gives s) = by_turns old new limit before after it nowhere s
 
   pub no_more_open : HasGiven kept memories limit old new before after it
       → length (state_of new).posted ≤ length (state_of old).posted

@@ -65,7 +65,6 @@ impl<K: Keeper> Engine<K> {
 
     /// Gives up to so many turns to the open question with the least number, or, without a limit, as many as it needs, and
     /// appends the line with its answer, where it has one.
-    #[tactic(auto, using(crate::proofs::of_keeping::GoneOn::went_still))]
     pub(crate) fn give(
         &mut self,
         limit: Option<u64>,
@@ -103,7 +102,7 @@ impl<K: Keeper> Engine<K> {
         requires { CanTurn K.contents K.memories self.old position }
         ensures attends { Attends K.contents K.memories self.old self.new position
             (λ p. IsClosed K.contents K.memories self.old self.new p result) (KeepsGroups (rules_of self.old) result.form) }
-        ensures went { WentOn K.memories self.old self.new }
+        ensures went { WentOn K.contents K.memories [] self.old self.new }
     {
         let (_, form) = match self.go_on(position, None) {
             Ok(gone) => gone,
@@ -154,7 +153,7 @@ impl<K: Keeper> Engine<K> {
         requires { CanGoOn K.contents K.memories self.old position limit }
         ensures attends { Attends K.contents K.memories self.old self.new position
             (λ p. HasGone K.contents K.memories limit self.old self.new position p result) (KeepsGroups (rules_of self.old) result) }
-        ensures went { WentOn K.memories self.old self.new }
+        ensures went { WentOn K.contents K.memories [] self.old self.new }
     {
         let begun = self.posts.take(position);
         let mut question = match self.begin(position, begun)? {

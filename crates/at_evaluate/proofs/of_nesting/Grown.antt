@@ -30,7 +30,7 @@ use Rattle.at_evaluate.proofs.of_nesting.Ground.{demands_own}
 use Rattle.at_evaluate.proofs.of_nesting.Asked.{gains_evaluated, traced_evaluated}
 use Rattle.at_evaluate.proofs.of_nesting.InnerGains.{Found, counts_shared_so, gains_as, gains_more, gains_none, gains_put, gains_same, gains_then, gains_up, more_known, valued}
 use Rattle.at_evaluate.proofs.of_nesting.Remembered.{ground_by, known_on}
-use Rattle.at_evaluate.proofs.of_traces.Making.{makes_alike, makes_as, makes_from, makes_none, makes_then}
+use Rattle.at_evaluate.proofs.of_traces.Making.{makes_as, makes_from, makes_none, makes_settled, makes_then}
 use Rattle.at_evaluate.proofs.of_traces.Putting.{put_traced, stays_put, traced_on, traced_same, traced_then, traced_up}
 use Rattle.at_evaluate.proofs.of_traces.Settled.{LastKept, settled_demanded, settled_gains}
 
@@ -135,7 +135,7 @@ grown_settled rules s idle i old entries m n w is few last steps counted stay al
   demanded = settled_demanded rules s idle old.memories is.justified i n old.entries entries old.found steps
       is.known last;
   traces = traced_on rules s i old.memories m stay is.justified;
-  makes = makes_alike old.entries entries old.memories m old.made alike;
+  makes = makes_settled i n old.entries entries old.memories m old.made steps alike;
 }
 
 -- then all is right still

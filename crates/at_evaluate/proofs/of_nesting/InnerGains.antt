@@ -4,7 +4,7 @@ use Rattle.std.specs.Prelude.{Contains, IsSome}
 use Rattle.std.proofs.lemmas.List.Elements.{Contains-append_cases, Contains-push_cases}
 use Rattle.at_evaluate.specs.declared.direct.Level.{Level}
 use Rattle.at_body.specs.Same.{same_instance}
-use Rattle.at_evaluate.proofs.Sameness.{same_refl, same_true}
+use Rattle.at_evaluate.proofs.Sameness.{same_refl}
 use Rattle.at_model.specs.Run.{Value, Instance, Location, Contents, Known}
 use Rattle.std.proofs.lemmas.Option.{none-some}
 use Rattle.indexmap.specs.IndexMap.{insert_entry}
@@ -24,7 +24,7 @@ use Rattle.at_evaluate.specs.Right.{AreRight, IsThere, IsValued}
 use Rattle.at_evaluate.specs.Sparing.{AddsWorthy, AreSpare, Counts, HasWorthy, IsWorthy}
 use Rattle.at_evaluate.specs.Inner.{AreKnown, Gains, HasTold, IsEvaluated, IsGiven, is_inner, known_by}
 use Rattle.at_evaluate.proofs.Counting.{counts_more, counts_none, counts_shared}
-use Rattle.at_evaluate.proofs.Entered.{entered_on, is_there, not_none, put_stays}
+use Rattle.at_evaluate.proofs.Entered.{entered_on, is_there, not_none, put_stays, put_unvalued}
 use Rattle.at_evaluate.proofs.of_nesting.Ground.{comes_own}
 use Rattle.at_evaluate.proofs.of_nesting.InnerPuts.{IsFit, right_now, plain_now, covers_now, spare_now, worthy_now, all_now, stays_now}
 use Rattle.at_evaluate.proofs.of_nesting.Remembered.{ground_by, stands_by, found_known, known_more, remembered_is, still_remembered}
@@ -211,12 +211,7 @@ module _ (rules : Rules) (s : Shown) where
   pub counts_shared_so : (old new : Entries) (i : Instance ℕ) (ls : List (Location ℕ)) (us : List (Instance ℕ)) (w : ℕ)
       → w < 2 ^ 64 → old i ≡ None → Puts old i None ls us new → Counts old new w w
   counts_shared_so old new i ls us w few absent h = counts_shared old new w w refl few (λ j some. put_stays
-      old new i h.entry absent h.adds j some) (λ j. by j (same_instance i j) refl (h.adds j))
-    where
-      by : (j : Instance ℕ) (b : Bool) → same_instance i j ≡ b → new j ≡ (if b then Some h.entry else old j) →
-          kept_values new j ≡ kept_values old j
-      by j true is e = ap value_at e ∙ h.value ∙ sym (ap value_at (subst (λ x. old x ≡ None) (same_true i j is) absent))
-      by j false is e = ap value_at e
+      old new i h.entry absent h.adds j some) (λ j. put_unvalued old new i h.entry h.value absent h.adds j)
 
   -- a value is remembered
   pub gains_more : (i : Instance ℕ) (old new : Entries) (f g h : Found) (w x : ℕ) (c : ValueCode) →

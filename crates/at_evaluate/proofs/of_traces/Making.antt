@@ -1,37 +1,71 @@
 -- What was made, one part behind the other.
-use Rattle.std.proofs.Common.{◌≡◌, ◌≤◌, ◌+◌, ◌-◌, ◌^◌, ◌⊎◌, min, inl, inr, ℕ, Bool, true, false, List, [], ◌∷◌, ◌++◌, length, length-append, Option, None, Some, refl, sym, ap, ◌∙◌, subst, arith, true≢false}
+use Rattle.std.proofs.Common.{◌≡◌, ◌≤◌, ◌+◌, ◌-◌, ◌^◌, ◌⊎◌, min, inl, inr, ℕ, Bool, true, false, List, [], ◌∷◌, ◌++◌, length, length-append, Option, None, Some, refl, sym, ap, ◌∙◌, subst, arith, if◌then◌else◌, true≢false}
 use Rattle.std.specs.Prelude.{IsSome, nat_lt}
 use Rattle.std.proofs.lemmas.Bool.{ltb-false, ltb-true}
 use Rattle.std.proofs.lemmas.Option.{none-some}
 use Rattle.at_model.specs.Run.{Instance, Location, Value}
 use Rattle.at_model.specs.Meaning.{Among}
 use Rattle.at_body.specs.Same.{same_instance}
-use Rattle.at_cache.specs.Kept.{Entries, Kept, Puts}
-use Rattle.at_cache.specs.Traced.{AreAlike, IsOutdated, IsSpared, Memories, SparesOthers, Trace}
-use Rattle.at_evaluate.specs.Valued.{KeepsEntries}
-use Rattle.at_evaluate.specs.Made.{Makes}
+use Rattle.at_model.proofs.Listed.{among_left, among_right}
+use Rattle.at_cache.specs.Kept.{Entries, Kept, Puts, value_at}
+use Rattle.at_cache.specs.Traced.{AreAlike, IsOutdated, IsSpared, Memories, PutsTrace, Settled, SparesOthers, StayTraced, Trace, nothing, one_more as settles}
+use Rattle.at_cache.specs.declared.keeper.Order.{Order}
+use Rattle.at_evaluate.specs.Valued.{kept_values, KeepsEntries}
+use Rattle.at_evaluate.specs.Made.{HasTrace, Makes}
 use Rattle.at_evaluate.proofs.Counting.{among_parts, distinct_append}
-use Rattle.at_evaluate.proofs.Entered.{entered_on, not_none}
+use Rattle.at_evaluate.proofs.Entered.{entered_on, not_none, value_on}
 use Rattle.at_evaluate.proofs.Sameness.{same_refl, same_true}
 use Rattle.at_evaluate.proofs.of_nesting.InnerGains.{put_there}
 
 no_more : (n : ℕ) → n ≡ n + 0
 no_more n = omega arith
 
+-- no value came to be kept but such as could be kept again
+abbrev AreRetaken : Entries → Entries → Memories → Type 0
+AreRetaken e f m = (i : Instance ℕ) (v : Value ℕ) → kept_values e i ≡ None → kept_values f i ≡ Some v → HasTrace m i v
+
+-- so it is where no value came
+pub still_retaken : (e f : Entries) (m : Memories) → ((i : Instance ℕ) → kept_values f i ≡ kept_values e i) → AreRetaken e f m
+still_retaken e f m still i v none is = absurd (none-some v (sym (still i ∙ none) ∙ is))
+
+one_value : (o : Option (Value ℕ)) (v w : Value ℕ) → o ≡ Some w → o ≡ Some v → w ≡ v
+one_value o v w here later = cc
+
+-- what was settled could be
+settled_retaken : (m : Memories) (q : Instance ℕ) (c : ℕ) (e f : Entries) → Settled m q c e f → AreRetaken e f m
+settled_retaken m q _ e _ (nothing _) i v none is = still_retaken e e m (λ j. refl) i v none is
+settled_retaken m q _ e f (settles c _ mid _ j t before next traced absent all puts) i v none is =
+    by (same_instance j i) refl (puts.adds i) (settled_retaken m q c e mid before i v none)
+  where
+    by : (b : Bool) → same_instance j i ≡ b → f i ≡ (if b then Some puts.entry else mid i) → (kept_values mid i ≡ Some v → HasTrace m i v)
+        → HasTrace m i v
+    by true same at earlier = (
+      t,
+      subst (λ x. m.traced x ≡ Some t) (same_true j i same) traced,
+      one_value (kept_values f i) v t.value (ap value_at at ∙ puts.value) is,
+    )
+    by false off at earlier = earlier (sym (ap value_at at) ∙ is)
+
 -- nothing was made, and all can be kept again that could
-pub makes_alike : (e f : Entries) (m n : Memories) (k : ℕ) → AreAlike m n → Makes e f m n k k
-makes_alike e f m n k same = record {
+makes_alike : (e f : Entries) (m n : Memories) (k : ℕ) → AreRetaken e f m → AreAlike m n → Makes e f m n k k
+makes_alike e f m n k again same = record {
   made = [];
   came = λ i h. absurd h;
   once = tt;
   reason = λ i t h. absurd h;
   spares = λ i t h. inl (same.traced i ∙ h);
   last = λ u. inl (same.last u);
+  rest = λ i v none is. inr (again i v none is);
+  fresh = λ i t h. inl (sym (same.traced i) ∙ h);
   count = inl (no_more k);
 }
 
+-- values were kept again
+pub makes_settled : (q : Instance ℕ) (c : ℕ) (e f : Entries) (m n : Memories) (k : ℕ) → Settled m q c e f → AreAlike m n → Makes e f m n k k
+makes_settled q c e f m n k steps same = makes_alike e f m n k (settled_retaken m q c e f steps) same
+
 pub makes_none : (e : Entries) (m : Memories) (k : ℕ) → Makes e e m m k k
-makes_none e m k = makes_alike e e m m k (record { traced = λ i. refl; last = λ i. refl })
+makes_none e m k = makes_alike e e m m k (still_retaken e e m (λ i. refl)) (record { traced = λ i. refl; last = λ i. refl })
 
 -- the same where the number is
 pub makes_from : {e f : Entries} {m n : Memories} {j k l : ℕ} → k ≡ j → Makes e f m n k l → Makes e f m n j l
@@ -101,6 +135,39 @@ module _ (e f g : Entries) (m n o : Memories) (j k l : ℕ) (first : KeepsEntrie
       by (inl x) (inr y) = inr (was_none e f first u y.0 (e u) refl, y.1)
       by (inr x) y = inr (x.0, entered_on f g next u x.1)
 
+  fresh_then : (i : Instance ℕ) (t : Trace) → o.traced i ≡ Some t → (m.traced i ≡ Some t) ⊎ ((e i ≡ None) × IsSome (g i))
+  fresh_then i t h = by (b.fresh i t h)
+    where
+      first_fresh : (m.traced i ≡ Some t) ⊎ ((e i ≡ None) × IsSome (f i)) → (m.traced i ≡ Some t) ⊎ ((e i ≡ None) × IsSome (g i))
+      first_fresh (inl was) = inl was
+      first_fresh (inr x) = inr (x.0, entered_on f g next i x.1)
+
+      by : (n.traced i ≡ Some t) ⊎ ((f i ≡ None) × IsSome (g i)) → (m.traced i ≡ Some t) ⊎ ((e i ≡ None) × IsSome (g i))
+      by (inl still) = first_fresh (a.fresh i t still)
+      by (inr y) = inr (was_none e f first i y.0 (e i) refl, y.1)
+
+  -- an entry that has no value gets none
+  unvalued : (i : Instance ℕ) (v : Value ℕ) → kept_values f i ≡ None → kept_values g i ≡ Some v → IsSome (f i) → ⊥
+  unvalued i v none is some = none-some v (sym (ap value_at (next i some) ∙ none) ∙ is)
+
+  rest_then : (i : Instance ℕ) (v : Value ℕ) → kept_values e i ≡ None → kept_values g i ≡ Some v → Among i (a.made ++ b.made) ⊎ HasTrace m i v
+  rest_then i v none is = by (kept_values f i) refl
+    where
+      early_rest : (w : Value ℕ) → w ≡ v → Among i a.made ⊎ HasTrace m i w → Among i (a.made ++ b.made) ⊎ HasTrace m i v
+      early_rest w same (inl x) = inl (among_left i a.made b.made x)
+      early_rest w same (inr x) = inr (subst (λ z. HasTrace m i z) same x)
+
+      late_rest : kept_values f i ≡ None → Among i b.made ⊎ HasTrace n i v → Among i (a.made ++ b.made) ⊎ HasTrace m i v
+      late_rest at (inl y) = inl (among_right i a.made b.made y)
+      late_rest at (inr (t, there, same)) = elim (a.fresh i t there) [
+        | inl was ↦ inr (t, was, same)
+        | inr x ↦ absurd (unvalued i v at is x.1)
+      ]
+
+      by : (x : Option (Value ℕ)) → kept_values f i ≡ x → Among i (a.made ++ b.made) ⊎ HasTrace m i v
+      by None at = late_rest at (b.rest i v at is)
+      by (Some w) at = early_rest w (one_value (kept_values g i) v w (value_on f g next i w at) is) (a.rest i w none at)
+
   -- first one part, and then another one
   pub makes_then : Makes e g m o j l
   makes_then = record {
@@ -114,6 +181,8 @@ module _ (e f g : Entries) (m n o : Memories) (j k l : ℕ) (first : KeepsEntrie
     reason = reason_then;
     spares = spared_then;
     last = last_then;
+    rest = rest_then;
+    fresh = fresh_then;
     count = summed j k l (length a.made) (length b.made) (length (a.made ++ b.made)) (length-append a.made b.made) a.count b.count;
   }
 
@@ -145,29 +214,49 @@ module _ (e f : Entries) (m n : Memories) (i : Instance ℕ) (absent : e i ≡ N
       by (inl same) = inl same
       by (inr x) = inr (subst (λ z. e z ≡ None) x.0 absent, subst (λ z. IsSome (f z)) x.0 x.1)
 
-  -- it isn't made
-  pub makes_unmade : (k : ℕ) → Makes e f m n k k
-  makes_unmade k = record {
+  -- it isn't made, and has no value
+  pub makes_unmade : ((j : Instance ℕ) → kept_values f j ≡ kept_values e j) → StayTraced m n → (k : ℕ) → Makes e f m n k k
+  makes_unmade still stay k = record {
     made = [];
     came = λ j h. absurd h;
     once = tt;
     reason = λ j t h. absurd h;
     spares = spares_put;
     last = last_put;
+    rest = λ j v none is. inr (still_retaken e f m still j v none is);
+    fresh = λ j t h. let was = stay j t h in inl was.traced;
     count = inl (no_more k);
   }
 
-  makes_one : IsSome (f i) → (k l : ℕ) → (l ≡ k + 1) ⊎ (2 ^ 64 - 1 ≤ l) → Makes e f m n k l
-  makes_one some k l more = record {
+  -- it is, where it is there
+  pub makes_put : (v : Option (Value ℕ)) (ls : List (Location ℕ)) (us : List (Instance ℕ)) (x : Order) → Puts e i v ls us f
+      → PutsTrace i v ls us x m n → (k l : ℕ) → l ≡ min (k + 1) (2 ^ 64 - 1) → Makes e f m n k l
+  makes_put v ls us x puts traces k l more = record {
     made = i ∷ [];
     came = came_one;
     once = (λ h. h, tt);
     reason = reason_one;
     spares = spares_put;
     last = last_put;
-    count = more;
+    rest = λ j w none is. inl (made_one j w none is (same_instance i j) refl (puts.adds j));
+    fresh = fresh_one;
+    count = up_to k l (2 ^ 64 - 1) more;
   }
     where
+      some : IsSome (f i)
+      some = put_there e f i v ls us puts
+
+      made_one : (j : Instance ℕ) (w : Value ℕ) → kept_values e j ≡ None → kept_values f j ≡ Some w → (b : Bool) → same_instance i j ≡ b
+          → f j ≡ (if b then Some puts.entry else e j) → Among j (i ∷ [])
+      made_one j w none is true same at = inl (sym (same_true i j same))
+      made_one j w none is false off at = absurd (none-some w (sym (ap value_at at ∙ none) ∙ is))
+
+      fresh_one : (j : Instance ℕ) (t : Trace) → n.traced j ≡ Some t → (m.traced j ≡ Some t) ⊎ ((e j ≡ None) × IsSome (f j))
+      fresh_one j t h = elim (traces j t h) [
+        | inl was ↦ inl was.traced
+        | inr mine ↦ inr (subst (λ z. e z ≡ None) mine.0 absent, subst (λ z. IsSome (f z)) mine.0 some)
+      ]
+
       came_one : (j : Instance ℕ) → Among j (i ∷ []) → (e j ≡ None) × IsSome (f j)
       came_one j (inl is) = (subst (λ x. e x ≡ None) (sym is) absent, subst (λ x. IsSome (f x)) (sym is) some)
       came_one j (inr h) = absurd h
@@ -176,13 +265,8 @@ module _ (e f : Entries) (m n : Memories) (i : Instance ℕ) (absent : e i ≡ N
       reason_one j t (inl is) h = absurd (none-some t (sym none ∙ subst (λ x. m.traced x ≡ Some t) is h))
       reason_one j t (inr x) h = absurd x
 
-  -- it is, where it is there
-  pub makes_put : (o : Option (Value ℕ)) (ls : List (Location ℕ)) (us : List (Instance ℕ)) → Puts e i o ls us f
-      → (k l : ℕ) → l ≡ min (k + 1) (2 ^ 64 - 1) → Makes e f m n k l
-  makes_put o ls us h k l more = makes_one (put_there e f i o ls us h) k l (up_to k l (2 ^ 64 - 1) more)
-
 -- the same of an instance that is that one
-pub unmade : (e f : Entries) (m n : Memories) (i j : Instance ℕ) → j ≡ i → e i ≡ None → SparesOthers j f m n → m.traced
-    i ≡ None → (k : ℕ)
-    → Makes e f m n k k
-unmade e f m n i j is absent s none k = makes_unmade e f m n i absent (subst (λ x. SparesOthers x f m n) is s) none k
+pub unmade : (e f : Entries) (m n : Memories) (i j : Instance ℕ) → j ≡ i → e i ≡ None → SparesOthers j f m n → m.traced i ≡ None
+    → ((u : Instance ℕ) → kept_values f u ≡ kept_values e u) → StayTraced m n → (k : ℕ) → Makes e f m n k k
+unmade e f m n i j is absent s none still stay k =
+    makes_unmade e f m n i absent (subst (λ x. SparesOthers x f m n) is s) none still stay k

@@ -1,5 +1,5 @@
 -- What is settled for an instance is worthy of it, and stays right, spare and counted.
-use Rattle.std.proofs.Common.{◌≡◌, ℕ, suc, ◌+◌, ◌-◌, ◌^◌, ◌<◌, min, Bool, true, false, List, Some, None, inl, refl, sym, ap, ◌∙◌, subst, arith, if◌then◌else◌, true≢false}
+use Rattle.std.proofs.Common.{◌≡◌, ℕ, suc, ◌+◌, ◌-◌, ◌^◌, ◌<◌, min, Bool, true, false, List, [], ◌∷◌, Some, None, inl, refl, sym, ap, ◌∙◌, subst, arith, if◌then◌else◌, true≢false}
 use Rattle.std.specs.List.{list_any}
 use Rattle.at_model.specs.Run.{Value, Instance, Location}
 use Rattle.at_model.specs.Rules.{Rules}
@@ -15,7 +15,8 @@ use Rattle.at_evaluate.specs.Meant.{AreCircularWell, AreRightValues}
 use Rattle.at_evaluate.specs.Inner.{AreKnown, Gains, IsEvaluated, is_inner, known_by}
 use Rattle.at_evaluate.specs.Led.{AddsDemanded, DemandsOn, stays}
 use Rattle.at_evaluate.specs.Traces.{AreJustified}
-use Rattle.at_evaluate.proofs.Counting.{counts_put}
+use Rattle.at_evaluate.specs.Sparing.{Counts}
+use Rattle.at_evaluate.proofs.Counting.{counts_more, counts_none, counts_put, gains_one}
 use Rattle.at_evaluate.proofs.of_nesting.Demanding.{demanded_none, demanded_then, demands_lead, demands_then}
 use Rattle.at_evaluate.proofs.Entered.{not_none, there as is_some}
 use Rattle.at_evaluate.proofs.Tests.{any_among, any_one}
@@ -56,6 +57,17 @@ pub settled_none : (m : Memories) (q : Instance ℕ) (n : ℕ) (old new : Entrie
     Settled m q n old new → n ≡ 0 → new ≡ old
 settled_none m q _ old _ (nothing _) none = refl
 settled_none m q _ old new (one_more n _ mid _ i t before next is absent all p) none = absurd (no_more n none)
+
+-- the work counts what was settled
+pub settled_counts : (m : Memories) (q : Instance ℕ) (n : ℕ) (old new : Entries) (w x : ℕ) → Settled m q n old new → w < 2 ^ 64 →
+    x ≡ min (w + n) (2 ^ 64 - 1) → Counts old new w x
+settled_counts m q _ old _ w x (nothing _) few counted = subst (λ k. Counts old old w k) (sym same) (counts_none old w few)
+  where
+    same : x ≡ w
+    same = omega (arith, counted, few)
+settled_counts m q _ old new w x (one_more n _ mid _ i t before next is absent all p) few counted =
+    counts_more old mid new w (min (w + n) (2 ^ 64 - 1)) x (settled_counts m q n old mid w (min (w + n) (2 ^ 64 - 1)) before few refl)
+    (i ∷ [], gains_one mid new i p.entry t.value p.value absent p.adds, omega (arith, counted))
 
 -- of what is kept the value is the last one
 abbrev pub LastKept : Memories → Entries → Type 0

@@ -43,7 +43,7 @@ returns-in_err-write_whole-in-Some g c =
           (λ whole. given_spare g.K.Keeper.contents g.K.Keeper.memories c.args.limit _ _ _ _ c.in-Ok.spent call.done
           (given_whole rules c.in-Ok.spent.told c.in-Some.wants c.in-Some.is c.args.desk.now c.count_answer.new.self c.count_answer.ensures.memory whole))
           (omega (arith, c.count_answer.ensures.memory)) (rw p.1 c.in_err-write_whole-in-Some.ensures.failed) (rw p.1 tt)
-          (has_gone g.K.Keeper.contents g.K.Keeper.memories c.args.limit _ _ _ _ c.in-Ok.spent call.went call.done)
+          (has_gone g.K.Keeper.contents g.K.Keeper.memories c.args.limit _ _ _ _ c.in-Ok.spent call.done)
           (omega (arith, c.count_answer.ensures.rest.0, memory, counts_one rules a.given _ _ a.said a.turns));
     }
 
@@ -68,7 +68,7 @@ returns-in_ok-write_whole-in-Some g c =
           (λ whole. given_spare g.K.Keeper.contents g.K.Keeper.memories c.args.limit _ _ _ _ c.in-Ok.spent call.done
           (given_whole rules c.in-Ok.spent.told c.in-Some.wants c.in-Some.is c.args.desk.now c.count_answer.new.self c.count_answer.ensures.memory whole))
           (omega (arith, c.count_answer.ensures.memory)) c.in_ok-write_whole-in-Some.ensures.failed (c.in_ok-write_whole-in-Some.ensures.sent refl)
-          (has_gone g.K.Keeper.contents g.K.Keeper.memories c.args.limit _ _ _ _ c.in-Ok.spent call.went call.done)
+          (has_gone g.K.Keeper.contents g.K.Keeper.memories c.args.limit _ _ _ _ c.in-Ok.spent call.done)
           (omega (arith, c.count_answer.ensures.rest.0, memory, counts_one rules a.given _ _ a.said a.turns));
     }
 
@@ -82,7 +82,7 @@ returns-in-None g c =
       line = refl;
       goes = record {
         failed = no_call _;
-        by = has_gone g.K.Keeper.contents g.K.Keeper.memories c.args.limit _ _ _ _ c.in-Ok.spent call.went call.done;
+        by = has_gone g.K.Keeper.contents g.K.Keeper.memories c.args.limit _ _ _ _ c.in-Ok.spent call.done;
         sent = λ none. none;
         spare = λ whole. given_spare g.K.Keeper.contents g.K.Keeper.memories c.args.limit _ _ _ _ c.in-Ok.spent call.done
             (quiet_whole (rules_of c.args.engine.now) c.in-Ok.spent.told c.in-None.is);

@@ -43,7 +43,7 @@ returns-in_err-write_whole-in-Ok-clause-serves g c =
       goes = goes_wrote g.K.Keeper.contents g.K.Keeper.memories g.W.Output.failed unsaid _ _ c.args.desk.now _ _ _ 1 _ _ c.from_residual.result call
           (λ whole spare. call.done.spare (served_whole_so (rules_of old) c.in-Ok.wants c.args.desk.now c.count_answer.new.self memory whole) spare)
           (omega (arith, memory)) (rw p.1 c.in_err-write_whole-in-Ok.ensures.failed) (rw p.1 tt)
-          (by_line old c.serve.new.self _ _ _ c.in-Ok.wants nowhere call.done call.went)
+          (by_line old c.serve.new.self _ _ _ c.in-Ok.wants nowhere call.done)
           (omega (arith, counts_served (rules_of old) (state_of old) (state_of c.serve.new.self) c.args.desk.now.line.items (c.in-Ok.wants, s.0) c.args.desk.now c.count_answer.new.self serves (c.count_answer.ensures.rest.0 ∙ c.count_line.ensures.lines) (c.count_answer.ensures.memory ∙ ap (λ n. n + (if c.in-Ok.wants then 1 else 0)) c.count_line.ensures.rest.0)));
     }
 
@@ -72,7 +72,7 @@ returns-clause-serves g c =
           (goes_wrote g.K.Keeper.contents g.K.Keeper.memories g.W.Output.failed unsaid _ _ c.args.desk.now c.count_answer.new.self _ _ 1 _ _ (Ok (tt {0})) call
           (λ whole spare. call.done.spare (served_whole_so (rules_of old) c.in-Ok.wants c.args.desk.now c.count_answer.new.self memory whole) spare)
           (omega (arith, memory)) c.in_ok-write_whole-in-Ok.ensures.failed refl
-          (by_line old c.serve.new.self _ _ _ c.in-Ok.wants nowhere call.done call.went) (omega (arith, counted)))
+          (by_line old c.serve.new.self _ _ _ c.in-Ok.wants nowhere call.done) (omega (arith, counted)))
           refl refl (omega arith)
           (goes_unsaid g.K.Keeper.contents g.K.Keeper.memories g.W.Output.failed g.W.Output.waits _ _ _ _ _ _ 0 c.give_turns.result turns.goes);
     }

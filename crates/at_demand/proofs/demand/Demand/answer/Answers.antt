@@ -5,7 +5,8 @@ use Rattle.at_store.specs.Shown.{contents}
 use Rattle.at_demand.specs.Went.{begun}
 use Rattle.at_demand.proofs.InnerAnswered.{answered_by, answered_kept, met_none}
 use Rattle.at_evaluate.proofs.of_nesting.InnerGains.{gains_none, known_none}
-use Rattle.at_evaluate.proofs.of_traces.Making.{makes_none}
+use Rattle.at_demand.specs.StateOf.{state_of}
+use Rattle.at_demand.proofs.of_traces.TurnsPut.{asked_none}
 use Rattle.at_demand.proofs.demand.Demand.answer.Goals as goal
 
 pub returns-in-Some : goal.returns-in-Some
@@ -17,8 +18,7 @@ returns-in-Some g c = record {
       c.requires.answerable.plain
       (sym c.in-Some.ensures ∙ ap (λ (v : Value ℕ). Some v) (sym c.in_ok-copy.ensures));
   traces = record { justified = c.requires.justified; there = λ there all. all };
-  makes = λ plain. makes_none (g.K.Keeper.contents c.args.self.now.keeper) (g.K.Keeper.memories c.args.self.now.keeper)
-      c.args.self.now.made;
+  makes = λ plain. asked_none (state_of g.K.Keeper.contents g.K.Keeper.memories c.args.self.now) c.args.self.now.few;
   went = begun;
 }
 
@@ -34,7 +34,6 @@ returns-in_err-copy g c = record {
       (known_none rules (contents s) entries c.requires.answerable.basis.circular c.requires.answerable.right c.requires.answerable.plain))
       (rw is tt) (λ spare. rw is tt) (λ spare. met_none rules (contents s) c.args.inst.now entries);
   traces = record { justified = c.requires.justified; there = λ there all. all };
-  makes = λ plain. makes_none (g.K.Keeper.contents c.args.self.now.keeper) (g.K.Keeper.memories c.args.self.now.keeper)
-      c.args.self.now.made;
+  makes = λ plain. asked_none (state_of g.K.Keeper.contents g.K.Keeper.memories c.args.self.now) c.args.self.now.few;
   went = begun;
 }

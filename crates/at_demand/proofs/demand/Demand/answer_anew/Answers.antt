@@ -11,6 +11,7 @@ use Rattle.at_demand.proofs.Standing.{sound_more}
 use Rattle.at_demand.proofs.InnerAnswered.{answered_after, answered_by}
 use Rattle.at_evaluate.proofs.of_nesting.InnerGains.{known_none}
 use Rattle.at_demand.proofs.of_steps.Reasoned.{led_met}
+use Rattle.at_demand.specs.StateOf.{state_of}
 use Rattle.at_demand.proofs.of_traces.TurnsPut.{went_made, went_then}
 use Rattle.at_evaluate.proofs.of_traces.Putting.{traced_then}
 use Rattle.at_demand.proofs.demand.Demand.answer_anew.Goals as goal
@@ -31,10 +32,11 @@ returns-in-Some g c = record {
       (g.K.Keeper.contents c.args.self.now.keeper) new spare c.requires.answerable.right
       c.answer_at_once.ensures.gains.known.right c.answer_at_once.ensures.gains.worthy c.answer_at_once.ensures.led);
   traces = c.answer_at_once.ensures.traces;
-  makes = λ plain. c.answer_at_once.ensures.makes;
-  went = went_made (g.K.Keeper.contents c.args.self.now.keeper) (g.K.Keeper.contents c.answer_at_once.new.self.keeper)
-      (g.K.Keeper.memories c.args.self.now.keeper) (g.K.Keeper.memories c.answer_at_once.new.self.keeper) c.args.self.now.made
-      c.answer_at_once.new.self.made c.answer_at_once.ensures.makes;
+  makes = λ plain. record { makes = c.answer_at_once.ensures.makes; counts = c.answer_at_once.ensures.gains.counts };
+  went =
+      let state = state_of g.K.Keeper.contents g.K.Keeper.memories in
+      went_made (state c.args.self.now) (state c.answer_at_once.new.self)
+      (record { makes = c.answer_at_once.ensures.makes; counts = c.answer_at_once.ensures.gains.counts });
 }
 
 pub returns-in-None : goal.returns-in-None
@@ -54,12 +56,12 @@ returns-in-None g c = record {
   traces = traced_then c.args.rules.now c.args.store.now c.args.inst.now (g.K.Keeper.memories c.args.self.now.keeper) (g.K.Keeper.memories c.answer_at_once.new.self.keeper)
       (g.K.Keeper.memories c.answer_looking_ahead-told.new.self.keeper) c.answer_at_once.ensures.traces c.answer_looking_ahead-told.ensures.traces;
   makes = λ plain. absurd (true≢false plain);
-  went = went_then (g.K.Keeper.memories c.args.self.now.keeper) (g.K.Keeper.memories c.answer_at_once.new.self.keeper)
-      (g.K.Keeper.memories c.answer_looking_ahead-told.new.self.keeper) c.args.self.now.made c.answer_at_once.new.self.made
-      c.answer_looking_ahead-told.new.self.made (went_made (g.K.Keeper.contents c.args.self.now.keeper)
-      (g.K.Keeper.contents c.answer_at_once.new.self.keeper) (g.K.Keeper.memories c.args.self.now.keeper)
-      (g.K.Keeper.memories c.answer_at_once.new.self.keeper) c.args.self.now.made c.answer_at_once.new.self.made c.answer_at_once.ensures.makes)
-      (c.answer_looking_ahead-told.ensures.went);
+  went =
+      let state = state_of g.K.Keeper.contents g.K.Keeper.memories in
+      went_then (state c.args.self.now) (state c.answer_at_once.new.self) (state c.answer_looking_ahead-told.new.self)
+      (went_made (state c.args.self.now) (state c.answer_at_once.new.self)
+      (record { makes = c.answer_at_once.ensures.makes; counts = c.answer_at_once.ensures.gains.counts }))
+      c.answer_looking_ahead-told.ensures.went;
 }
 
 pub answer_at_once-requires-clause-idle : goal.answer_at_once-requires-clause-idle
@@ -100,8 +102,9 @@ returns-in_err-at_once g c = record {
       (g.K.Keeper.contents c.args.self.now.keeper) new spare c.requires.answerable.right
       c.answer_at_once.ensures.gains.known.right c.answer_at_once.ensures.gains.worthy c.answer_at_once.ensures.led);
   traces = c.answer_at_once.ensures.traces;
-  makes = λ plain. c.answer_at_once.ensures.makes;
-  went = went_made (g.K.Keeper.contents c.args.self.now.keeper) (g.K.Keeper.contents c.answer_at_once.new.self.keeper)
-      (g.K.Keeper.memories c.args.self.now.keeper) (g.K.Keeper.memories c.answer_at_once.new.self.keeper) c.args.self.now.made
-      c.answer_at_once.new.self.made c.answer_at_once.ensures.makes;
+  makes = λ plain. record { makes = c.answer_at_once.ensures.makes; counts = c.answer_at_once.ensures.gains.counts };
+  went =
+      let state = state_of g.K.Keeper.contents g.K.Keeper.memories in
+      went_made (state c.args.self.now) (state c.answer_at_once.new.self)
+      (record { makes = c.answer_at_once.ensures.makes; counts = c.answer_at_once.ensures.gains.counts });
 }

@@ -16,7 +16,8 @@ use Rattle.at_demand.specs.Went.{begun}
 use Rattle.at_demand.proofs.Fitting.{fit_grown, none_fit, none_noted}
 use Rattle.at_demand.proofs.InnerAnswered.{answered_by, met_none}
 use Rattle.at_evaluate.proofs.of_nesting.InnerGains.{gains_none, known_none}
-use Rattle.at_demand.proofs.of_steps.Ahead.{broken_ahead, posted_asked, so_answered, so_broken, so_ended, so_turned, sound_ahead, stands_ahead, state_of}
+use Rattle.at_demand.proofs.of_steps.Ahead.{broken_ahead, posted_asked, so_answered, so_broken, so_ended, so_turned, sound_ahead, stands_ahead}
+use Rattle.at_demand.specs.StateOf.{state_of}
 use Rattle.at_demand.proofs.of_steps.Reasoned.{begun_reasoned}
 use Rattle.at_demand.proofs.of_levels.Resolving.{keeps_groups}
 use Rattle.at_evaluate.proofs.of_traces.Putting.{traced_same}
@@ -100,7 +101,7 @@ loop-given-preserved g c =
     c.in_ok-told.ensures.turned in
     record {
       so = so_turned rules s i can (state c.args.self.now) (state l.self) l.question l.invariant.so (state mid) c.look_ahead.ensures
-          (state new.self) c.turn_with.ensures.traces c.turn_with.ensures.counts new.question new.trials e;
+          (state new.self) c.turn_with.ensures.step new.question new.trials e;
       fit = e.fit;
     }
 
@@ -118,7 +119,7 @@ returns-in-Some g c =
     (g.K.Keeper.contents new.self.keeper) mid.work new.self.work l.question new.question new.trials (Ok o)) c.in-Some.is
     c.in_ok-told.ensures.turned in
     so_answered rules s i can (state c.args.self.now) (state l.self) l.question l.invariant.so (state mid) c.look_ahead.ensures
-    (state new.self) c.turn_with.ensures.traces c.turn_with.ensures.counts new.question new.trials c.in-Some.answer e
+    (state new.self) c.turn_with.ensures.step new.question new.trials c.in-Some.answer e
 
 pub returns-in_err-told : goal.returns-in_err-told
 returns-in_err-told g c =
@@ -132,7 +133,7 @@ returns-in_err-told g c =
     let new = c.turn_with.new in
     let is = (err_from_is_err_and c.from_residual-in_err-told.result c.from_residual-in_err-told.ensures.1).1 in
     so_broken rules s i can (state c.args.self.now) (state l.self) l.question l.invariant.so (state mid) c.look_ahead.ensures
-    (state new.self) c.turn_with.ensures.traces c.turn_with.ensures.counts _ _ is
+    (state new.self) c.turn_with.ensures.step _ _ is
     (keeps_groups rules c.turn_with.result) c.turn_with.ensures.turned.gains
 
 pub returns-in_err-next : goal.returns-in_err-next

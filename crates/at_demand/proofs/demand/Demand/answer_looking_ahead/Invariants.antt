@@ -1,6 +1,7 @@
 use Rattle.std.proofs.Common.{◌-◌, ◌^◌}
 use Rattle.at_demand.specs.KeptTrials.{Fit}
-use Rattle.at_demand.proofs.of_steps.Ahead.{StandsAhead, state_of}
+use Rattle.at_demand.proofs.of_steps.Ahead.{StandsAhead}
+use Rattle.at_demand.specs.StateOf.{state_of}
 use Rattle.at_demand.proofs.demand.Demand.answer_looking_ahead.Given as goal
 
 abbrev pub invariant-loop-given : goal.invariant-loop-given

@@ -3,6 +3,7 @@ use Rattle.std.proofs.lemmas.Result.{err_from_is_err_and}
 use Rattle.std.specs.declared.alloc.AllocError.{AllocError}
 use Rattle.at_demand.specs.declared.answer.Answer.{Answer as AnswerCode}
 use Rattle.at_demand.specs.Answered.{HasTurnedWith}
+use Rattle.at_demand.specs.StateOf.{state_of}
 use Rattle.at_demand.specs.Went.{begun}
 use Rattle.at_store.specs.Shown.{contents}
 use Rattle.at_demand.proofs.Fitting.{fit_grown, none_fit, none_noted}
@@ -51,12 +52,12 @@ loop-given-preserved g c =
           (g.K.Keeper.memories c.turn_with.new.self.keeper) c.loop-given.invariant.traces
           (stay_then (g.K.Keeper.memories c.loop-given.self.keeper) (g.K.Keeper.memories c.keep_again_in_turns.new.self.keeper)
           (g.K.Keeper.memories c.turn_with.new.self.keeper) c.keep_again_in_turns.ensures.kept.stay
-          (puts_stay (g.K.Keeper.memories c.keep_again_in_turns.new.self.keeper) (g.K.Keeper.memories c.turn_with.new.self.keeper) c.turn_with.ensures.traces));
-      went = went_on (g.K.Keeper.contents c.keep_again_in_turns.new.self.keeper) (g.K.Keeper.contents c.turn_with.new.self.keeper)
-          (g.K.Keeper.memories c.args.self.now.keeper) (g.K.Keeper.memories c.loop-given.self.keeper)
-          (g.K.Keeper.memories c.keep_again_in_turns.new.self.keeper) (g.K.Keeper.memories c.turn_with.new.self.keeper) c.args.self.now.made
-          c.loop-given.self.made c.keep_again_in_turns.new.self.made c.turn_with.new.self.made c.loop-given.invariant.went
-          c.keep_again_in_turns.ensures.made c.keep_again_in_turns.ensures.kept.alike c.turn_with.ensures.traces c.turn_with.ensures.counts;
+          (puts_stay (g.K.Keeper.memories c.keep_again_in_turns.new.self.keeper) (g.K.Keeper.memories c.turn_with.new.self.keeper) c.turn_with.ensures.step.puts));
+      went =
+          let state = state_of g.K.Keeper.contents g.K.Keeper.memories in
+          went_on (state c.args.self.now) (state c.loop-given.self) (state c.keep_again_in_turns.new.self) (state c.turn_with.new.self)
+          c.loop-given.question.inst c.loop-given.invariant.went c.loop-given.self.few c.keep_again_in_turns.ensures.kept
+          c.keep_again_in_turns.ensures.made c.turn_with.ensures.step;
     }
 
 pub returns-in_err-told : goal.returns-in_err-told
@@ -80,12 +81,12 @@ returns-in_err-told g c =
           (g.K.Keeper.memories c.turn_with.new.self.keeper) c.loop-given.invariant.traces
           (stay_then (g.K.Keeper.memories c.loop-given.self.keeper) (g.K.Keeper.memories c.keep_again_in_turns.new.self.keeper)
           (g.K.Keeper.memories c.turn_with.new.self.keeper) c.keep_again_in_turns.ensures.kept.stay
-          (puts_stay (g.K.Keeper.memories c.keep_again_in_turns.new.self.keeper) (g.K.Keeper.memories c.turn_with.new.self.keeper) c.turn_with.ensures.traces));
-      went = went_on (g.K.Keeper.contents c.keep_again_in_turns.new.self.keeper) (g.K.Keeper.contents c.turn_with.new.self.keeper)
-          (g.K.Keeper.memories c.args.self.now.keeper) (g.K.Keeper.memories c.loop-given.self.keeper)
-          (g.K.Keeper.memories c.keep_again_in_turns.new.self.keeper) (g.K.Keeper.memories c.turn_with.new.self.keeper) c.args.self.now.made
-          c.loop-given.self.made c.keep_again_in_turns.new.self.made c.turn_with.new.self.made c.loop-given.invariant.went
-          c.keep_again_in_turns.ensures.made c.keep_again_in_turns.ensures.kept.alike c.turn_with.ensures.traces c.turn_with.ensures.counts;
+          (puts_stay (g.K.Keeper.memories c.keep_again_in_turns.new.self.keeper) (g.K.Keeper.memories c.turn_with.new.self.keeper) c.turn_with.ensures.step.puts));
+      went =
+          let state = state_of g.K.Keeper.contents g.K.Keeper.memories in
+          went_on (state c.args.self.now) (state c.loop-given.self) (state c.keep_again_in_turns.new.self) (state c.turn_with.new.self)
+          c.loop-given.question.inst c.loop-given.invariant.went c.loop-given.self.few c.keep_again_in_turns.ensures.kept
+          c.keep_again_in_turns.ensures.made c.turn_with.ensures.step;
     }
 
 pub returns-in-Some : goal.returns-in-Some
@@ -112,12 +113,12 @@ returns-in-Some g c =
           (g.K.Keeper.memories c.turn_with.new.self.keeper) c.loop-given.invariant.traces
           (stay_then (g.K.Keeper.memories c.loop-given.self.keeper) (g.K.Keeper.memories c.keep_again_in_turns.new.self.keeper)
           (g.K.Keeper.memories c.turn_with.new.self.keeper) c.keep_again_in_turns.ensures.kept.stay
-          (puts_stay (g.K.Keeper.memories c.keep_again_in_turns.new.self.keeper) (g.K.Keeper.memories c.turn_with.new.self.keeper) c.turn_with.ensures.traces));
-      went = went_on (g.K.Keeper.contents c.keep_again_in_turns.new.self.keeper) (g.K.Keeper.contents c.turn_with.new.self.keeper)
-          (g.K.Keeper.memories c.args.self.now.keeper) (g.K.Keeper.memories c.loop-given.self.keeper)
-          (g.K.Keeper.memories c.keep_again_in_turns.new.self.keeper) (g.K.Keeper.memories c.turn_with.new.self.keeper) c.args.self.now.made
-          c.loop-given.self.made c.keep_again_in_turns.new.self.made c.turn_with.new.self.made c.loop-given.invariant.went
-          c.keep_again_in_turns.ensures.made c.keep_again_in_turns.ensures.kept.alike c.turn_with.ensures.traces c.turn_with.ensures.counts;
+          (puts_stay (g.K.Keeper.memories c.keep_again_in_turns.new.self.keeper) (g.K.Keeper.memories c.turn_with.new.self.keeper) c.turn_with.ensures.step.puts));
+      went =
+          let state = state_of g.K.Keeper.contents g.K.Keeper.memories in
+          went_on (state c.args.self.now) (state c.loop-given.self) (state c.keep_again_in_turns.new.self) (state c.turn_with.new.self)
+          c.loop-given.question.inst c.loop-given.invariant.went c.loop-given.self.few c.keep_again_in_turns.ensures.kept
+          c.keep_again_in_turns.ensures.made c.turn_with.ensures.step;
     }
 
 pub returns-then-is_none : goal.returns-then-is_none

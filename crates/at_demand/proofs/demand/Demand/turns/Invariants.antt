@@ -1,6 +1,7 @@
-use Rattle.std.proofs.Common.{◌≤◌, ◌-◌}
+use Rattle.std.proofs.Common.{◌≤◌, ◌-◌, []}
 use Rattle.at_cache.specs.Traced.{StayTraced}
 use Rattle.at_demand.specs.KeptTrials.{Fit}
+use Rattle.at_demand.specs.StateOf.{state_of}
 use Rattle.at_demand.specs.Went.{Went}
 use Rattle.at_demand.proofs.of_steps.Given.{HasGivenSo}
 use Rattle.at_demand.proofs.demand.Demand.turns.Given as goal
@@ -12,7 +13,7 @@ invariant-loop-given g l = record {
   fit : Fit l.rules l.store (g.K.Keeper.contents l.self.keeper) l.question l.trials;
   within : l.given ≤ l.most;
   traces : StayTraced (g.K.Keeper.memories l.initial.self.keeper) (g.K.Keeper.memories l.self.keeper);
-  went : Went (g.K.Keeper.memories l.initial.self.keeper) l.initial.self.made (g.K.Keeper.memories l.self.keeper) l.self.made;
+  went : Went (state_of g.K.Keeper.contents g.K.Keeper.memories l.initial.self) [] (state_of g.K.Keeper.contents g.K.Keeper.memories l.self);
 }
 
 abbrev pub decreases-loop-given : goal.decreases-loop-given

@@ -6,6 +6,7 @@ use Rattle.at_demand.proofs.of_keeping.CalledLemmas.{keeps_asked}
 use Rattle.at_demand.proofs.of_levels.Resolving.{keeps_groups}
 use Rattle.at_engine.specs.Engines.{marks_of, rules_of, state_of}
 use Rattle.at_engine.proofs.of_keeping.Gained.{grows_asked}
+use Rattle.at_engine.proofs.of_keeping.GoneOn.{went_quiet}
 use Rattle.at_engine.proofs.of_keeping.KeepingLemmas.{asked_spares, err_spares}
 use Rattle.at_engine.proofs.of_keeping.KeptTyped.{basis_held, sound_typed, typed_more}
 use Rattle.at_engine.proofs.FollowingLemmas.{asks}
@@ -45,7 +46,7 @@ returns g c q like =
             (typed_more (rules_of e) e.store basis c.args.inst.now c.requires.well_typed before after told.worthy held.typed)
             (record { justified = c.answer.ensures.traces.justified; there = c.answer.ensures.traces.there c.requires.there held.remembered.there });
       };
-      went = c.answer.ensures.went;
+      went = went_quiet g.K.Keeper.contents g.K.Keeper.memories _ e new c.answer.ensures.went;
     }
 
 pub returns-in_err-answer : goal.returns-in_err-answer
@@ -79,7 +80,7 @@ returns-in_err-answer g c q like =
             (typed_more (rules_of e) e.store basis c.args.inst.now c.requires.well_typed before after a.worthy held.typed)
             (record { justified = c.answer.ensures.traces.justified; there = c.answer.ensures.traces.there c.requires.there held.remembered.there });
       };
-      went = c.answer.ensures.went;
+      went = went_quiet g.K.Keeper.contents g.K.Keeper.memories _ e new c.answer.ensures.went;
     }
 
 pub told-requires : goal.told-requires

@@ -9,14 +9,13 @@ use Rattle.at_engine.specs.Engines.{rules_of}
 use Rattle.at_engine.specs.Keeping.{IsSpare}
 use Rattle.at_engine.specs.Telling.{IsSaid}
 use Rattle.at_engine.specs.Turning.{Came, told_of}
-use Rattle.at_engine.proofs.of_keeping.GoneOn.{went_same}
 use Rattle.at_engine.proofs.of_turns.Finishing.{called, first_gone, gives_failed, gives_nothing, gives_silent, gives_told}
 use Rattle.at_engine.proofs.engine.Engine.give.Goals as goal
 
 pub returns-then-is_empty : goal.returns-then-is_empty
 returns-then-is_empty g c =
     let e = c.args.self.now in
-    called g.K.Keeper.contents g.K.Keeper.memories e e e c.args.out.now c.reserve.new.self _ _ (went_same g.K.Keeper.memories e e refl) c.requires.sound refl refl
+    called g.K.Keeper.contents g.K.Keeper.memories e e e c.args.out.now c.reserve.new.self _ _ c.requires.sound refl refl
     c.requires.sound.held c.reserve.ensures.capacity
     (gives_nothing g.K.Keeper.contents g.K.Keeper.memories c.args.limit e c.args.out.now.items c.reserve.new.self.items c.if-is_empty.ensures c.reserve.ensures.items)
 
@@ -42,9 +41,9 @@ returns-in-Err g c =
     (arith, c.reserve.ensures.capacity, c.tell.ensures.room) in
     let kept : HasNoneCircular (rules_of e) → IsSpare k e → IsSpare k n =
     λ none spare. off.spare (c.go_on.ensures.attends.spare (keeps_groups (rules_of e) c.go_on.result none) spare) in
-    called k g.K.Keeper.memories e m n c.args.out.now c.tell.new.out _ _ c.go_on.ensures.went c.requires.sound c.go_on.ensures.attends.rest off.rest off.sound room
+    called k g.K.Keeper.memories e m n c.args.out.now c.tell.new.out _ _ c.requires.sound c.go_on.ensures.attends.rest off.rest off.sound room
     (gives_failed k g.K.Keeper.memories e c.requires.sound.held f.p f.others f.least m c.go_on.ensures.attends.rest n off.rest off.items f.now f.reopens c.args.limit c.args.out.now.items c.tell.new.out.items c.in-Err.error came c.requires.some
-    c.tell.result said kept)
+    c.tell.result said kept c.go_on.ensures.went)
 
 pub tell-requires-clause-there : goal.tell-requires-clause-there
 tell-requires-clause-there g c =
@@ -63,11 +62,11 @@ returns-in-None g c =
     let came = subst (λ (o : Option Form). Came {E = AllocError} k g.K.Keeper.memories c.args.limit e m.demand f.p f.now (Ok
     (c.in-Ok.gone.0, o))) c.in-None.is
     (subst (λ (r : Result (ℕ × Option Form) AllocError). Came k g.K.Keeper.memories c.args.limit e m.demand f.p f.now r) c.in-Ok.is f.came) in
-    called k g.K.Keeper.memories e m m c.args.out.now c.reserve.new.self _ _ c.go_on.ensures.went c.requires.sound c.go_on.ensures.attends.rest refl
+    called k g.K.Keeper.memories e m m c.args.out.now c.reserve.new.self _ _ c.requires.sound c.go_on.ensures.attends.rest refl
     c.go_on.ensures.attends.sound c.reserve.ensures.capacity
     (gives_silent k g.K.Keeper.memories e c.requires.sound.held f.p f.others f.least m c.go_on.ensures.attends.rest c.args.limit f.now f.reopens c.in-Ok.gone.0 c.args.out.now.items c.reserve.new.self.items c.reserve.ensures.items c.requires.some came
     (λ spare. c.go_on.ensures.attends.spare (subst (λ (r : Result (ℕ × Option Form) AllocError). KeepsGroups (rules_of e) r) (sym c.in-Ok.is) tt)
-    spare))
+    spare) c.go_on.ensures.went)
 
 pub returns-in-Some : goal.returns-in-Some
 returns-in-Some g c =
@@ -87,9 +86,9 @@ returns-in-Some g c =
     (arith, c.reserve.ensures.capacity, c.tell-in-Some.ensures.room) in
     let kept : IsSpare k e → IsSpare k n = λ spare. off.spare
     (c.go_on.ensures.attends.spare (subst (λ (r : Result (ℕ × Option Form) AllocError). KeepsGroups (rules_of e) r) (sym c.in-Ok.is) tt) spare) in
-    called k g.K.Keeper.memories e m n c.args.out.now c.tell-in-Some.new.out _ _ c.go_on.ensures.went c.requires.sound c.go_on.ensures.attends.rest off.rest off.sound room
+    called k g.K.Keeper.memories e m n c.args.out.now c.tell-in-Some.new.out _ _ c.requires.sound c.go_on.ensures.attends.rest off.rest off.sound room
     (gives_told k g.K.Keeper.memories e c.requires.sound.held f.p f.others f.least m c.go_on.ensures.attends.rest n off.rest off.items f.now f.reopens c.args.limit c.args.out.now.items c.tell-in-Some.new.out.items c.in-Ok.gone.0 c.in-Some.form came
-    c.tell-in-Some.result said kept)
+    c.tell-in-Some.result said kept c.go_on.ensures.went)
 
 pub tell-requires-in-Some-clause-there : goal.tell-requires-in-Some-clause-there
 tell-requires-in-Some-clause-there g c =

@@ -1,7 +1,6 @@
 use Rattle.std.proofs.Common.{◌≡◌, ◌<◌, length, arith, refl}
 use Rattle.std.proofs.lemmas.Bool.Decides.{nat_tests}
 use Rattle.at_engine.proofs.Attempting.{taken, taken_nowhere}
-use Rattle.at_engine.proofs.of_keeping.GoneOn.{went_same}
 use Rattle.at_engine.proofs.engine.Engine.line.Goals as goal
 
 pub returns-then-is_empty : goal.returns-then-is_empty
@@ -20,7 +19,6 @@ returns-then-is_empty g c =
       rules = refl;
       settings = refl;
       sound = c.requires.sound;
-      went = went_same g.K.Keeper.memories e e refl;
     }
 
 pub returns : goal.returns
@@ -41,5 +39,4 @@ returns g c =
       rules = s.rules;
       settings = s.settings;
       sound = s.sound;
-      went = s.went;
     }

@@ -6,7 +6,6 @@ use Rattle.at_model.specs.Machine.{obeyed, verdict}
 use Rattle.at_protocol.specs.LineView.{command_view, line_with}
 use Rattle.at_protocol.specs.declared.reply.Form.{Form}
 use Rattle.at_protocol.specs.declared.reply.Form.TheVariants as form
-use Rattle.at_demand.specs.Went.{begun}
 use Rattle.at_engine.specs.Engines.{rules_of, state_of, Knows}
 use Rattle.at_engine.specs.Keeping.{SparesVerdict}
 use Rattle.at_engine.specs.Following.{IsAtOnce}
@@ -14,6 +13,7 @@ use Rattle.at_engine.specs.Hearing.{by_turns}
 use Rattle.at_engine.specs.declared.engine.Engine.{Engine}
 use Rattle.at_engine.proofs.Attempting.{heard_at_once}
 use Rattle.at_engine.proofs.FollowingLemmas.{as_verdict, told_at_once}
+use Rattle.at_engine.proofs.of_keeping.GoneOn.{went_as, went_quiet, went_same}
 use Rattle.at_engine.proofs.of_keeping.KeepingLemmas.{at_once_spares, refused_spares, turned_spares, waited_spares}
 use Rattle.at_engine.proofs.engine.Engine.obey.Goals as goal
 
@@ -79,13 +79,16 @@ returns-in-None-clause-spares g c spare =
     subst (λ (x : Result Form AllocError). SparesVerdict k v x e c.command.new.self) (sym c.at_once-in-None.ensures.form) all
 
 pub returns-in-Some-clause-went : goal.returns-in-Some-clause-went
-returns-in-Some-clause-went g c = begun
+returns-in-Some-clause-went g c = went_same g.K.Keeper.contents g.K.Keeper.memories _ c.args.self.now c.args.self.now refl
 
 pub returns-in-Some-awaited-clause-went : goal.returns-in-Some-awaited-clause-went
-returns-in-Some-awaited-clause-went g c = c.wait.ensures.went
+returns-in-Some-awaited-clause-went g c = went_quiet g.K.Keeper.contents g.K.Keeper.memories _ c.args.self.now c.wait.new.self c.wait.ensures.went
 
 pub returns-in-None-clause-went : goal.returns-in-None-clause-went
-returns-in-None-clause-went g c = c.command.ensures.went
+returns-in-None-clause-went g c =
+    let same = c.in_default.ensures (line_with c.args.session c.args.expected (command_view c.args.command.now)) refl
+    (sym c.has_used-is_marked.ensures) in
+    went_as g.K.Keeper.contents g.K.Keeper.memories _ _ c.args.self.now c.command.new.self (λ w is. same ∙ is) c.command.ensures.went
 
 pub returns-in-Some-awaited-clause-stays : goal.returns-in-Some-awaited-clause-stays
 returns-in-Some-awaited-clause-stays g c =

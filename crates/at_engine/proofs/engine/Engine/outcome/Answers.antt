@@ -1,4 +1,4 @@
-use Rattle.std.proofs.Common.{◌≡◌, List, [], None, Result, Ok, Err, ap, subst, sym}
+use Rattle.std.proofs.Common.{◌≡◌, List, [], None, Result, Ok, Err, ap, refl, subst, sym}
 use Rattle.std.specs.Allocator.{alloc_error}
 use Rattle.std.specs.declared.alloc.AllocError.{AllocError}
 use Rattle.at_model.specs.Lines.{Ask, Command as CommandOf, From_root, IsCommand, Line, Spells}
@@ -16,12 +16,13 @@ use Rattle.at_protocol.specs.declared.reply.Form.{Form}
 use Rattle.at_protocol.specs.declared.reply.Form.TheVariants as form
 use Rattle.at_protocol.specs.declared.reply.Refusal.TheVariants as refusal
 use Rattle.at_engine.specs.Commanding.{Fulfils}
-use Rattle.at_demand.specs.Went.{begun}
 use Rattle.at_engine.specs.Engines.{rules_of, state_of}
 use Rattle.at_engine.specs.Following.{IsAtOnce}
 use Rattle.at_engine.specs.Hearing.{IsStep}
 use Rattle.at_engine.specs.Keeping.{SparesVerdict}
 use Rattle.at_engine.proofs.Attempting.{gets_at_once, got, heard_at_once}
+use Rattle.at_engine.specs.KeptOver.{obeys}
+use Rattle.at_engine.proofs.of_keeping.GoneOn.{went_as, went_same}
 use Rattle.at_engine.proofs.of_keeping.KeepingLemmas.{at_once_spares, form_spares, line_spares, unknown_spares, unread_spares}
 use Rattle.at_engine.proofs.TellingLemmas.{step_unread, told_unread}
 use Rattle.at_engine.proofs.of_turns.Awaiting.{asked_at_once}
@@ -165,16 +166,30 @@ pub returns-in-Some-clause-went : goal.returns-in-Some-clause-went
 returns-in-Some-clause-went g c =
     let (steps, spelled, number) = c.in-Some.ensures c.requires.sound.known in
     let done = c.ask_of-form.ensures (From_root steps) number in
-    done.went
+    let l = bare_question c.args.self.now.last.session steps c.in-Some.attribute.now in
+    went_as g.K.Keeper.contents g.K.Keeper.memories _ _ c.args.self.now c.ask_of-form.new.self (λ w is. obeys l spelled (sym is)) done.went
 
 pub returns-in-Ok-Command-clause-went : goal.returns-in-Ok-Command-clause-went
-returns-in-Ok-Command-clause-went g c = c.obey.ensures.went
+returns-in-Ok-Command-clause-went g c =
+    let q = c.in-Ok-Command in
+    let is : q.field-0.request ≡ request.Command q.command = cc in
+    let spelled = subst (Spells c.args.line.now) (is_told q.field-0 q.command is) q.ensures.found in
+    went_as g.K.Keeper.contents g.K.Keeper.memories _ _ c.args.self.now c.obey.new.self (λ w same. obeys _ spelled (sym same)) c.obey.ensures.went
 
 pub returns-in-Ok-Ask-clause-went : goal.returns-in-Ok-Ask-clause-went
-returns-in-Ok-Ask-clause-went g c = c.question.ensures.went
+returns-in-Ok-Ask-clause-went g c =
+    let e = c.args.self.now in
+    let k = g.K.Keeper.contents in
+    let q = c.in-Ok-Ask in
+    let new = c.question.new.self in
+    let is : q.field-0.request ≡ request.Ask q.place q.attribute q.arguments = cc in
+    let Listed : List Argument → Type 0 = λ arguments. Fulfils k g.K.Keeper.memories e (verdict (rules_of e) (state_of e) (line_of q.field-0 (Ask (place_view q.place) q.attribute.now (arguments_view arguments)))) c.question.result new in
+    let Done : Request → Type 0 = λ words. Fulfils k g.K.Keeper.memories e (verdict (rules_of e) (state_of e) (line_of q.field-0 (request_view words))) c.question.result new in
+    let done = subst Done (sym is) (subst Listed c.deref.ensures.value c.question.ensures) in
+    went_as k g.K.Keeper.memories _ _ e new (λ w same. obeys (line_view q.field-0) q.ensures.found (sym same)) done.went
 
 pub returns-in-Err-Syntax-clause-went : goal.returns-in-Err-Syntax-clause-went
-returns-in-Err-Syntax-clause-went g c = begun
+returns-in-Err-Syntax-clause-went g c = went_same g.K.Keeper.contents g.K.Keeper.memories _ c.args.self.now c.args.self.now refl
 
 pub returns-in-Err-Memory-clause-went : goal.returns-in-Err-Memory-clause-went
-returns-in-Err-Memory-clause-went g c = begun
+returns-in-Err-Memory-clause-went g c = went_same g.K.Keeper.contents g.K.Keeper.memories _ c.args.self.now c.args.self.now refl

@@ -27,6 +27,7 @@ returns g c =
     let stays = c.outcome-told.ensures.stays in
     record {
       done = record {
+        went = c.outcome-told.ensures.went;
         served = (a.0, a.1, a.2 ∙ ap (λ xs. xs ++ reply_text a.0) c.reserve.ensures.items);
         spare = λ whole spare. spare_line g.K.Keeper.contents e new line t.form wants
             (said_form t wants c.reserve.new.self.items c.say.new.out.items c.say.ensures.said) (c.outcome-told.ensures.spares spare) whole;
@@ -41,5 +42,4 @@ returns g c =
       rules = stays.rules;
       settings = stays.settings;
       sound = record { held = stays.sound; typed = typed_served (rules_of e) (rules_of new) (wants, a.0) (state_of e) (state_of new) line c.requires.sound.typed stays.rules a.1.serves; known = stays.known c.requires.sound.known };
-      went = c.outcome-told.ensures.went;
     }

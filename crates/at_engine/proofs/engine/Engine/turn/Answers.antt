@@ -14,5 +14,4 @@ returns g c =
       rules = call.rules;
       settings = call.settings;
       sound = call.sound;
-      went = call.went;
     }

@@ -1,4 +1,4 @@
-use Rattle.std.proofs.Common.{ap, ℕ, Option, None, Result, Ok, Err, refl, subst, sym}
+use Rattle.std.proofs.Common.{ap, ℕ, [], Option, None, Result, Ok, Err, refl, subst, sym}
 use Rattle.std.specs.declared.alloc.AllocError.{AllocError}
 use Rattle.at_protocol.specs.declared.reply.Form.{Form}
 use Rattle.at_demand.specs.Groups.{KeepsGroups}
@@ -49,9 +49,9 @@ unreachable-requires g c =
     never_silent k g.K.Keeper.memories e m i c.requires.within c.in-Ok.gone.0 c.in-Ok.gone.1 a c.in-None.is
 
 pub returns-in-Err-clause-went : goal.returns-in-Err-clause-went
-returns-in-Err-clause-went g c = went_along g.K.Keeper.memories c.args.self.now c.go_on.new.self c.close.new.self
+returns-in-Err-clause-went g c = went_along g.K.Keeper.contents g.K.Keeper.memories [] c.args.self.now c.go_on.new.self c.close.new.self
     (ap (λ (x : Engine g.row.K.Denot). x.demand) c.close.ensures.rest) c.go_on.ensures.went
 
 pub returns-clause-went : goal.returns-clause-went
-returns-clause-went g c = went_along g.K.Keeper.memories c.args.self.now c.go_on.new.self c.close-in-Some.new.self
+returns-clause-went g c = went_along g.K.Keeper.contents g.K.Keeper.memories [] c.args.self.now c.go_on.new.self c.close-in-Some.new.self
     (ap (λ (x : Engine g.row.K.Denot). x.demand) c.close-in-Some.ensures.rest) c.go_on.ensures.went

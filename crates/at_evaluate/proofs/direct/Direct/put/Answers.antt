@@ -1,9 +1,9 @@
-use Rattle.std.proofs.Common.{ℕ, Some, map, subst}
+use Rattle.std.proofs.Common.{ℕ, Some, ap, map, subst}
 use Rattle.at_model.specs.Run.{Instance}
 use Rattle.at_store.specs.Located.{loc_view}
 use Rattle.at_body.specs.Values.{value_view}
-use Rattle.at_cache.specs.Kept.{Puts}
-use Rattle.at_cache.specs.Traced.{SparesOthers}
+use Rattle.at_cache.specs.Kept.{Puts, value_at}
+use Rattle.at_cache.specs.Traced.{PutsTrace, SparesOthers}
 use Rattle.at_evaluate.proofs.Counting.{counts_put}
 use Rattle.at_evaluate.proofs.of_traces.Making.{makes_none, makes_put, makes_unmade}
 use Rattle.at_evaluate.proofs.direct.Direct.put.Goals as goal
@@ -30,9 +30,10 @@ returns-clause-makes g c =
     let is = c.in_ok-copy.ensures in
     makes_put old new m n c.args.inst.now c.requires.absent
     (subst (λ (i : Instance ℕ). SparesOthers i new m n) is c.put.ensures.spares)
-    c.requires.anew (Some (value_view c.in_ok-copy-2.field-0)) reads uses
+    c.requires.anew (Some (value_view c.in_ok-copy-2.field-0)) reads uses c.args.order
     (subst (λ (i : Instance ℕ). Puts old i (Some (value_view c.in_ok-copy-2.field-0)) reads uses new)
     is c.in_ok-put.ensures.puts)
+    (subst (λ (i : Instance ℕ). PutsTrace i (Some (value_view c.in_ok-copy-2.field-0)) reads uses c.args.order m n) is c.put.ensures.traces)
     c.args.self.now.made c.saturating_add-self-2.result c.saturating_add-self-2.ensures
 
 pub returns-in_err-put-clause-makes : goal.returns-in_err-put-clause-makes
@@ -43,7 +44,7 @@ returns-in_err-put-clause-makes g c =
     let is = c.in_ok-copy.ensures in
     makes_unmade (g.K.Keeper.contents c.args.keeper.now) new m n c.args.inst.now c.requires.absent
     (subst (λ (i : Instance ℕ). SparesOthers i new m n) is c.put.ensures.spares)
-    c.requires.anew c.args.self.now.made
+    c.requires.anew (λ j. ap value_at (c.in_err-put.ensures.err j)) c.in_err-put.ensures.fails c.args.self.now.made
 
 pub returns-in_err-copy-clause-makes : goal.returns-in_err-copy-clause-makes
 returns-in_err-copy-clause-makes g c = makes_none _ _ _

@@ -1,11 +1,12 @@
-use Rattle.std.proofs.Common.{ℕ, List, None, refl, subst, rules}
+use Rattle.std.proofs.Common.{ℕ, List, None, ap, refl, subst, rules}
 use Rattle.std.specs.Prelude.{Contains}
 use Rattle.at_model.specs.Run.{Instance}
 use Rattle.at_store.specs.Shown.{contents}
 use Rattle.at_body.specs.Values.{value_view}
 use Rattle.at_evaluate.specs.Valued.{meaning}
 use Rattle.at_evaluate.proofs.Counting.{counts_same}
-use Rattle.at_evaluate.proofs.Entered.{none_entered}
+use Rattle.at_cache.specs.Kept.{value_at}
+use Rattle.at_evaluate.proofs.Entered.{none_entered, put_unvalued}
 use Rattle.at_evaluate.proofs.of_nesting.Demanding.{demanded_same}
 use Rattle.at_evaluate.proofs.of_nesting.Grown.{grown_entered, grown_none, put_alike}
 use Rattle.at_evaluate.proofs.of_nesting.InnerGains.{gains_same, put_there, taken}
@@ -61,7 +62,8 @@ returns-in_err-put g c = record {
     makes = unmade (g.K.Keeper.contents c.args.keeper.now) (g.K.Keeper.contents c.put.new.self)
         (g.K.Keeper.memories c.args.keeper.now) (g.K.Keeper.memories c.put.new.self) c.args.needed.now _ c.in_ok-copy.ensures (none_entered
         (g.K.Keeper.contents c.args.keeper.now c.args.needed.now) c.stands.result c.stands.ensures c.if-stands.false)
-        c.put.ensures.spares (untraced_inner _ _ _ c.requires.held.justified c.args.needed.now c.requires.lazy) c.args.self.now.made;
+        c.put.ensures.spares (untraced_inner _ _ _ c.requires.held.justified c.args.needed.now c.requires.lazy)
+        (λ j. ap value_at (c.in_err-put.ensures.err j)) c.in_err-put.ensures.fails c.args.self.now.made;
   };
 }
 
@@ -82,5 +84,7 @@ returns g c =
           c.put.ensures.traces) (unmade (g.K.Keeper.contents c.args.keeper.now) (g.K.Keeper.contents c.put.new.self)
           (g.K.Keeper.memories c.args.keeper.now) (g.K.Keeper.memories c.put.new.self) i _ c.in_ok-copy.ensures (none_entered (old i) c.stands.result c.stands.ensures
           c.if-stands.false) c.put.ensures.spares (untraced_inner _ _ _ c.requires.held.justified c.args.needed.now c.requires.lazy)
+          (λ j. put_unvalued old new i puts.entry puts.value (none_entered (old i) c.stands.result c.stands.ensures c.if-stands.false) puts.adds j)
+          (stay_any _ _ _ _ (g.K.Keeper.memories c.args.keeper.now) (g.K.Keeper.memories c.put.new.self) c.put.ensures.traces)
           c.args.self.now.made) puts;
     }
