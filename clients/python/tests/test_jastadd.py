@@ -56,6 +56,21 @@ aspect A {
   public int A.j() { return 1; }
 }
 """
+# The same of what is declared again for a class below: T and U are below S.
+CLASSES = Source("s.ast", "P ::= S*; S ::= <Name>; T : S; U : T;")
+AGAIN = """aspect A {
+  public int S.k() { return 1; }
+  syn int T.k() = 2;
+  boolean U.k() { return true; } //: J4/4
+  syn lazy S S.l() = this;
+  syn T T.l();
+  public B T.l() { return null; } //: J4/4
+  syn boolean S.m() circular [true] = true;
+  syn boolean T.m() circular [false] = true; //: J2/15
+  int T.n(String n) { return 1; }
+  int S.n() { return 1; } //: J2/8
+}
+"""
 
 
 def spelled(it):
@@ -118,9 +133,17 @@ class Reading(unittest.TestCase):
         self.assertEqual([it.form for it in read_aspects("aspect X { int A.m() { return 1; } }")], ["other"])
 
     def test_all_faults_are_found_in_one_run(self):
-        findings = check(GRAMMAR, [Source("x.jrag", FAULTS)], PROGRAM, "jastadd").findings
-        wanted = [(line, fault) for line, text in enumerate(FAULTS.splitlines(), 1) for fault in text.partition("//: ")[2].split()]
-        self.assertEqual([(it.line, f"{it.code}/{it.section.partition('.')[0] or 0}") for it in findings], wanted)
+        for grammar, aspects in (GRAMMAR, FAULTS), (CLASSES, AGAIN):
+            findings = check(grammar, [Source("x.jrag", aspects)], PROGRAM, "jastadd").findings
+            wanted = [(line, fault) for line, text in enumerate(aspects.splitlines(), 1) for fault in text.partition("//: ")[2].split()]
+            self.assertEqual([(it.line, f"{it.code}/{it.section.partition('.')[0] or 0}") for it in findings], wanted)
+
+    def test_a_declaration_for_a_class_below_is_an_equation(self):
+        specification = Specification(CLASSES, [Source("x.jrag", AGAIN)], "jastadd")
+        first = specification.attribute("S", "k")
+        self.assertEqual([AGAIN.count("\n", 0, it.declaration.start) + 1 for it in specification.equations(first.declaration)], [2, 3, 4])
+        without = Specification(CLASSES, [Source("x.jrag", AGAIN)])
+        self.assertEqual(without.equations(without.attribute("T", "k").declaration), without.named("k")[1:2])
 
     def test_names_in_a_loop_are_completed(self):
         text = "aspect X { boolean A.m(String n) { for (B x : getBList()) if (x.getName().equals(n)) return true; return false; } }"

@@ -137,6 +137,9 @@ class Advice:
     def _of_head(self, refused: Refused, it: Declaration, word: str) -> Optional[str]:
         if refused.code == "J5":
             return self._of_parameters(it)
+        above = self.specification.declared_above(it) if refused.code == "J4" else None
+        if above is not None:
+            return f"The attribute is declared as {self._head(above)}."
         if it.getter is not None and word == it.getter.text and it.of is not None:
             own = [f"get{part.name}" for part in self._parts(it.of.text)]
             return f"{it.of.text} has no component of the accessor {word}. {self._near(word, own)}".strip()

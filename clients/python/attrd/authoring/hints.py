@@ -9,8 +9,8 @@ from ..grammar import Shape
 from .aspect_tree import Declaration, Expression, Form, Piece
 from .mending import Refused
 from .specification import NODES, Placed, Specification, is_java_kind
-from .ways import (COMPUTED, FORMS, JAVA_TYPES, NAMES, NO_VALUE, NUMBERS, OF_JAVA, OF_SETS, OTHERWISE, OVERLOADED, OVERRIDDEN, TOO_MANY,
-                   TWO_FORMS, TWO_TYPES, Way, way_of_body)
+from .ways import (COMPUTED, FORMS, JAVA_TYPES, NAMES, NO_VALUE, NUMBERS, OF_JAVA, OF_SETS, OTHER_KIND, OTHERWISE, OVERLOADED, OVERRIDDEN,
+                   TOO_MANY, TWO_FORMS, TWO_TYPES, Way, way_of_body)
 
 _SEVERAL = re.compile(r"get(\w+)s")
 _OPTIONAL = re.compile(r"get(\w+)Opt")
@@ -93,6 +93,8 @@ class Hints:
             return self._of_getter(word)
         if refused.code == "J3":
             return NAMES[word] if word in NODES else FORMS["kind"] if word in JAVA_TYPES else None
+        if refused.code == "J4" and self.specification.declared_above(it) is not None:
+            return OTHER_KIND
         kinds = [binding.kind for binding in it.parameters]
         place = next((at for at, kind in enumerate(kinds) if kind is not None and kind.at == refused.offset), None)
         if place is None or it.form == "eq":

@@ -134,9 +134,23 @@ class Specification:
             if it is attribute:
                 if it.body is not None:
                     found.append(placed)
-            elif it.form == "eq" and self._is_for(it, attribute):
+            elif (it.form == "eq" or self._is_again(it, attribute)) and self._is_for(it, attribute):
                 found.append(placed)
         return found
+
+    def _is_again(self, it: Declaration, attribute: Declaration) -> bool:
+        """Whether a declaration of a synthesized attribute is read as an equation of this one where it is for a class below."""
+        return "jastadd" in self.forms and it.form == attribute.form == "syn" and it.body is not None \
+            and _kinds_of(it) == _kinds_of(attribute)
+
+    def declared_above(self, it: Declaration) -> Optional[Placed]:
+        """The declaration of a synthesized attribute for a class above, which this one repeats where JastAdd's own language is read."""
+        if "jastadd" not in self.forms or it.form != "syn" or it.name is None or it.of is None:
+            return None
+        of = it.of.text
+        above = (placed for placed in self.named(it.name.text) if placed.declaration.form == "syn" and placed.declaration.of is not None)
+        return next((placed for placed in above if placed.declaration.of is not None and placed.declaration.of.text != of
+                     and self.grammar.is_below(of, placed.declaration.of.text) and _kinds_of(placed.declaration) == _kinds_of(it)), None)
 
     def _is_for(self, equation: Declaration, attribute: Declaration) -> bool:
         if attribute.form == "inh":
@@ -201,6 +215,11 @@ class Specification:
             return accessor.kind
         placed = self.attribute(of, name) if of is not None else None
         return None if placed is None or placed.declaration.kind is None else placed.declaration.kind.text
+
+
+def _kinds_of(it: Declaration) -> List[Optional[str]]:
+    """The kinds of a declaration's parameters."""
+    return [None if binding.kind is None else binding.kind.text for binding in it.parameters]
 
 
 def is_class_kind(kind: Optional[str]) -> bool:
