@@ -28,6 +28,8 @@ FORMS: Dict[str, str] = {
                             "eq Decl.b() { return b(); } }",
     "an equation": "aspect A { syn int Stmt.a() = 1; eq Block.a() = getNumStmt(); eq Decl.a() { return getID().equals(\"x\") ? 2 : 3; } }",
     "a method": "aspect A { int Stmt.a(String n) { return 1; } public boolean Block.b(Stmt s, final String t) { return s == this; } }",
+    "a declaration again": "aspect A { syn lazy Stmt Stmt.a(String n) = null; public Block Block.a(String m) { return this; } "
+                           "syn Decl Decl.a(String n); }",
     "if": "aspect A { int Block.a() { if (getNumStmt() > 0) return 1; if (b()) return 2; return 3; } boolean Block.b() { return true; } }",
     "if and else": "aspect A { int Block.a() { if (getNumStmt() > 0) return 1; else if (getNumStmt() < 0) { return 2; } else return 3; } }",
     "blocks": "aspect A { int Block.a() { ; { { if (true) { return 1; } } ; } { return 2; } } }",

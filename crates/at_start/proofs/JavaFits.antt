@@ -1,7 +1,7 @@
 -- What is read as users of JastAdd write it: each number in a body has 32 bits, and what is circular is boolean.
-use Rattle.std.proofs.Common.{◌≡◌, ◌+◌, ℕ, zero, suc, List, [], ◌∷◌, Bool, true, false, Option, None, Some, refl, sym, subst, true≢false}
+use Rattle.std.proofs.Common.{◌≡◌, ◌+◌, ℕ, zero, suc, List, [], ◌∷◌, Bool, true, false, Option, None, Some, cond, map, refl, sym, subst, true≢false}
 use Rattle.std.specs.Prelude.{IfSome}
-use Rattle.std.specs.List.{AllByRecursion}
+use Rattle.std.specs.List.{AllByRecursion, flat_map}
 use Rattle.std.proofs.lemmas.Option.{none-some}
 use Rattle.std.proofs.lemmas.List.Concat.{flat_map-cons}
 use lib.Chars.{codes}
@@ -29,7 +29,9 @@ use Rattle.at_typing.proofs.Literals.{AreInts, AreIntsIn}
 use Rattle.at_typing.specs.Declaring.{body_at, body_in}
 use Rattle.at_typing.specs.Located.{Located, from_aspect, from_file, located}
 use Rattle.at_typing.proofs.Starting.{IsBooleanForm, IsBooleanIn}
+use Rattle.at_model.specs.Classes.{Classes}
 use Rattle.at_start.specs.AspectFiles.{AllHold}
+use Rattle.at_start.specs.Redeclaring.{Signature, as_equation, aspect_read, files_read, is_declared_above, read_as, signature_in}
 use Rattle.at_start.specs.declared.language.Language.TheVariants.{JastAdd}
 use Rattle.at_start.proofs.JavaGiven.{Gives, gives_then, gives_behind, gives_either, gives_word, gives_sign}
 use Rattle.at_start.proofs.JavaNumbers.{expression_ints}
@@ -273,22 +275,53 @@ file_fits file (a ∷ as') fit =
     subst (AllByRecursion LocatedFits) (sym (flat_map-cons (from_aspect file) a as'))
     (all_both LocatedFits (from_aspect file a) (from_file file as') (all_map LocatedFits _ a.decls fit.0) (file_fits file as' fit.1))
 
-module _ (names : List Alias) where
+-- ---- what is declared again
+
+-- the equation of a declaration fits
+equation_fits_too : (at : Place) (form : DeclForm) → Fits form → AllByRecursion DeclFits (as_equation at form)
+equation_fits_too at (syntax.Synthesized lazy kind class name params start (syntax.With body)) fits = ((fits.0, no_kind None), tt)
+equation_fits_too at (syntax.Synthesized lazy kind class name params start (syntax.Semicolon end)) fits = tt
+equation_fits_too at (syntax.Inherited lazy kind class name params start) fits = tt
+equation_fits_too at (syntax.Equation class name params body) fits = tt
+equation_fits_too at (syntax.InheritedEquation class getter index name params body) fits = tt
+
+module _ (classes : Classes) (among : List Signature) where
+  decl_read_fits : (d : Decl) → DeclFits d → AllByRecursion DeclFits (read_as classes among d)
+  decl_read_fits d fits = by (is_declared_above classes among (signature_in classes 0 d.form))
+    where
+      by : (b : Bool) → AllByRecursion DeclFits (cond b (as_equation d.at d.form) (d ∷ []))
+      by true = equation_fits_too d.at d.form fits
+      by false = (fits, tt)
+
+  decls_read_fit : (ds : List Decl) → AllByRecursion DeclFits ds → AllByRecursion DeclFits (flat_map (read_as classes among) ds)
+  decls_read_fit [] fit = tt
+  decls_read_fit (d ∷ ds) fit =
+      all_both DeclFits (read_as classes among d) (flat_map (read_as classes among) ds) (decl_read_fits d fit.0) (decls_read_fit ds fit.1)
+
+  aspects_read_fit : (as' : List Aspect) → AllFit as' → AllFit (map (aspect_read classes among) as')
+  aspects_read_fit [] fit = tt
+  aspects_read_fit (a ∷ as') fit = (decls_read_fit a.decls fit.0, aspects_read_fit as' fit.1)
+
+-- ---- all files
+
+module _ (names : List Alias) (classes : Classes) (among : List Signature) where
   hold_fits : (n : ℕ) (files : List (List ℕ)) (aspects : List (List Aspect)) → AllHold JastAdd names files aspects
-      → AllByRecursion LocatedFits (located n aspects)
+      → AllByRecursion LocatedFits (located n (files_read classes among aspects))
   hold_fits n [] [] hold = tt
   hold_fits n [] (a ∷ as') hold = absurd hold
   hold_fits n (f ∷ fs) [] hold = absurd hold
   hold_fits n (f ∷ fs) (a ∷ as') hold =
-      all_both LocatedFits (from_file n a) (located (n + 1) as')
-      (file_fits n a (read_fits (resolved_row names hold.0.written.tokens) a [] hold.0.written.is)) (hold_fits (n + 1) fs as' hold.1)
+      let read = map (aspect_read classes among) a in
+      all_both LocatedFits (from_file n read) (located (n + 1) (files_read classes among as'))
+      (file_fits n read (aspects_read_fit classes among a (read_fits (resolved_row names hold.0.written.tokens) a [] hold.0.written.is)))
+      (hold_fits (n + 1) fs as' hold.1)
 
   pub hold_ints : (n : ℕ) (files : List (List ℕ)) (aspects : List (List Aspect)) → AllHold JastAdd names files aspects
-      → AllByRecursion AreIntsIn (located n aspects)
+      → AllByRecursion AreIntsIn (located n (files_read classes among aspects))
   hold_ints n files aspects hold =
-      all_more LocatedFits AreIntsIn (located n aspects) (λ d fits. fits.0) (hold_fits n files aspects hold)
+      all_more LocatedFits AreIntsIn (located n (files_read classes among aspects)) (λ d fits. fits.0) (hold_fits n files aspects hold)
 
   pub hold_booleans : (n : ℕ) (files : List (List ℕ)) (aspects : List (List Aspect)) → AllHold JastAdd names files aspects
-      → AllByRecursion IsBooleanIn (located n aspects)
+      → AllByRecursion IsBooleanIn (located n (files_read classes among aspects))
   hold_booleans n files aspects hold =
-      all_more LocatedFits IsBooleanIn (located n aspects) (λ d fits. fits.1) (hold_fits n files aspects hold)
+      all_more LocatedFits IsBooleanIn (located n (files_read classes among aspects)) (λ d fits. fits.1) (hold_fits n files aspects hold)

@@ -1,5 +1,6 @@
 mod Naming
 mod Listing
+mod Rereading
 mod Declaring
 mod TermFiles
 mod Ruled

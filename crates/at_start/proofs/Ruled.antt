@@ -1,6 +1,7 @@
 -- Which files were read as aspects, and which fault of aspect files is told.
 use Rattle.std.proofs.Common.{◌≡◌, ℕ, ◌+◌, ◌<◌, List, [], ◌∷◌, ◌++◌, length, map, take, drop, get_or, Option, Some, None, Vec, Result, Ok, Err, sym, ap, ◌∙◌, subst, append_assoc, arith}
 use Rattle.std.proofs.lemmas.List.{take-append-drop, take_more, map-append, length-map, length-take-le}
+use Rattle.std.proofs.lemmas.Option.{none-some}
 use Rattle.std.specs.Global.{Global}
 use Rattle.std.specs.Result.{IfOk, IfErr}
 use Rattle.at_model.specs.Classes.{Classes}
@@ -8,12 +9,16 @@ use Rattle.at_model.specs.Rules.{Rules}
 use Rattle.at_text.specs.declared.place.Place.{Place}
 use Rattle.at_jrag.specs.Syntax.{Aspect}
 use Rattle.at_typing.specs.Building.{Builds}
-use Rattle.at_typing.specs.Located.{declarations_in, located}
-use Rattle.at_jrag.specs.View.{aspect_view}
+use Rattle.at_typing.specs.Located.{Located, located}
+use Rattle.at_typing.specs.declared.fault.Breach.{Breach}
+use Rattle.at_text.specs.declared.fault.Failure.{Failure}
+use Rattle.at_text.specs.declared.fault.Failure.TheVariants.{For, Memory as Lacking}
 use Rattle.at_jrag.specs.declared.syntax.Aspect.{Aspect as AspectValue}
 use Rattle.at_java.specs.Aliases.{Alias}
 use Rattle.at_start.specs.Lists.{aliases_in}
-use Rattle.at_start.specs.AspectFiles.{GivesRules, Holds, AllHold, IsReadingFaultOf, IsUnread, IsAspectFault, IsRuleFault, rule_code, no_file, breaks}
+use Rattle.at_start.specs.AspectFiles.{GivesRules, Holds, AllHold, BuildsBehind, IsReadingFaultOf, IsUnread, IsAspectFault, IsRuleFault, Makes, rule_code, no_file, breaks}
+use Rattle.at_start.specs.Redeclaring.{Reads, fault_in, read_in}
+use Rattle.at_start.proofs.Rereading.{aspects_of}
 use Rattle.at_start.specs.declared.code.Code.{Code}
 use Rattle.at_start.specs.declared.language.Language.{Language}
 use Rattle.at_start.specs.Starts.{aspect_bytes}
@@ -23,6 +28,9 @@ use Rattle.at_text.specs.declared.fault.Fault.{Fault}
 use Rattle.at_text.specs.declared.fault.Fault.TheVariants as fault
 use Rattle.at_start.specs.declared.fault.StartFault.{StartFault}
 use Rattle.at_start.specs.declared.fault.StartFault.TheVariants.{Refused, Memory}
+
+some_of : {X : Type 0} {x y : X} → Some x ≡ Some y → x ≡ y
+some_of e = cc
 
 -- one more file
 hold_more : (language : Language) (names : List Alias) (fs : List (List ℕ)) (as' : List (List Aspect)) (f : List ℕ) (a : List Aspect)
@@ -37,9 +45,6 @@ front_more xs i x within is = take_more xs i x within ∙ ap (λ y. take i xs ++
 
 split_there : {X : Type 0} (xs : List X) (i : ℕ) (x : X) → i < length xs → x ≡ get_or xs i x → xs ≡ take i xs ++ x ∷ drop (i + 1) xs
 split_there xs i x within is = sym (take-append-drop (i + 1) xs) ∙ ap (λ l. l ++ drop (i + 1) xs) (front_more xs i x within is) ∙ append_assoc (take i xs) (x ∷ []) (drop (i + 1) xs)
-
-abbrev pub aspects_of : Vec AspectValue Global → List Aspect
-aspects_of v = map aspect_view v.items
 
 -- one more file was read
 pub one_more_read : (language : Language) (names : List Alias) (sources : List Source) (i : ℕ) (x : Source) (all : List (Vec AspectValue Global))
@@ -76,18 +81,46 @@ unread_refuses language classes files (Refused file c (Some at)) h = no_file fil
 unread_refuses language classes files (Refused file c None) h = h
 unread_refuses language classes files Memory h = h
 
+-- ---- faults that are met before the declarations are gone through
+
+module _ (classes : Classes) (ds : List Located) where
+  pub stray_told : {T : Type 0} (P : T → Type 0) (fault : Option Breach) (e : Failure Breach) → Reads fault P (Err e)
+      → BuildsBehind classes fault ds (Err e)
+  stray_told P None (For f) reads = absurd (none-some f reads)
+  stray_told P (Some g) (For f) reads = sym (some_of reads)
+  stray_told P None Lacking reads = tt
+  stray_told P (Some g) Lacking reads = tt
+
+  pub built_behind : (others : List Located) (fault : Option Breach) (result : Result Rules (Failure Breach)) → fault ≡ None → others ≡ ds
+      → Builds classes others result → BuildsBehind classes fault ds result
+  built_behind others None result none same built = subst (λ (xs : List Located). Builds classes xs result) same built
+  built_behind others (Some f) result none same built = absurd (none-some f (sym none))
+
+builds_of : (classes : Classes) (fault : Option Breach) (ds : List Located) (rules : Rules) → BuildsBehind classes fault ds (Ok rules)
+    → Builds classes ds (Ok rules)
+builds_of classes None ds rules built = built
+builds_of classes (Some f) ds rules built = absurd built
+
+-- rules that aspects make are those of their declarations as they are read
+pub made_builds : (language : Language) (classes : Classes) (aspects : List (List Aspect)) (rules : Rules) → Makes language classes aspects (Ok rules)
+    → Builds classes (located 1 (read_in language classes aspects)) (Ok rules)
+made_builds language classes aspects rules made =
+    builds_of classes (fault_in language classes aspects) (located 1 (read_in language classes aspects)) rules made
+
+-- ---- rules
+
 -- the rules are those of files that were read
 pub given_by : (language : Language) (classes : Classes) (files : List (List ℕ)) (read : List (Vec AspectValue Global))
     (result : Result Rules StartFault)
     → AllHold language (aliases_in language classes) files (map aspects_of read)
-    → IfOk result (λ r. Builds classes (declarations_in read) (Ok r))
+    → IfOk result (λ r. Makes language classes (map aspects_of read) (Ok r))
     → IfOk result (λ r. GivesRules language classes files r)
 given_by language classes files read (Ok r) h built = record { aspects = map aspects_of read; hold = h; built = built }
 given_by language classes files read (Err e) h built = built
 
 rule_refuses : (language : Language) (classes : Classes) (files : List (List ℕ)) (aspects : List (List Aspect))
     (e : StartFault)
-    → AllHold language (aliases_in language classes) files aspects → IsRuleFault classes (located 1 aspects) e → IsAspectFault language classes files e
+    → AllHold language (aliases_in language classes) files aspects → IsRuleFault language classes aspects e → IsAspectFault language classes files e
 rule_refuses language classes files aspects (Refused n c at) h (f, first, of_number, of_code, of_place) =
     let placed = subst (λ (o : Option Place). IsAspectFault language classes files (Refused f.file (rule_code f.code) o))
     (sym of_place) (breaks aspects f h first) in
@@ -99,6 +132,6 @@ rule_refuses language classes files aspects Memory h says = tt
 pub refused_by : (language : Language) (classes : Classes) (files : List (List ℕ)) (read : List (Vec AspectValue Global))
     (result : Result Rules StartFault)
     → AllHold language (aliases_in language classes) files (map aspects_of read)
-    → IfErr result (IsRuleFault classes (declarations_in read)) → IfErr result (IsAspectFault language classes files)
+    → IfErr result (IsRuleFault language classes (map aspects_of read)) → IfErr result (IsAspectFault language classes files)
 refused_by language classes files read (Ok r) h says = says
 refused_by language classes files read (Err e) h says = rule_refuses language classes files (map aspects_of read) e h says

@@ -1,5 +1,5 @@
 -- Which rules aspect files give, and by which fault of which file they are refused.
-use Rattle.std.specs.Prelude.{◌≡◌, ℕ, ◌+◌, Bool, true, List, [], ◌∷◌, ◌++◌, length, Some, None, Ok, Err}
+use Rattle.std.specs.Prelude.{◌≡◌, ℕ, ◌+◌, Bool, true, List, [], ◌∷◌, ◌++◌, length, Option, Some, None, Result, Ok, Err}
 use Rattle.at_model.specs.Classes.{Classes}
 use Rattle.at_model.specs.Rules.{Rules}
 use Rattle.at_text.specs.Symbols.{PlacedToken, HasTokens}
@@ -17,12 +17,14 @@ use Rattle.at_java.specs.declared.JavaCode.{JavaCode}
 use Rattle.at_java.specs.declared.JavaCode.TheVariants as java
 use Rattle.at_start.specs.Files.{IsText, IsNoText, max_file}
 use Rattle.at_start.specs.Lists.{aliases_in}
+use Rattle.at_start.specs.Redeclaring.{fault_in, read_in}
 use Rattle.at_typing.specs.Building.{Builds}
 use Rattle.at_typing.specs.Located.{Located, located}
 use Rattle.at_typing.specs.declared.fault.Breach.{Breach}
 use Rattle.at_kinds.specs.declared.code.RuleCode.{RuleCode}
 use Rattle.at_kinds.specs.declared.code.RuleCode.TheVariants as rule
-use Rattle.at_text.specs.declared.fault.Failure.TheVariants.{For}
+use Rattle.at_text.specs.declared.fault.Failure.{Failure}
+use Rattle.at_text.specs.declared.fault.Failure.TheVariants.{For, Memory}
 use Rattle.at_start.specs.declared.code.Code.{Code}
 use Rattle.at_start.specs.declared.code.Code.TheVariants as code
 use Rattle.at_start.specs.declared.language.Language.{Language}
@@ -102,12 +104,25 @@ IsUnread language names files (start.Refused file c (Some at)) = IsUnreadAt lang
 IsUnread language names files (start.Refused file c None) = ⊥
 IsUnread language names files start.Memory = Unit {0}
 
+-- The rules that these declarations make, or their first fault; where there is a fault before them it is that one. Of want of memory
+-- nothing is said.
+abbrev pub BuildsBehind : Classes → Option Breach → List Located → Result Rules (Failure Breach) → Type 0
+BuildsBehind classes None ds result = Builds classes ds result
+BuildsBehind classes (Some f) ds (Ok rules) = ⊥
+BuildsBehind classes (Some f) ds (Err (For g)) = g ≡ f
+BuildsBehind classes (Some f) ds (Err Memory) = Unit {0}
+
+-- the rules that aspects make, as they are read in the language
+abbrev pub Makes : Language → Classes → List (List Aspect) → Result Rules (Failure Breach) → Type 0
+Makes language classes aspects result =
+    BuildsBehind classes (fault_in language classes aspects) (located 1 (read_in language classes aspects)) result
+
 -- The files in that language give the rules over the classes: each file holds aspects, and all their declarations together
 -- make the rules.
 pub record GivesRules (language : Language) (classes : Classes) (files : List (List ℕ)) (rules : Rules) : Type 0 where
   pub aspects : List (List Aspect)
   pub hold : AllHold language (aliases_in language classes) files aspects
-  pub built : Builds classes (located 1 aspects) (Ok rules)
+  pub built : Makes language classes aspects (Ok rules)
 
 -- a rule's code among those of all files
 abbrev pub rule_code : RuleCode → Code
@@ -129,7 +144,7 @@ pub data RefusesAspects (language : Language) (classes : Classes) (files : List 
   no_file : (file : ℕ) (c : Code) (at : Place) → IsUnreadAt language (aliases_in language classes) files file c at
       → RefusesAspects language classes files file c at
   breaks : (aspects : List (List Aspect)) (f : Breach) → AllHold language (aliases_in language classes) files aspects
-      → Builds classes (located 1 aspects) (Err (For f))
+      → Makes language classes aspects (Err (For f))
       → RefusesAspects language classes files f.file (rule_code f.code) f.at
 
 -- the fault is one by which the files are refused; of want of memory nothing is said
@@ -139,6 +154,7 @@ IsAspectFault language classes files (start.Refused file c None) = ⊥
 IsAspectFault language classes files start.Memory = Unit {0}
 
 -- the fault is the first of the declarations, in the file of its number and at its place; of want of memory nothing is said
-abbrev pub IsRuleFault : Classes → List Located → StartFault → Type 0
-IsRuleFault classes ds (start.Refused file c at) = (f : Breach) × Builds classes ds (Err (For f)) × (file ≡ f.file) × (c ≡ rule_code f.code) × (at ≡ Some f.at)
-IsRuleFault classes ds start.Memory = Unit {0}
+abbrev pub IsRuleFault : Language → Classes → List (List Aspect) → StartFault → Type 0
+IsRuleFault language classes aspects (start.Refused file c at) =
+    (f : Breach) × Makes language classes aspects (Err (For f)) × (file ≡ f.file) × (c ≡ rule_code f.code) × (at ≡ Some f.at)
+IsRuleFault language classes aspects start.Memory = Unit {0}

@@ -4,6 +4,7 @@ pub mod Files
 pub mod GrammarFiles
 pub mod TreeFiles
 pub mod Lists
+pub mod Redeclaring
 pub mod AspectFiles
 pub mod Starts
 pub mod Whole

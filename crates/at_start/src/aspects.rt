@@ -6,9 +6,7 @@ ghost use Rattle.at_jrag.specs.View.{aspect_view};
 ghost use Rattle.at_model.specs.WellFormed.{AreWellFormed, IsHierarchy};
 ghost use Rattle.at_rules.specs.Circular.{AreCircularLazy};
 ghost use Rattle.at_evaluate.specs.Meant.{AreCircularWell};
-ghost use Rattle.at_typing.specs.Building.{Builds};
-ghost use Rattle.at_typing.specs.Located.{declarations_in};
-ghost use Rattle.at_start.specs.AspectFiles.{Holds, AllHold, GivesRules, IsReadingFaultOf, IsAspectFault, IsUnread, IsRuleFault, java_code, jrag_code, rule_code};
+ghost use Rattle.at_start.specs.AspectFiles.{Holds, AllHold, GivesRules, IsReadingFaultOf, IsAspectFault, IsUnread, IsRuleFault, Makes, java_code, jrag_code, rule_code};
 ghost use Rattle.at_start.specs.Files.{IsText, max_file};
 ghost use Rattle.at_start.specs.declared.language.Language.TheVariants.{Profile, JastAdd};
 ghost use Rattle.at_start.specs.Starts.{aspect_bytes};
@@ -18,6 +16,7 @@ use super::files::{MAX_FILE, Source, text_of};
 use crate::code::Code;
 use crate::language::Language;
 use crate::lists::aliases_in;
+use crate::redeclared::read_in;
 use at_class::ClassTable;
 use at_java::{Alias, JavaCode, parse_java};
 use at_jrag::{Aspect, Forms, JragCode, parse_jrag};
@@ -25,6 +24,7 @@ use at_kinds::RuleCode;
 use at_rules::Rules;
 use at_text::fault::{Failure, Fault};
 use at_text::place::Place;
+use at_typing::RuleFault;
 use std::alloc::Global;
 
 /// The rules of the aspect files over the classes. The files are written in this language.
@@ -46,7 +46,7 @@ pub fn rules_of(
 {
     let names = aliases_in(alloc, language, &classes)?;
     let aspects = read_all(alloc, language, &names, aspects)?;
-    build(alloc, classes, &aspects)
+    build(alloc, language, classes, aspects)
 }
 
 /// The aspects of each file, in order, where names stand for others.
@@ -139,13 +139,19 @@ fn java_code(code: JavaCode) -> Code
     }
 }
 
-fn build(alloc: Global, classes: ClassTable, aspects: &[Vec<Aspect>]) -> Result<Rules, StartFault>
+/// The rules that aspects make in the language, or their first fault.
+fn build(
+    alloc: Global,
+    language: Language,
+    classes: ClassTable,
+    aspects: Vec<Vec<Aspect>>,
+) -> Result<Rules, StartFault>
     ensures classes { IfOk result (λ r. r.classes ≡ classes) }
-    ensures built { IfOk result (λ r. Builds classes (declarations_in aspects.now) (Ok r)) }
+    ensures built { IfOk result (λ r. Makes language classes (map (λ f. map aspect_view f.items) aspects.items) (Ok r)) }
     ensures lazy { IfOk result AreCircularLazy }
-    ensures refused { IfErr result (IsRuleFault classes (declarations_in aspects.now)) }
+    ensures refused { IfErr result (IsRuleFault language classes (map (λ f. map aspect_view f.items) aspects.items)) }
 {
-    match at_typing::build(alloc, classes, aspects) {
+    match built(alloc, language, classes, aspects) {
         Ok(rules) => Ok(rules),
         Err(Failure::For(breach)) => Err(StartFault::Refused {
             file: breach.file,
@@ -154,6 +160,21 @@ fn build(alloc: Global, classes: ClassTable, aspects: &[Vec<Aspect>]) -> Result<
         }),
         Err(Failure::Memory) => Err(StartFault::Memory),
     }
+}
+
+/// The same, with the fault as the rules have it.
+fn built(
+    alloc: Global,
+    language: Language,
+    classes: ClassTable,
+    aspects: Vec<Vec<Aspect>>,
+) -> Result<Rules, RuleFault>
+    ensures classes { IfOk result (λ r. r.classes ≡ classes) }
+    ensures built { Makes language classes (map (λ f. map aspect_view f.items) aspects.items) result }
+    ensures lazy { IfOk result AreCircularLazy }
+{
+    let aspects = read_in(alloc, language, &classes, aspects)?;
+    at_typing::build(alloc, classes, &aspects)
 }
 
 fn rule_code(code: RuleCode) -> Code

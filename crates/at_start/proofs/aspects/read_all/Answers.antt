@@ -5,7 +5,8 @@ use Rattle.std.specs.Global.{Global}
 use Rattle.at_jrag.specs.declared.syntax.Aspect.{Aspect}
 use Rattle.at_start.specs.AspectFiles.{AllHold, Holds, IsReadingFaultOf, IsUnread}
 use Rattle.at_start.specs.Starts.{aspect_bytes}
-use Rattle.at_start.proofs.Ruled.{aspects_of, one_more_read, unread_at}
+use Rattle.at_start.proofs.Rereading.{aspects_of}
+use Rattle.at_start.proofs.Ruled.{one_more_read, unread_at}
 use Rattle.at_start.proofs.aspects.read_all.Goals as goal
 
 pub returns-in_err-push-in-Ok-clause-refused : goal.returns-in_err-push-in-Ok-clause-refused

@@ -1,15 +1,10 @@
-use Rattle.std.proofs.Common.{List, Vec, Ok, map, subst, ◌∙◌}
+use Rattle.std.proofs.Common.{List, map, subst, ◌∙◌}
 use Rattle.std.proofs.lemmas.Result.{err_from_is_err_and}
-use Rattle.std.specs.Global.{Global}
-use Rattle.std.specs.Result.{IfOk, IfErr}
-use Rattle.at_jrag.specs.declared.syntax.Aspect.{Aspect}
-use Rattle.at_model.specs.Rules.{Rules}
 use Rattle.at_java.specs.Aliases.{Alias}
-use Rattle.at_typing.specs.Building.{Builds}
-use Rattle.at_typing.specs.Located.{declarations_in}
-use Rattle.at_start.specs.AspectFiles.{AllHold, IsRuleFault, IsUnread}
+use Rattle.at_start.specs.AspectFiles.{AllHold, IsUnread}
 use Rattle.at_start.specs.Starts.{aspect_bytes}
-use Rattle.at_start.proofs.Ruled.{aspects_of, unread_refuses, given_by, refused_by}
+use Rattle.at_start.proofs.Rereading.{aspects_of}
+use Rattle.at_start.proofs.Ruled.{unread_refuses, given_by, refused_by}
 use Rattle.at_start.proofs.RulesTyped.{circular_by, well_formed_by}
 use Rattle.at_start.proofs.aspects.rules_of.Goals as goal
 
@@ -27,8 +22,7 @@ returns-clause-given c =
     let read = c.in_ok-aspects.aspects.items in
     let hold = subst (λ (names : List Alias). AllHold c.args.language names files (map aspects_of read))
     (c.deref.ensures.value ∙ c.in_ok-names.ensures) c.in_ok-aspects.ensures.hold in
-    let built = subst (λ (v : List (Vec Aspect Global)). IfOk c.build.result (λ (r : Rules). Builds c.args.classes (declarations_in v) (Ok r))) c.deref-2.ensures.value c.build.ensures.built in
-    given_by c.args.language c.args.classes files read c.build.result hold built
+    given_by c.args.language c.args.classes files read c.build.result hold c.build.ensures.built
 
 pub returns-clause-well_formed : goal.returns-clause-well_formed
 returns-clause-well_formed c hierarchy = well_formed_by c.args.language c.args.classes (aspect_bytes c.args.aspects.now)
@@ -40,8 +34,7 @@ returns-clause-refused c =
     let read = c.in_ok-aspects.aspects.items in
     let hold = subst (λ (names : List Alias). AllHold c.args.language names files (map aspects_of read))
     (c.deref.ensures.value ∙ c.in_ok-names.ensures) c.in_ok-aspects.ensures.hold in
-    let refused = subst (λ (v : List (Vec Aspect Global)). IfErr c.build.result (IsRuleFault c.args.classes (declarations_in v))) c.deref-2.ensures.value c.build.ensures.refused in
-    refused_by c.args.language c.args.classes files read c.build.result hold refused
+    refused_by c.args.language c.args.classes files read c.build.result hold c.build.ensures.refused
 
 pub returns-clause-circular : goal.returns-clause-circular
 returns-clause-circular c hierarchy =

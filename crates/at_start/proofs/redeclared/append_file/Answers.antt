@@ -1,0 +1,25 @@
+use Rattle.std.proofs.Common.{List, ◌++◌, ◌∙◌, ap, arith, filter_map, map, refl}
+use Rattle.std.specs.List.{flat_map}
+use Rattle.at_jrag.specs.View.{aspect_view, decl_view}
+use Rattle.at_jrag.specs.declared.syntax.Aspect.{Aspect}
+use Rattle.at_start.specs.Redeclaring.{in_aspect, signature_of}
+use Rattle.at_start.proofs.Rereading.{next_part, no_part}
+use Rattle.at_start.proofs.redeclared.append_file.Goals as goal
+
+pub loop-aspect-preserved : goal.loop-aspect-preserved
+loop-aspect-preserved c =
+    let classes = c.args.classes.now in
+    let file = c.args.file in
+    let a = c.aspect-item.result in
+    let left = λ (as' : List Aspect). flat_map (in_aspect classes file) (map aspect_view as') in
+    next_part left left _ _ (in_aspect classes file (aspect_view a)) _ c.args.aspects.now c.loop-aspect.aspect-index a
+    (omega arith) c.aspect-item.is (λ rest. refl)
+    (c.in_ok-append_decls.ensures ∙ ap (λ ds. c.loop-aspect.all.items ++ filter_map (signature_of classes file) (map
+    decl_view ds)) c.deref.ensures.value)
+    c.loop-aspect.invariant
+
+pub returns : goal.returns
+returns c =
+    let left = λ (as' : List Aspect). flat_map (in_aspect c.args.classes.now c.args.file) (map aspect_view as') in
+    no_part left c.loop-aspect.all.items _ c.args.aspects.now c.loop-aspect.aspect-index (omega arith) refl
+    c.loop-aspect.invariant
