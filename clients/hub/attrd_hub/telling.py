@@ -31,8 +31,9 @@ def log(level: Level, text: str) -> None:
     time."""
     head = f"<{level.value}>" if "JOURNAL_STREAM" in os.environ else time.strftime("%Y-%m-%dT%H:%M:%S%z ")
     try:
-        print("\n".join(head + it for it in text.splitlines()), file=sys.stderr, flush=True)
-    except OSError:
+        # Not by `print`: what can't be written would be tried again at the end of Python, which then ends with a status of its own.
+        os.write(sys.stderr.fileno(), "".join(f"{head}{it}\n" for it in text.splitlines()).encode("utf-8", "replace"))
+    except (OSError, ValueError, AttributeError):
         pass
 
 

@@ -21,6 +21,8 @@ from page_support import SECONDS, Lines, program, until  # noqa: E402
 __all__ = ["SECONDS", "Hub", "Lines", "calculator", "program", "run_hub", "until"]
 FILES = ["calc.ast", "tree.txt", "calc.jrag"]
 ENVIRONMENT = {**os.environ, "PYTHONPATH": os.pathsep.join(PYTHONPATH)}
+# With it Python writes at once, and so hides what is left to be written at its end.
+ENVIRONMENT.pop("PYTHONUNBUFFERED", None)
 
 
 def calculator(folder: Path) -> List[str]:

@@ -11,7 +11,6 @@ import tempfile
 import time
 import unittest
 from contextlib import redirect_stderr
-from io import StringIO
 from pathlib import Path
 from typing import Dict, List, Tuple
 from unittest import mock
@@ -204,11 +203,12 @@ class Editors(unittest.TestCase):
 
 class Logs(unittest.TestCase):
     def told(self, environment: "dict[str, str]") -> List[str]:
-        with mock.patch.dict(os.environ, environment), redirect_stderr(StringIO()) as lines:
+        with mock.patch.dict(os.environ, environment), tempfile.TemporaryFile("w+") as lines, redirect_stderr(lines):
             if not environment:
                 os.environ.pop("JOURNAL_STREAM", None)
             log(Level.WARNING, "one\ntwo")
-        return lines.getvalue().splitlines()
+            lines.seek(0)
+            return lines.read().splitlines()
 
     def test_times_where_the_system_s_journal_has_none(self) -> None:
         before = time.time()
