@@ -1,4 +1,6 @@
 """A client of `attrd`, the attribute tree server."""
+from typing import TYPE_CHECKING, Any
+
 from .connection import Connection, Pending, accepted
 from .costs import Costs
 from .diagnostics import Check, Diagnostic, Diagnostics, diagnostics
@@ -19,7 +21,9 @@ from .session import Mark, Question, Session
 from .terms import Node, read_term, write_term
 from .versions import VERSION, VersionWarning
 from .view import View, Views
-from .why import Bounds, Circle, Instance, NoReason, Reason, Why
+
+if TYPE_CHECKING:
+    from .why import Bounds, Circle, Instance, NoReason, Reason, Why
 
 __all__ = [
     "Answer", "AskValue", "AspectFault", "AttrdError", "Bounds", "Check", "Circle", "Circular", "ClassOf", "Code", "Connection",
@@ -32,3 +36,14 @@ __all__ = [
     "accepted", "applied", "connect", "diagnostics", "difference", "explain", "forms_options", "gathering_options", "kept_for",
     "known_options", "lasting_options", "measured", "nodes_of", "program_version", "read_term", "sizing_options", "start", "write_term",
 ]
+
+# These read aspects, and what they need is a fifth of a client's start: it is loaded where one of them is asked for.
+_OF_WHY = ("Bounds", "Circle", "Instance", "NoReason", "Reason", "Why")
+
+
+def __getattr__(name: str) -> Any:
+    """The name of this package that isn't loaded yet. Raises AttributeError where there is none."""
+    if name not in _OF_WHY:
+        raise AttributeError(f"module 'attrd' has no attribute '{name}'")
+    from . import why
+    return getattr(why, name)
