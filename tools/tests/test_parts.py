@@ -1,0 +1,85 @@
+"""How a module's text is divided in two: each function of the repository in one part, those of libraries where they are needed."""
+import re
+import sys
+import unittest
+from pathlib import Path
+from typing import List, Set
+
+ROOT = Path(__file__).resolve().parents[2]
+sys.path.insert(0, str(ROOT / "bench"))
+import parts  # noqa: E402
+
+MODULE = """source_filename = "rattle"
+@text = private unnamed_addr constant [1 x i8] c"x", align 1
+@table = private constant [2 x ptr] [ptr @"std::kept", ptr @"at_text::word"]
+
+define i32 @main() #0 {
+  call void @"attrd::main"()
+}
+
+define internal void @"attrd::main"() #0 {
+  call void @"at_engine::line"(ptr @text)
+  call void @"std::both<at_jrag::Word>"()
+}
+
+define internal void @"at_engine::line"(ptr %0) #0 {
+  call void @"std::only"()
+  call void @"std::both<at_jrag::Word>"()
+}
+
+define internal void @"std::only"() #0 {
+  call void @"at_text::word"()
+}
+
+define internal void @"std::both<at_jrag::Word>"() #0 {
+}
+
+define internal void @"at_text::word"() #0 {
+}
+
+define internal void @"std::kept"() #0 {
+}
+
+define internal void @"<&at_store::Node as core::eq>::eq"() #0 {
+}
+
+declare void @open(ptr)
+attributes #0 = { nounwind }"""
+CRATES = ("at_text", "at_jrag", "at_store", "at_engine", "attrd")
+
+
+class Divided(unittest.TestCase):
+    """A module with two crates that answer, two that read, and a library."""
+
+    def setUp(self) -> None:
+        self.answering, self.reading = parts.divided(MODULE.split("\n"), CRATES)
+
+    def names(self, text: List[str], begin: str) -> Set[str]:
+        """The names in the lines that begin so."""
+        return {parts.name_of(it).strip('"') for it in text if it.startswith(begin)}
+
+    def test_a_function_of_the_repository_stands_in_one_part(self) -> None:
+        answering, reading = (self.names(it, "define ") for it in (self.answering, self.reading))
+        both = {"std::both<at_jrag::Word>", "std::kept"}
+        self.assertEqual(answering, {"at_engine::line", "std::only", "<&at_store::Node as core::eq>::eq"} | both)
+        self.assertEqual(reading, {"main", "attrd::main", "at_text::word"} | both)
+
+    def test_what_the_other_part_calls_is_known_to_it(self) -> None:
+        self.assertEqual(self.names(self.answering, "declare hidden "), {"at_text::word"})
+        self.assertEqual(self.names(self.reading, "declare hidden "), {"at_engine::line"})
+        self.assertEqual(self.names(self.answering, "define hidden "), {"at_engine::line"})
+        self.assertEqual(self.names(self.reading, "define hidden "), {"at_text::word"})
+
+    def test_what_is_called_is_defined_or_declared(self) -> None:
+        for text in (self.answering, self.reading):
+            called = set(re.findall(r'(?:call void|ptr) @"([^"]*)"', "\n".join(text)))
+            self.assertLessEqual(called, self.names(text, "define ") | self.names(text, "declare "))
+
+    def test_what_stands_outside_of_functions_is_in_both(self) -> None:
+        for line in ('source_filename = "rattle"', "declare void @open(ptr)", "attributes #0 = { nounwind }"):
+            self.assertIn(line, self.answering)
+            self.assertIn(line, self.reading)
+
+
+if __name__ == "__main__":
+    unittest.main()
