@@ -29,12 +29,12 @@ help:
 	@echo "                     tries the crate's wrong bodies, which the prover has to refuse (1 to 5 minutes, behind make check)"
 	@echo "  make counts        long clauses, contracts and repeats (seconds)"
 	@echo "to test it:"
-	@echo "  make quick         all tests that need no proof, by a program that isn't proved (9 minutes of processor time, 6 where the program is taken up, over two cores)"
+	@echo "  make quick         nearly all tests that need no proof, by a program that isn't proved (4 minutes, 2 where the program is taken up)"
 	@echo "  make test          the gate: every proof, wrong bodies, tests, programs, examples (90 minutes; 15 where it passed before)"
 	@echo "  make examples      the examples of the pages alone (half a minute)"
 	@echo "  make program       the tests of the command line, streams and sockets alone (seconds)"
 	@echo "  make clients [T=test_update]"
-	@echo "                     the tests of the clients alone, or of one client or module (2 minutes)"
+	@echo "                     all tests of the clients, those that make quick leaves out too, or of one client or module (8 minutes)"
 	@echo "                     These three take PROGRAM=..; else ./attrd where it stands, else the program of make quick (2 minutes more)"
 	@echo "  make starve        four sessions with each bound of the cache, with each request for memory refused in turn (a minute, behind its proof)"
 	@echo "  make tries         the examples of single tries of equations (a minute, behind its proof)"
@@ -61,7 +61,7 @@ test: tools python
 	@python3 clients/run_tests.py crates/attrd/out/attrd
 	@python3 tools/examples.py --program crates/attrd/out/attrd --tries crates/tries/out/tries $(PAGES) tests/pages/TRIES.md
 
-# All tests that need no proof (see tools/quick.py).
+# All tests that need no proof, but those of the clients that take long (see tools/quick.py).
 quick: tools python
 	@tools/editors.sh nvim chromium || true
 	@python3 -B -m tools.quick $(PAGES)

@@ -5,7 +5,8 @@
 
 CLIENT is a folder of this one, such as lsp, and stands for all its tests; MODULE is a module of one of the folders
 clients/*/tests, such as test_update, or a test in it. Without one all of them run, but those that --but names. The last
-line is 'N passed, M failed'; the status is 1 where a test fails. Tests that need Neovim or Chromium fail where these are
+line is 'N passed, M failed'; the status is 1 where a test fails. Where the environment has ATTRD_SHORT the tests that take long are
+left out (at_length.py), and how many these were is told. Tests that need Neovim or Chromium fail where these are
 missing; with --skip-missing they are left out, and a line names the package.
 """
 import argparse
@@ -16,6 +17,8 @@ import sys
 import unittest
 from pathlib import Path
 from typing import Iterator, List, Optional, Sequence, Union
+
+from at_length import REASON
 
 FOLDERS = sorted(Path(__file__).resolve().parent.glob("*/tests"))
 # What a test imports that needs another program: the names that this may have, the first one being that of Debian's package.
@@ -78,7 +81,9 @@ def main() -> int:
     sys.path[:0] = [str(it) for tests in FOLDERS for it in (tests.parent, tests)]
     result = unittest.TextTestRunner(verbosity=1).run(without(tests_of(given.names, given.skip_missing), given.but))
     for test, reason in result.skipped:
-        print(f"skipped: {test.id()}: {reason}")
+        if reason != REASON:
+            print(f"skipped: {test.id()}: {reason}")
+    print(f"left out: {sum(reason == REASON for _, reason in result.skipped)}")
     failed = len(result.failures) + len(result.errors) + len(result.unexpectedSuccesses)
     print(f"{max(0, result.testsRun - failed - len(result.skipped))} passed, {failed} failed")
     return 0 if result.wasSuccessful() else 1

@@ -1,11 +1,12 @@
-"""Tests all that needs no proof, in nine minutes of processor time over two cores. Nothing is proved by it.
+"""Tests what needs no proof, but for tests of clients that take long, in four minutes on two processors. Nothing is proved by it.
 
     python3 -m tools.quick PAGE|FOLDER ..
 
 The program is the quick one (tools/quick_program.py). With it run the examples of the pages and sample folders, the tests of
 the program and those of the clients; beside it the counts (tools/counts.py --hold) and, where they are installed, mypy and
-pyflakes. Three parts run side by side. Of each it is told how many of its tests passed, and what it printed where one failed.
-The last line is 'N passed, M failed', a part that counts nothing being one; the status is 1 where one failed.
+pyflakes. While the program is built one part that needs none runs beside it, and then three side by side. Of each it is told how
+many of its tests passed, and what it printed where one failed. It is told, too, how many tests were left out. The last line is
+'N passed, M failed', a part that counts nothing being one; the status is 1 where one failed.
 
 The parts run a Python in which no package is installed. None is needed here, and what those of a machine have done at each start of
 Python may take several times as long as the start.
@@ -27,15 +28,21 @@ from typing import Callable, Dict, List, Sequence, Tuple
 from tools import quick_program
 from tools.sources import ROOT
 
-# Many of the tests wait for others, so more go on at once than there are processors.
+# Many of the tests wait for others, so more go on at once than there are processors. Beside the build, the first half of which is one
+# thread, there is one lane.
 LANES = 3
-# The parts that take longest, by processor time; one that begins last would have a processor wait.
-LONGEST = ("client lsp", "client hub", "the program")
-# What is tried less often than in the gate: kills of the hub, pairs of trees, and sessions by chance; and trees have fewer nodes.
-LESS = (("ATTRD_HUB_POINTS", "15"), ("ATTRD_PAIRS", "2000"), ("ATTRD_CIRCULAR_SESSIONS", "20"), ("ATTRD_MADE_SESSIONS", "20"),
-        ("ATTRD_TEST_NODES", "20000"))
+# The parts that take longest, by the clock; one that begins last would have a processor wait.
+LONGEST = ("client hub", "client hub, more", "client lsp", "the program", "client python")
+# The modules of a client that are a part by themselves.
+DIVIDED = {"hub": ("test_hub_hostile", "test_hub_operator", "test_hub_lost")}
+# What is tried less often than in the gate: kills of the hub, pairs of trees, sessions by chance, and caches under want of memory; and
+# trees have fewer nodes. With the last word the tests of clients that take long are left out (clients/at_length.py).
+LESS = (("ATTRD_HUB_POINTS", "15"), ("ATTRD_PAIRS", "800"), ("ATTRD_CIRCULAR_SESSIONS", "10"), ("ATTRD_MADE_SESSIONS", "10"),
+        ("ATTRD_TEST_NODES", "5000"), ("ATTRD_MEMORY_KEEPERS", "1"))
+SHORT = ("ATTRD_SHORT", "1")
 # Tests of clients that take long and start no program, so that they run while it is built.
-APART = ("test_grammars", "test_hub_turns", "test_lsp_again.Readings", "test_lsp_syntax", "test_terms")
+APART = ("test_grammars", "test_hub_journal", "test_hub_turns", "test_lsp_again.Edits.test_edits_of_a_part_make_the_whole_tree",
+         "test_lsp_again.Readings", "test_lsp_syntax", "test_terms", "test_update.Edits")
 # What goes on beside the build leaves the processors to that, for which all else waits.
 BESIDE = ("nice", "-n", "5")
 COUNTED = re.compile(r"^(\d+) passed, (\d+) failed$", re.M)
@@ -43,6 +50,7 @@ COUNTED = re.compile(r"^(\d+) passed, (\d+) failed$", re.M)
 RAN = re.compile(r"^Ran (\d+) tests? in ", re.M)
 FAILURES = re.compile(r"\b(?:failures|errors)=(\d+)")
 SKIPPED = re.compile(r"^skipped: .*$", re.M)
+LEFT_OUT = re.compile(r"^left out: (\d+)$", re.M)
 TOOLS_TESTS = ("discover", "-s", "tools/tests", "-t", ".")
 # What is typed in full beside the clients' packages.
 TYPED = ("bench", "clients/packaging/backend.py", "clients/run_tests.py", "tools")
@@ -66,6 +74,10 @@ class Outcome:
     failed: int
     printed: str
     seconds: float
+
+    def left_out(self) -> int:
+        """How many of its tests weren't run, since they take long."""
+        return sum(map(int, LEFT_OUT.findall(self.printed)))
 
     def tell(self) -> None:
         """Prints a line, what was left out, and all that was printed where something failed."""
@@ -124,10 +136,22 @@ def clients() -> List[str]:
     return sorted(it.parent.name for it in ROOT.glob("clients/*/tests"))
 
 
+def of_a_client(client: str, program: Path) -> List[Part]:
+    """The parts that test a client: one, or two where it is divided."""
+    apart, environment = DIVIDED.get(client, ()), (*LESS, SHORT)
+    command = python("clients/run_tests.py", "--skip-missing", *but(APART))
+    whole = Part(f"client {client}", [*command, *but(apart), str(program), client], environment)
+    return [whole, Part(f"client {client}, more", [*command, str(program), *apart], environment)] if apart else [whole]
+
+
+def but(names: Sequence[str]) -> List[str]:
+    """The words by which these tests are left out."""
+    return [word for it in names for word in ("--but", it)]
+
+
 def of_the_program(program: Path, pages: Sequence[str]) -> List[Part]:
     """The parts that run a program, the longest first."""
-    but = [word for it in APART for word in ("--but", it)]
-    tests = [Part(f"client {it}", python("clients/run_tests.py", "--skip-missing", *but, str(program), it), LESS) for it in clients()]
+    tests = [part for it in clients() for part in of_a_client(it, program)]
     examples = Part("examples of pages", python("tools/examples.py", "--program", str(program), *pages))
     parts = [*tests, examples, Part("the program", python("tools/program.py", str(program)), LESS)]
     return sorted(parts, key=lambda it: LONGEST.index(it.name) if it.name in LONGEST else len(LONGEST))
@@ -166,16 +190,16 @@ def build() -> Outcome:
 
 def tested(pages: Sequence[str], room: Path) -> List[Outcome]:
     """Runs all parts, and tells each as it ends. Where the program can't be built those that run it are left out."""
-    with ThreadPoolExecutor(LANES) as pool:
-        def begin(work: Callable[[], Outcome]) -> "Future[Outcome]":
-            future = pool.submit(work)
+    with ThreadPoolExecutor(1) as beside, ThreadPoolExecutor(LANES) as pool:
+        def begin(work: Callable[[], Outcome], lanes: ThreadPoolExecutor) -> "Future[Outcome]":
+            future = lanes.submit(work)
             future.add_done_callback(lambda it: it.result().tell())
             return future
 
-        built = begin(build)
-        begun = [begin(partial(run, part, room)) for part in of_the_sources()]
+        built = begin(build, pool)
+        begun = [begin(partial(run, part, room), beside) for part in of_the_sources()]
         if built.result().failed == 0:
-            begun += [begin(partial(run, part, room)) for part in of_the_program(quick_program.PROGRAM, pages)]
+            begun += [begin(partial(run, part, room), pool) for part in of_the_program(quick_program.PROGRAM, pages)]
         else:
             print("not tried: what runs the program")
     return [built.result(), *(it.result() for it in begun)]
@@ -194,6 +218,7 @@ def main() -> int:
         # a process that a test has left may still write there
         shutil.rmtree(room, ignore_errors=True)
     passed, failed = sum(it.passed for it in outcomes), sum(it.failed for it in outcomes)
+    print(f"Left out: {sum(it.left_out() for it in outcomes)} tests that take long; make clients runs them, too, and more by chance.")
     print(f"In {time.monotonic() - began:.0f} s. Nothing was proved: make check C=.. proves a crate, and make test everything.")
     print(f"{passed} passed, {failed} failed")
     return 1 if failed else 0

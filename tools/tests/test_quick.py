@@ -6,10 +6,11 @@ import sys
 import tempfile
 import unittest
 from pathlib import Path
+from typing import List, Tuple
 from unittest import mock
 
 from tools.of_the_program import test_circular, test_made
-from tools.quick import APART, LESS, Part, environment_of, furnish, of_the_program, outcome_of, python
+from tools.quick import APART, DIVIDED, LESS, SHORT, Part, environment_of, furnish, of_the_program, outcome_of, python
 
 ROOT = Path(__file__).resolve().parents[2]
 sys.path.insert(0, str(ROOT / "clients"))
@@ -37,6 +38,11 @@ class Counting(unittest.TestCase):
 
     def test_a_status_that_is_not_0_is_a_failure_whatever_was_counted(self) -> None:
         self.assert_counted(1, "5 passed, 0 failed\n", 5, 1)
+
+
+    def test_what_was_left_out_is_counted(self) -> None:
+        self.assertEqual(outcome_of("a part", 0, "left out: 7\n4 passed, 0 failed\n", 0.0).left_out(), 7)
+        self.assertEqual(outcome_of("a part", 0, "4 passed, 0 failed\n", 0.0).left_out(), 0)
 
 
 class Environment(unittest.TestCase):
@@ -76,7 +82,20 @@ class Apart(unittest.TestCase):
         parts = [it for it in of_the_program(Path("attrd"), []) if it.name.startswith("client ")]
         self.assertGreater(len(parts), 3)
         for part in parts:
-            self.assertEqual([it for before, it in zip(part.command, part.command[1:]) if before == "--but"], list(APART))
+            self.assertEqual(self.left_out(part)[:len(APART)], list(APART))
+
+    def left_out(self, part: Part) -> List[str]:
+        """What this part leaves out."""
+        return [it for before, it in zip(part.command, part.command[1:]) if before == "--but"]
+
+    def test_what_a_divided_client_leaves_out_of_one_part_is_the_other(self) -> None:
+        parts = {it.name: it for it in of_the_program(Path("attrd"), [])}
+        for client, modules in DIVIDED.items():
+            self.assertEqual(self.left_out(parts[f"client {client}"])[len(APART):], list(modules))
+            self.assertEqual(list(parts[f"client {client}, more"].command[-len(modules):]), list(modules))
+            self.assertEqual(self.left_out(parts[f"client {client}, more"]), list(APART))
+            for module in modules:
+                self.assertTrue((ROOT / "clients" / client / "tests" / f"{module}.py").exists())
 
     def test_what_is_left_out_is_a_module_a_class_or_a_test(self) -> None:
         tests = unittest.defaultTestLoader.loadTestsFromTestCase(Counting)
@@ -86,12 +105,48 @@ class Apart(unittest.TestCase):
             self.assertEqual([it.id() for it in run_tests.each(run_tests.without(tests, [left_out]))], kept)
 
 
+class Short(unittest.TestCase):
+    """The tests of clients that take long."""
+
+    SCRIPT = """import unittest
+from at_length import REASON, at_length
+
+class Two(unittest.TestCase):
+    @at_length
+    def test_long(self):
+        pass
+
+    def test_short(self):
+        pass
+
+result = unittest.TextTestRunner().run(unittest.defaultTestLoader.loadTestsFromTestCase(Two))
+print(result.testsRun, [reason == REASON for _, reason in result.skipped])
+"""
+
+    def told(self, *words: Tuple[str, str]) -> str:
+        environment = {it: text for it, text in os.environ.items() if it != SHORT[0]}
+        ran = subprocess.run([sys.executable, "-c", self.SCRIPT], cwd=ROOT / "clients", env={**environment, **dict(words)},
+                             capture_output=True, text=True, check=True)
+        return ran.stdout
+
+    def test_they_are_left_out_where_the_word_is_given(self) -> None:
+        self.assertEqual(self.told(SHORT), "2 [True]\n")
+        self.assertEqual(self.told(), "2 []\n")
+
+    def test_each_module_has_others(self) -> None:
+        marked = re.compile(r"^    @at_length\n    def test_", re.M)
+        for file in ROOT.glob("clients/*/tests/test_*.py"):
+            text = file.read_text(encoding="utf-8")
+            self.assertLess(len(marked.findall(text)), len(re.findall(r"^    (?:async )?def test_", text, re.M)), file.name)
+
+
 class Less(unittest.TestCase):
     """What is tried less often than in the gate, where no word of the environment says how often."""
 
     def test_each_word_has_a_test_try_less_than_usual(self) -> None:
         usual = re.compile(r'os\.environ\.get\("(ATTRD_\w+)", "(\d+)"\)')
-        texts = [it.read_text(encoding="utf-8") for it in ROOT.glob("clients/*/tests/*.py")]
+        files = [*ROOT.glob("clients/*/tests/*.py"), *ROOT.glob("tools/of_the_program/*.py")]
+        texts = [it.read_text(encoding="utf-8") for it in files]
         found = [(name, int(count)) for text in texts for name, count in usual.findall(text)]
         found += [("ATTRD_CIRCULAR_SESSIONS", test_circular.SESSIONS), ("ATTRD_MADE_SESSIONS", test_made.SESSIONS)]
         for name, count in LESS:

@@ -18,6 +18,7 @@ import unittest
 from pathlib import Path
 from typing import Callable, Dict, List, Optional
 
+from at_length import at_length
 from hub_support import SECONDS, Hub, Lines, until
 
 from attrd_hub.status import asked
@@ -190,6 +191,7 @@ class LongReplies(Case):
             self.assertGreater(got, hub.length * 9 // 10)
         return processor_seconds(hub.process.pid) - before
 
+    @at_length
     def test_processor_time_goes_with_the_length(self) -> None:
         """A reply of 32 MB takes at most four times the time of one of 8 MB."""
         hubs = [self.wide(it, "--nodes", "600000") for it in (self.SHORT, self.LONG)]
@@ -239,10 +241,12 @@ class Marks(Case):
         self.assertEqual(client.ask("0 mark last /Block"), f"0 ok {rounds}")
         self.assertEqual(client.ask("0 where last"), "0 = /Block")
 
+    @at_length
     def test_marks_with_long_names_whose_nodes_went_take_no_memory(self) -> None:
         """The names take 30 MB in all."""
         self.gone(100, 6_000)
 
+    @at_length
     def test_a_hundred_thousand_marks_whose_nodes_went_take_no_memory(self) -> None:
         """The names, with what Python takes for each, are more than 25 MB."""
         self.gone(2_000, 200)
@@ -317,6 +321,7 @@ class Fairness(Case):
         served = self.served(self.versions(hub, [[b"0 show /"] * 20] * 64, 1))
         self.assertGreaterEqual(2 * served[0], served[-1], served)
 
+    @at_length
     def test_who_waits_for_none(self) -> None:
         """Also of clients that send all their lines at once."""
         hub = self.slow_hub(40)
@@ -367,15 +372,19 @@ class Beside(Case):
         self.assertLess(waits[-4], max(0.1, 5 * alone), told)
         self.assertLess(waits[-1], 0.5, told)
 
+    @at_length
     def test_new_clients(self) -> None:
         self.beside(lambda number: self.SLOW % (10 + number))
 
+    @at_length
     def test_clients_that_send_many_at_once(self) -> None:
         self.beside(lambda number: self.SLOW % (10 + number), at_once=30)
 
+    @at_length
     def test_clients_that_come_anew_for_each(self) -> None:
         self.beside(lambda number: self.SLOW % (10 + number), is_new=True)
 
+    @at_length
     def test_clients_of_which_each_fourth_question_takes_long(self) -> None:
         self.beside(lambda number: self.QUIET if number // 200 % 4 else self.SLOW % (10 + number))
 
@@ -412,6 +421,7 @@ class Unread(Case):
     def test_four_hundred_kilobytes(self) -> None:
         self.beside(400_000, 100)
 
+    @at_length
     def test_four_megabytes(self) -> None:
         self.beside(4_000_000, 30)
 

@@ -15,6 +15,7 @@ from pathlib import Path
 from typing import Dict, List, Tuple
 from unittest import mock
 
+from at_length import at_length
 from hub_support import CLIENTS, ENVIRONMENT, SECONDS, Hub, calculator, program, run_hub
 
 import attrd_hub.language
@@ -124,6 +125,7 @@ class Figures(unittest.TestCase):
         for name in ("attrd_hub_lines_total", "attrd_hub_edits_total", "attrd_hub_connections_total"):
             self.assertEqual(found[name][0], "counter")
 
+    @at_length
     def test_no_hub_for_prometheus(self) -> None:
         status, told = run_hub("--status=prometheus", "--socket", "/nowhere/s")
         self.assertEqual(status, 3)
@@ -259,6 +261,7 @@ class Checks(unittest.TestCase):
         self.assertEqual(status, 1)
         self.assertRegex(lines[-1], r"^fault: .*calc\.jrag:1:34: J3 unknown name")
 
+    @at_length
     def test_a_grammar_that_the_term_doesn_t_fit(self) -> None:
         grammar = Path(self.hub.files[0])
         grammar.write_text(grammar.read_text("utf-8").replace("Decl", "Declaration"), "utf-8")
@@ -284,6 +287,7 @@ class Checks(unittest.TestCase):
         journal.write_bytes(whole)
         self.assertEqual(self.check()[0], 0)
 
+    @at_length
     def test_an_edit_that_was_cut_off(self) -> None:
         self.hub.kill()
         journal = self.hub.state / "journal-0"
@@ -302,6 +306,7 @@ class Checks(unittest.TestCase):
             self.assertIn(name, lines[-1])
             (self.hub.state / name).write_bytes(before)
 
+    @at_length
     def test_before_the_first_start(self) -> None:
         with tempfile.TemporaryDirectory() as name:
             files = list(map(str, calculator(Path(name))))
@@ -315,6 +320,7 @@ class Checks(unittest.TestCase):
             self.assertEqual(status, 1, told)
             self.assertFalse(state.exists())
 
+    @at_length
     def test_other_words(self) -> None:
         for words, wanted, part in (
                 (["--group", "no-such-group"], 3, "no-such-group: there is no such group"),
@@ -357,6 +363,7 @@ class Languages(unittest.TestCase):
 
 
 class Versions(unittest.TestCase):
+    @at_length
     def test_each_client_program_tells_its_version(self) -> None:
         paths = os.pathsep.join(str(CLIENTS / it) for it in ("python", "hub", "lsp", "page"))
         for module, name in (("attrd_hub", "attrd-hub"), ("attrd_lsp", "attrd-lsp"), ("attrd_page", "attrd-page"),

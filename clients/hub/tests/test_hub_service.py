@@ -15,6 +15,7 @@ import unittest
 from pathlib import Path
 from typing import List
 
+from at_length import at_length
 from hub_support import ENVIRONMENT, SECONDS, Hub, Lines, calculator, program, run_hub, until
 
 TERM = '= Program(Block([Decl("x",Num(1)),Print(Add(Use("x"),Num(2)))]))'
@@ -209,6 +210,7 @@ class Restarts(unittest.TestCase):
         client.send("0 version", "0 show /Block/Stmt:0")
         self.assertEqual([client.reply(), client.reply()], ["0 ok 11000", '0 = Decl("n10999",Num(1))'])
 
+    @at_length
     def test_a_tree_has_as_many_nodes_as_is_said(self) -> None:
         """Also behind a restart. The calculator's has eight."""
         hub = self.hub("--nodes", "9")
@@ -218,6 +220,7 @@ class Restarts(unittest.TestCase):
         hub.start()
         self.assertEqual([hub.client().ask(it) for it in (insert, "0 drop /Block/Stmt:0", insert)], ["0 refused 12 limit", "0 ok 2", "0 ok 3"])
 
+    @at_length
     def test_a_term_of_more_than_four_megabytes_is_written_and_read_again(self) -> None:
         hub = self.hub()
         hub.kill()
@@ -239,6 +242,7 @@ class Restarts(unittest.TestCase):
         self.assertEqual(status, 2)
         self.assertIn("0 is not in 1..=16777216", told)
 
+    @at_length
     def test_forms_that_are_left_out_else(self) -> None:
         hub = self.hub()
         hub.kill()
@@ -309,6 +313,7 @@ class Words(unittest.TestCase):
         self.assertIn("calc.jrag:1:34: J3 unknown name", told)
         self.assertFalse(Path(self.socket).exists())
 
+    @at_length
     def test_statuses(self) -> None:
         (self.folder / "token").write_text("short")
         for words, wanted, part in (

@@ -9,6 +9,7 @@ from pathlib import Path
 from typing import List
 from unittest import mock
 
+from at_length import at_length
 from hub_support import Hub, calculator, run_hub
 
 from attrd_hub.folder import StateFault, read_folder
@@ -261,6 +262,7 @@ class Starts(unittest.TestCase):
         hub.start()
         self.assertEqual(hub.client().ask("0 show /"), '0 = Program(Block([Decl("y",Num(1))]))')
 
+    @at_length
     def test_a_state_that_is_refused(self) -> None:
         hub = Hub()
         self.addCleanup(hub.close)

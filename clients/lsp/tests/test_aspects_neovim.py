@@ -6,6 +6,7 @@ import tempfile
 import unittest
 from pathlib import Path
 
+from at_length import at_length
 from aspects_support import write_small
 from lsp_support import CLONE, LSP, program
 from neovim import Neovim
@@ -44,17 +45,20 @@ class Aspects(unittest.TestCase):
         self.editor.keys("u")
         self.editor.until("return #vim.diagnostic.get(0) == 0")
 
+    @at_length
     def test_the_meaning_of_a_name(self) -> None:
         self.editor.keys("4G0fgK")
         shown = self.editor.until(FLOATING)
         self.assertEqual(shown, ["Decl ::= [Declared:KindUse]", "KindUse getDeclared()", "boolean hasDeclared()"])
 
+    @at_length
     def test_going_to_the_grammar(self) -> None:
         self.editor.keys("4G0fg")
         self.editor.keys("gd")
         self.editor.until("return vim.endswith(vim.api.nvim_buf_get_name(0), 'small.ast')")
         self.assertEqual(self.editor.until("local it = vim.api.nvim_win_get_cursor(0) return it[1] == 10 and it"), [10, 22])
 
+    @at_length
     def test_equations_and_uses_are_listed(self) -> None:
         self.editor.keys("6G0fk")
         self.editor.keys("gi")

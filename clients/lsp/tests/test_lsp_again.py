@@ -9,6 +9,7 @@ from dataclasses import replace
 from pathlib import Path as FilePath
 from unittest import mock
 
+from at_length import at_length
 from attrd import Grammar, Move, Node, Path, TermFault, applied, difference
 from attrd.edits import below
 from attrd_lsp.checking import Console
@@ -200,6 +201,7 @@ class Edits(unittest.TestCase):
                 moves += sum(isinstance(it, Move) for it in edits)
         self.assertGreater(moves, 50)
 
+    @at_length
     def test_a_tree_near_its_limit_and_one_too_large(self):
         """By a program without the option --nodes: the limit is 65,536."""
         console = Console()

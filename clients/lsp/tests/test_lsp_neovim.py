@@ -10,6 +10,7 @@ import unittest
 from pathlib import Path
 from typing import List
 
+from at_length import at_length
 from attrd_lsp.small.language import DATA
 from lsp_support import CLASS_NODES, CLONE, LSP, SMALL, children, large_program, program
 from neovim import EditorFault, Neovim
@@ -183,6 +184,7 @@ class OnFaults(unittest.TestCase):
         types.write_text(text.replace('eq Num.kind() = lookupKind("int");', 'eq Num.kind() = lookupKind("int", 1);'), "utf-8")
         return types
 
+    @at_length
     def test_a_program_that_ends_is_told_and_started_anew(self) -> None:
         folder = Folder(SMALL)
         self.addCleanup(folder.temporary.cleanup)

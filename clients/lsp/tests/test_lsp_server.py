@@ -7,6 +7,7 @@ import tempfile
 import unittest
 from pathlib import Path
 
+from at_length import at_length
 from lsp_support import LSP, PYTHONPATH, SMALL, Client, Editing, Ended, children, program, ranges, shown, tutorial_file
 from attrd_lsp.small.language import DATA, NoLanguage, in_folder
 
@@ -158,6 +159,7 @@ class OnTheTutorialsProgram(unittest.TestCase):
         self.client.write(*(self.document.changed(old, new) for old, new in (("x + r", "a + r"), ("a + r", "b + r"), ("b + r", "c + r"))))
         self.assertEqual(self.document.settled(), ["7:11 no declaration of c"])
 
+    @at_length
     def test_a_tree_of_more_nodes_than_the_usual_is_checked(self):
         """A file may also grow beyond them while its program runs."""
         for count in 32_800, 32_764:

@@ -6,6 +6,7 @@ import time
 import unittest
 from typing import Any
 
+from at_length import at_length
 from browser import ALT, CONTROL, Browser, Tab
 from page_support import Served
 
@@ -68,6 +69,7 @@ class Windows(unittest.TestCase):
         self.client.ask("0 drop /Kind:3/Block/Stmt:1")
         self.shows(tab, card, "its node is gone")
 
+    @at_length
     def test_the_card_of_the_node_is_seen_without_scrolling(self) -> None:
         """In a window of 1280 by 800, with a node of many attributes and with probes; and it stays where the probes are scrolled."""
         tab = self.window()
@@ -118,6 +120,7 @@ class Windows(unittest.TestCase):
         text = self.probe(tab, "/", "firstName")
         self.shows(tab, text, "fault null", "in firstName() of", "Program")
 
+    @at_length
     def test_keys_alone(self) -> None:
         tab = self.window()
         for _ in range(3):
@@ -174,6 +177,7 @@ class Windows(unittest.TestCase):
         self.submit(tab, "token Value", "12")
         tab.until("document.getElementById('fault').textContent === ''", "the refusal goes")
 
+    @at_length
     def test_probes_and_edits_stay_over_a_reload(self) -> None:
         tab = self.window()
         card = self.probe(tab, "/Kind:2/Block/Stmt:0/Init/Left", "decl")
@@ -187,6 +191,7 @@ class Windows(unittest.TestCase):
         tab.value("document.querySelector('.close').click()")
         tab.until("location.hash === ''", "a probe that is removed is in the address no more")
 
+    @at_length
     def test_own_edits_are_undone(self) -> None:
         tab = self.window()
         before = self.client.ask("0 show /")
@@ -206,6 +211,7 @@ class Windows(unittest.TestCase):
         self.assertIn('Name("q")', self.client.ask("0 show /"))
         self.assertIn('Name("x")', before)
 
+    @at_length
     def test_all_nodes_of_a_class(self) -> None:
         tab = self.window()
         self.select(tab, "/Kind:2/Block/Stmt:0/Init/Left")
@@ -218,6 +224,7 @@ class Windows(unittest.TestCase):
         tab.call("Page.reload")
         self.shows(tab, "[data-probe='1']", "all Expr", "1 of 8 not empty")
 
+    @at_length
     def test_a_probe_of_a_result(self) -> None:
         tab = self.window()
         card = self.probe(tab, "/Kind:2/Block/Stmt:0/Init/Left", "decl")
@@ -241,6 +248,7 @@ class Windows(unittest.TestCase):
         tab.value(f"document.querySelector({json.dumps(card + ' .ask-why')}).click()")
         tab.until(f"!document.querySelector({json.dumps(card + ' .why')}).textContent", "it is closed again")
 
+    @at_length
     def test_aspects_that_change_are_taken(self) -> None:
         tab = self.window()
         card = self.probe(tab, "/Kind:2/Block/Stmt:0/Init/Left", "error")
@@ -260,6 +268,7 @@ class Windows(unittest.TestCase):
         self.addCleanup(again.close)
         self.assertIn('Name("q")', again.ask("0 show /"))
 
+    @at_length
     def test_nothing_comes_from_elsewhere(self) -> None:
         tab = self.window()
         names = tab.value("performance.getEntriesByType('resource').map((it) => it.name)")
@@ -269,6 +278,7 @@ class Windows(unittest.TestCase):
         self.assertTrue(tab.value("[...document.querySelectorAll('input, select, textarea')].every((it) => it.labels.length || it.ariaLabel)"))
         self.assertTrue(tab.value("[...document.querySelectorAll('button')].every((it) => it.textContent.trim() || it.ariaLabel)"))
 
+    @at_length
     def test_a_window_that_is_closed_leaves_no_marks(self) -> None:
         tab = self.browser.window(self.served.address)
         tab.until("document.getElementById('path')", "the tree")

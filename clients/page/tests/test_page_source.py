@@ -12,6 +12,7 @@ import unittest
 from pathlib import Path
 from typing import List, Tuple
 
+from at_length import at_length
 from browser import Browser
 from page_support import CLONE, SECONDS, Served, program
 
@@ -150,6 +151,7 @@ class InTheBrowser(unittest.TestCase):
         self.tab.value(f"document.getElementById('source-text').setSelectionRange({TEXT.index(text) + len(text)}, {TEXT.index(text) + len(text)})")
         self.tab.value("document.getElementById('source-text').dispatchEvent(new Event('click'))")
 
+    @at_length
     def test_a_probe_at_a_place_and_typing(self) -> None:
         tab, client = self.tab, self.served.client()
         self.addCleanup(client.close)

@@ -13,6 +13,7 @@ from pathlib import Path
 from typing import Any, Dict, List, Optional
 from unittest import mock
 
+from at_length import at_length
 from page_support import CLONE, SECONDS, Served, program, until
 
 from attrd import forms_options, known_options
@@ -193,6 +194,7 @@ class Web(unittest.TestCase):
         page.do(do="edit", edit="token", id=page.number("/Kind:2/Block/Stmt:0/Init/Right"), part="Value", value="1x")
         self.assertIn("is no number", page.told("refused")["text"])
 
+    @at_length
     def test_more_probes_than_a_session_has_marks(self) -> None:
         page = self.page()
         number = page.number("/Kind:2")
@@ -210,6 +212,7 @@ class Web(unittest.TestCase):
 
 
 class Options(unittest.TestCase):
+    @at_length
     def test_a_program_that_runs_long_keeps_no_more_than_is_said(self) -> None:
         keeping = str(CLONE / "clients" / "lsp" / "tests" / "keeping.py")
         with tempfile.TemporaryDirectory(prefix="attrd-page-test-") as folder:
@@ -223,6 +226,7 @@ class Options(unittest.TestCase):
 
 class Sizes(unittest.TestCase):
     @unittest.skipUnless("--nodes" in known_options(program()), "the program has no option --nodes")
+    @at_length
     def test_a_tree_of_more_nodes_than_the_usual_is_opened_and_edited(self) -> None:
         def files(folder: Path) -> List[str]:
             texts = {"row.ast": "Row ::= Item*;\nItem ::= <ID>;\n", "row.txt": "Row([" + ",".join(['Item("a")'] * 66_000) + "])\n",
@@ -240,6 +244,7 @@ class Sizes(unittest.TestCase):
 
 
 class Work(unittest.TestCase):
+    @at_length
     def test_a_page_that_ends_while_it_counts(self) -> None:
         """Whenever that is: while a copy begins, runs or has ended."""
         for wait in (0.0, 0.01, 0.02, 0.03, 0.05, 0.1):

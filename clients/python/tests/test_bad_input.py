@@ -6,6 +6,7 @@ import tempfile
 import unittest
 from pathlib import Path as FilePath
 
+from at_length import at_length
 import attrd
 from attrd import commands
 from support import CALCULATOR, PROGRAM, ROOT, ServerTest, calculator_grammar
@@ -87,6 +88,7 @@ class CommandLines(unittest.TestCase):
         self.assertTrue(ran.stderr.strip(), words)
         return ran.returncode, ran.stderr
 
+    @at_length
     def test_files(self):
         files = [str(CALCULATOR / it) for it in ("calc.ast", "tree.txt", "calc.jrag")]
         for command in (["attrd"], ["attrd_page", "--no-browser"]):
@@ -97,6 +99,7 @@ class CommandLines(unittest.TestCase):
                     self.assertEqual(told[0], status, told)
                     self.assertTrue(told[1].startswith(f"{name}:"), told)
 
+    @at_length
     def test_programs(self):
         files = [str(CALCULATOR / it) for it in ("calc.ast", "tree.txt", "calc.jrag")]
         wanted = {"/nosuch/attrd": "No such file", "empty": "there is no such program on the PATH (a file here is ./empty)",
@@ -106,6 +109,7 @@ class CommandLines(unittest.TestCase):
                 told = self.told(*command, "--program", program, *files)
                 self.assertEqual((told[0], reason in told[1]), (3, True), told)
 
+    @at_length
     def test_the_pages_options(self):
         files = [str(CALCULATOR / it) for it in ("calc.ast", "tree.txt", "calc.jrag")]
         for words in (["--port", "99999"], ["--port", "-1"], ["--listen", "/nosuch/x"], ["--listen", "folder"], ["--listen", "x" * 200],

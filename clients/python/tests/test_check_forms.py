@@ -3,6 +3,7 @@ import random
 import re
 import unittest
 
+from at_length import at_length
 import attrd
 from attrd.authoring import Source, check
 from attrd.authoring.ways import PAGE, SECTIONS, section
@@ -235,6 +236,7 @@ class Page(unittest.TestCase):
                 count += 1
         self.assertGreater(count, 40)
 
+    @at_length
     def test_the_program_and_check_agree(self):
         """The fault that the program tells of a row is among those that are found, with its code and its place."""
         count = 0

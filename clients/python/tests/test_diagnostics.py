@@ -2,6 +2,7 @@
 import unittest
 from random import Random
 
+from at_length import at_length
 import attrd
 from attrd import Check, Diagnostics, Document, Grammar, diagnostics
 from attrd.declarations import attributes_of
@@ -137,6 +138,7 @@ class LongLists(unittest.TestCase):
         self.addCleanup(server.close)
         return found, server.session()
 
+    @at_length
     def test_counts_of_lists_of_many_lengths(self):
         random, leaf = Random(6), attrd.Node("Kind", False, ())
         found, session = self.started(self.GRAMMAR, attrd.Node("Top", (), "n", (), leaf, None), self.ASPECT, ["isBad"])

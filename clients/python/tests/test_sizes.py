@@ -4,6 +4,7 @@ import socket
 import tempfile
 import unittest
 
+from at_length import at_length
 import attrd
 from attrd import Code, Document, Grammar, Node, difference
 from attrd.lexical import MOST_NODES, TREE_NODES
@@ -62,6 +63,7 @@ class Servers(unittest.TestCase):
         self.addCleanup(server.close)
         return server
 
+    @at_length
     def test_a_tree_of_more_nodes_is_updated(self):
         tree = row(TREE_NODES + 2)
         server = self.start(tree, nodes=100_000)
@@ -108,6 +110,7 @@ class Servers(unittest.TestCase):
                 self.start(row(1), nodes=nodes)
             self.assertEqual(caught.exception.status, 2)
 
+    @at_length
     def test_a_file_that_is_refused_is_explained(self):
         with tempfile.TemporaryDirectory() as folder:
             files = [os.path.join(folder, it) for it in ("row.ast", "row.txt", "row.jrag")]
