@@ -98,7 +98,11 @@ class Reader:
         self.is_over = False
         self.stream = socket.socket(socket.AF_UNIX, socket.SOCK_STREAM)
         self.stream.settimeout(SECONDS)
-        self.stream.connect(path)
+        try:
+            self.stream.connect(path)
+        except OSError:
+            # It is killed by now.
+            self.is_over = True
 
     def send(self) -> None:
         """Sends its edits, each behind questions."""
