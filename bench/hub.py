@@ -5,20 +5,25 @@
 
 First each client sends a line, waits for its reply, and sends the next one. Then all clients send all their lines without waiting.
 The clients are one process without asyncio, so that little of the time is theirs; what the hub's process takes for a line is told,
-too. Last come edits, with each way of making them safe. PROGRAM is ./attrd where none is given. It takes half a minute.
+too, and beside it what that of version 0.37 takes over the same program, by turns in one run, where the repository's history is
+there. Last come edits, with each way of making them safe. PROGRAM is ./attrd where none is given. It takes a minute.
 """
 from __future__ import annotations
 
+import io
 import os
 import select
+import shutil
 import socket
 import statistics
 import subprocess
 import sys
+import tarfile
 import tempfile
 import time
+from contextlib import ExitStack, contextmanager
 from pathlib import Path
-from typing import Dict, List, NamedTuple, Sequence, Tuple
+from typing import Dict, Iterator, List, NamedTuple, Optional, Sequence, Tuple
 
 from figures import ROOT, program_in, ratio, row, table
 
@@ -28,6 +33,9 @@ CLIENTS = (1, 16, 64)
 WAITING, PIPELINED, EDITS = 20_000, 400_000, 2_000
 LINE = b"0 where u\n"
 CHUNK = 1 << 16
+# The commit of version 0.37, beside whose hub this one is measured: so many times, with so many lines each.
+BEFORE = "f1843a60"
+ROUNDS, SHORT_WAITING, SHORT_PIPELINED = 30, 1_500, 40_000
 
 
 class Trips(NamedTuple):
@@ -132,6 +140,77 @@ def own_socket(program: str) -> Trips:
             process.wait()
 
 
+def earlier(folder: Path) -> Optional[Path]:
+    """The clients of version 0.37, put below the folder; None where the history isn't there."""
+    made = subprocess.run(["git", "archive", BEFORE, "clients"], cwd=ROOT, capture_output=True, check=False)
+    if made.returncode:
+        return None
+    with tarfile.open(fileobj=io.BytesIO(made.stdout)) as files:
+        files.extractall(folder)
+    return folder / "clients"
+
+
+@contextmanager
+def hub_of(clients: Path, program: str) -> Iterator[Tuple[str, int]]:
+    """A hub of these clients over the calculator: its socket, and its process."""
+    from hub_support import calculator, until
+    folder = Path(tempfile.mkdtemp(prefix="attrd-hub-"))
+    path = folder / "hub.sock"
+    environment = {**os.environ, "PYTHONPATH": os.pathsep.join([str(clients / "python"), str(clients / "hub")])}
+    process = subprocess.Popen([sys.executable, "-m", "attrd_hub", "--program", program, "--socket", str(path), "--state",
+                                str(folder / "state"), *calculator(folder)], env=environment, stderr=subprocess.DEVNULL)
+    try:
+        until(path.exists, "the hub's socket")
+        time.sleep(0.1)
+        yield str(path), process.pid
+    finally:
+        process.kill()
+        process.wait()
+        shutil.rmtree(folder)
+
+
+def taken(clients: Sequence[socket.socket], process: int, is_waiting: bool) -> float:
+    """The microseconds that the process takes for a line of these clients."""
+    before = processor_seconds(process)
+    if is_waiting:
+        waited(clients, SHORT_WAITING)
+    else:
+        pipelined(clients, SHORT_PIPELINED // len(clients))
+    return (processor_seconds(process) - before) / (SHORT_WAITING if is_waiting else SHORT_PIPELINED) * 1e6
+
+
+def compared(hubs: Sequence[Tuple[str, int]], clients: int, is_waiting: bool) -> Tuple[float, float, float]:
+    """The medians of what a line takes the first hub and the second one, and of the ratio in a round."""
+    opened = [[connected(path) for _ in range(clients)] for path, _ in hubs]
+    found: List[Tuple[float, ...]] = []
+    for number in range(ROUNDS):
+        order = (0, 1) if number % 2 else (1, 0)
+        times = {it: taken(opened[it], hubs[it][1], is_waiting) for it in order}
+        found.append((times[0], times[1], times[1] / times[0]))
+    for it in [*opened[0], *opened[1]]:
+        it.close()
+    first, second, ratios = zip(*found)
+    return statistics.median(first), statistics.median(second), statistics.median(ratios)
+
+
+def beside_earlier(program: str) -> None:
+    """Prints what a line takes this hub, against that of 0.37."""
+    with ExitStack() as stack:
+        before = earlier(Path(stack.enter_context(tempfile.TemporaryDirectory())))
+        if before is None:
+            print("\nThe history of the repository isn't there: the hub of 0.37 isn't measured.", flush=True)
+            return
+        hubs = [stack.enter_context(hub_of(it, program)) for it in (before, ROOT / "clients")]
+        table("Clients of the hub", "A round trip, the hub of 0.37", "This hub", "Ratio", "A line without waiting, 0.37", "This hub, without waiting",
+              "Ratio, without waiting")
+        for clients in CLIENTS:
+            cells: List[str] = []
+            for is_waiting in (True, False):
+                old, new, times = compared(hubs, clients, is_waiting)
+                cells += [f"{old:.2f} us", f"{new:.2f} us", f"{times:.2f}"]
+            row(clients, *cells)
+
+
 def edits(sync: str) -> List[float]:
     """The microseconds of an edit, with this way of making edits safe: one client that waits, and 64 at once."""
     from hub_support import Hub
@@ -171,6 +250,7 @@ def main(words: Sequence[str]) -> None:
     for what, it in found.items():
         row(what, f"{it.median:.0f} us", ratio(it.median, own.median), f"{it.late:.0f} us", f"{it.each_second:,.0f}", f"{it.taken:.1f} us",
             f"{it.lines:,.0f}", f"{it.lines_taken:.2f} us")
+    beside_earlier(program)
     table("Edits are made safe", "An edit of one client that waits", "An edit of 64 clients")
     for sync in ("each", "second", "never"):
         one, many = edits(sync)
