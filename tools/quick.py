@@ -37,7 +37,7 @@ LONGEST = ("client hub", "client hub, more", "client lsp", "the program", "clien
 DIVIDED = {"hub": ("test_hub_hostile", "test_hub_operator", "test_hub_lost")}
 # What is tried less often than in the gate: kills of the hub, pairs of trees, sessions by chance, and caches under want of memory; and
 # trees have fewer nodes. With the last word the tests of clients that take long are left out (clients/at_length.py).
-LESS = (("ATTRD_HUB_POINTS", "15"), ("ATTRD_PAIRS", "800"), ("ATTRD_CIRCULAR_SESSIONS", "10"), ("ATTRD_MADE_SESSIONS", "10"),
+LESS = (("ATTRD_HUB_POINTS", "15"), ("ATTRD_PAIRS", "250"), ("ATTRD_CIRCULAR_SESSIONS", "10"), ("ATTRD_MADE_SESSIONS", "10"),
         ("ATTRD_TEST_NODES", "5000"), ("ATTRD_MEMORY_KEEPERS", "1"))
 SHORT = ("ATTRD_SHORT", "1")
 # Tests of clients that take long and start no program, so that they run while it is built.

@@ -315,6 +315,7 @@ class Fairness(Case):
         half = sum(map(len, versions)) // 2
         return sorted(sum(it <= half for it in own) for own in versions)
 
+    @at_length
     def test_who_waits_for_each_reply(self) -> None:
         """Sixty-four clients, each with the same question that isn't quick: the slowest has at least half of the fastest one's replies."""
         hub = self.wide(MEGABYTE // 8)
@@ -418,6 +419,7 @@ class Unread(Case):
         # A megabyte for each, or one reply, and what is under way.
         self.assertLess(int(figures["unread"] or 0), min(300 * MEGABYTE, others * (MEGABYTE + 2 * length)), told)
 
+    @at_length
     def test_four_hundred_kilobytes(self) -> None:
         self.beside(400_000, 100)
 

@@ -83,6 +83,7 @@ class Figures(unittest.TestCase):
         self.assertRegex(text, rf"(?m)^version of the hub +{re.escape(VERSION)}$")
         self.assertRegex(text, rf"(?m)^version of the program +{re.escape(VERSION)}$")
 
+    @at_length
     def test_refusals_are_counted_by_their_codes(self) -> None:
         before = dict(self.figures()["refused_codes"])  # type: ignore[call-overload]
         client = self.hub.client()

@@ -227,6 +227,7 @@ class Folders(unittest.TestCase):
 
 
 class Starts(unittest.TestCase):
+    @at_length
     def test_a_tree_that_is_refused_can_be_corrected(self) -> None:
         with tempfile.TemporaryDirectory() as name:
             folder = Path(name)

@@ -203,6 +203,7 @@ class OnFaults(unittest.TestCase):
 class OnLargeFile(unittest.TestCase):
     """A program of many nodes in the editor."""
 
+    @at_length
     def test_typing_and_jumping(self) -> None:
         folder = Folder(large_program(LARGE))
         self.addCleanup(folder.temporary.cleanup)

@@ -226,6 +226,7 @@ class Page(unittest.TestCase):
         page = (ROOT / "docs" / PAGE).read_text(encoding="utf-8")
         self.assertEqual([section(it) for it in SECTIONS], re.findall(r"^## (\d+\. .*)$", page, re.M))
 
+    @at_length
     def test_each_form_of_the_page(self):
         """What a section of the page shows to be refused is told with a section; a J10 always is."""
         count = 0

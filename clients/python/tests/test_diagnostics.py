@@ -99,6 +99,7 @@ class Tutorial(unittest.TestCase):
         texts = [it.value if isinstance(it, attrd.Value) else f"error has no value: {it}" for _, it in asked]
         return [(str(path), text) for (path, _), text in zip(asked, texts) if text]
 
+    @at_length
     def test_edits_by_chance(self):
         random, counts, before = Random(5), set(), []
         for _ in range(80):

@@ -3,6 +3,7 @@ import os
 import random
 import unittest
 
+from at_length import at_length
 import attrd
 from attrd import Code, Costs, Document, Drop, Grammar, Node, SetNode, SetToken, applied, difference, read_term
 from support import CALCULATOR, PROGRAM, SAMPLES, ServerTest, Trees, calculator_grammar, page_files
@@ -193,6 +194,7 @@ class Documents(ServerTest):
         self.update(self.program(Node("Decl", "s", balanced(9000))))
         self.assertEqual(self.session.value("/Block/Stmt:0", "value"), 9000)
 
+    @at_length
     def test_a_full_tree(self):
         full = [Node("Decl", "x", None)] * (FULL - 3) + [Node("Decl", "y", None)]
         with attrd.start(CALCULATOR / "calc.ast", self.program(*full), CALCULATOR / "calc.jrag", program=PROGRAM, nodes=FULL) as server:
