@@ -42,6 +42,7 @@ use at_text::place::Place;
 use at_text::placed::place_all;
 use at_text::scan::{ScanFault, lexemes};
 use reader::{Breach, Reader};
+pub use rewriting::copy_of;
 use std::alloc::Global;
 
 /// What is wrong with a text that holds no aspects as JastAdd has them.

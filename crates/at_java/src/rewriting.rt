@@ -20,6 +20,7 @@ use crate::written::Statement;
 use at_jrag::{Expr, Word};
 use at_text::place::Place;
 use copying::copied;
+pub use copying::copy_of;
 use counting::has_fold;
 use rests::{Rest, chosen, refused, within};
 use searches::{Loop, alone, search_of, value_of};

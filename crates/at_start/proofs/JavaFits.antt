@@ -31,8 +31,10 @@ use Rattle.at_typing.specs.Located.{Located, from_aspect, from_file, located}
 use Rattle.at_typing.proofs.Starting.{IsBooleanForm, IsBooleanIn}
 use Rattle.at_model.specs.Classes.{Classes}
 use Rattle.at_start.specs.AspectFiles.{AllHold}
-use Rattle.at_start.specs.Redeclaring.{Signature, as_equation, aspect_read, files_read, is_declared_above, read_as, signature_in}
+use Rattle.at_start.specs.Redeclaring.{Signature, as_equation, aspect_read, files_read, is_declared_above, read_as, read_in, signature_in, signatures}
+use Rattle.at_start.specs.Spreading.{Head as Own, ending_if, form_for, is_among, spread}
 use Rattle.at_start.specs.declared.language.Language.TheVariants.{JastAdd}
+use Rattle.at_start.proofs.SpreadForms.{spread_have}
 use Rattle.at_start.proofs.JavaGiven.{Gives, gives_then, gives_behind, gives_either, gives_word, gives_sign}
 use Rattle.at_start.proofs.JavaNumbers.{expression_ints}
 use Rattle.at_start.proofs.JavaMeanings.{HasInts, HaveInts, MeansInts, rewritten_ints}
@@ -302,26 +304,47 @@ module _ (classes : Classes) (among : List Signature) where
   aspects_read_fit [] fit = tt
   aspects_read_fit (a ∷ as') fit = (decls_read_fit a.decls fit.0, aspects_read_fit as' fit.1)
 
+-- ---- what is declared for ASTNode
+
+ending_fits : (has_own : Bool) (e : Ending) → EndingInts e → EndingInts (ending_if has_own e)
+ending_fits true (syntax.With b) is = tt
+ending_fits true (syntax.Semicolon at) is = tt
+ending_fits false e is = is
+
+form_for_fits : (hs : List Own) (class : List ℕ) (form : DeclForm) → Fits form → IfSome (form_for hs class form) Fits
+form_for_fits hs class (syntax.Synthesized lazy kind of name params start ending) fits =
+    (ending_fits (is_among hs class name.text) ending fits.0, fits.1)
+form_for_fits hs class (syntax.Inherited lazy kind of name params start) fits = fits
+form_for_fits hs class (syntax.Equation of name params body) fits = tt
+form_for_fits hs class (syntax.InheritedEquation of getter index name params body) fits = tt
+
 -- ---- all files
 
-module _ (names : List Alias) (classes : Classes) (among : List Signature) where
-  hold_fits : (n : ℕ) (files : List (List ℕ)) (aspects : List (List Aspect)) → AllHold JastAdd names files aspects
+module _ (classes : Classes) (among : List Signature) where
+  located_fit : (n : ℕ) (aspects : List (List Aspect)) → AllByRecursion AllFit aspects
       → AllByRecursion LocatedFits (located n (files_read classes among aspects))
-  hold_fits n [] [] hold = tt
-  hold_fits n [] (a ∷ as') hold = absurd hold
-  hold_fits n (f ∷ fs) [] hold = absurd hold
-  hold_fits n (f ∷ fs) (a ∷ as') hold =
+  located_fit n [] fit = tt
+  located_fit n (a ∷ as') fit =
       let read = map (aspect_read classes among) a in
       all_both LocatedFits (from_file n read) (located (n + 1) (files_read classes among as'))
-      (file_fits n read (aspects_read_fit classes among a (read_fits (resolved_row names hold.0.written.tokens) a [] hold.0.written.is)))
-      (hold_fits (n + 1) fs as' hold.1)
+      (file_fits n read (aspects_read_fit classes among a fit.0)) (located_fit (n + 1) as' fit.1)
 
-  pub hold_ints : (n : ℕ) (files : List (List ℕ)) (aspects : List (List Aspect)) → AllHold JastAdd names files aspects
-      → AllByRecursion AreIntsIn (located n (files_read classes among aspects))
-  hold_ints n files aspects hold =
-      all_more LocatedFits AreIntsIn (located n (files_read classes among aspects)) (λ d fits. fits.0) (hold_fits n files aspects hold)
+module _ (names : List Alias) where
+  hold_fit : (files : List (List ℕ)) (aspects : List (List Aspect)) → AllHold JastAdd names files aspects → AllByRecursion AllFit aspects
+  hold_fit [] [] hold = tt
+  hold_fit [] (a ∷ as') hold = absurd hold
+  hold_fit (f ∷ fs) [] hold = absurd hold
+  hold_fit (f ∷ fs) (a ∷ as') hold =
+      (read_fits (resolved_row names hold.0.written.tokens) a [] hold.0.written.is, hold_fit fs as' hold.1)
 
-  pub hold_booleans : (n : ℕ) (files : List (List ℕ)) (aspects : List (List Aspect)) → AllHold JastAdd names files aspects
-      → AllByRecursion IsBooleanIn (located n (files_read classes among aspects))
-  hold_booleans n files aspects hold =
-      all_more LocatedFits IsBooleanIn (located n (files_read classes among aspects)) (λ d fits. fits.1) (hold_fits n files aspects hold)
+  module _ (classes : Classes) (files : List (List ℕ)) (aspects : List (List Aspect)) (hold : AllHold JastAdd names files aspects) where
+    read_fit : AllByRecursion LocatedFits (located 1 (read_in JastAdd classes aspects))
+    read_fit =
+        let all = spread classes aspects in
+        located_fit classes (signatures classes all) 1 all (spread_have Fits form_for_fits classes aspects (hold_fit files aspects hold))
+
+    pub hold_ints : AllByRecursion AreIntsIn (located 1 (read_in JastAdd classes aspects))
+    hold_ints = all_more LocatedFits AreIntsIn (located 1 (read_in JastAdd classes aspects)) (λ d fits. fits.0) read_fit
+
+    pub hold_booleans : AllByRecursion IsBooleanIn (located 1 (read_in JastAdd classes aspects))
+    hold_booleans = all_more LocatedFits IsBooleanIn (located 1 (read_in JastAdd classes aspects)) (λ d fits. fits.1) read_fit

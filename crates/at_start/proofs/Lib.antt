@@ -8,6 +8,8 @@ mod Started
 mod JavaGiven
 mod JavaNumbers
 mod JavaMeanings
+mod Spreads
+mod SpreadForms
 mod JavaFits
 mod RulesTyped
 pub mod WholeLemmas

@@ -4,7 +4,7 @@ use Rattle.std.proofs.Math.Seq.{drop-cons}
 use Rattle.std.proofs.lemmas.List.{drop_all}
 use Rattle.std.proofs.lemmas.List.Elements.{filter_map-append}
 use Rattle.std.specs.Option.{option_or}
-use Rattle.at_model.specs.Classes.{Classes, parts}
+use Rattle.at_model.specs.Classes.{Class, Classes, parts}
 use Rattle.at_model.specs.Declarations.{first_given}
 use Rattle.at_java.specs.Aliases.{Alias}
 use Rattle.at_start.specs.Lists.{alias_of, aliases_from}
@@ -40,6 +40,27 @@ module _ {A B : Type 0} (g : ℕ → Option B) where
 
   pub nowhere : (xs : List A) (i : ℕ) → length xs ≤ i → is_some (first_from i (drop i xs)) ≡ false
   nowhere xs i past = ap (λ ys. is_some (first_from i ys)) (drop_all i xs past)
+
+-- ---- what classes give, one after the other
+
+module _ {A : Type 0} (from : ℕ → Classes → List A) (classes : Classes) (i : ℕ) (before : List A) where
+  -- one more
+  pub next_class : (after part zs : List A) → i < length classes
+      → ((k : Class) (ks : Classes) → from i (k ∷ ks) ≡ part ++ from (i + 1) ks) → after ≡ before ++ part
+      → before ++ from i (drop i classes) ≡ zs → after ++ from (i + 1) (drop (i + 1) classes) ≡ zs
+  next_class after part zs less law new so_far =
+      let rest = from (i + 1) (drop (i + 1) classes) in
+      let there = next_there classes i less in
+      ap (λ xs. xs ++ rest) new ∙ append_assoc before part rest
+      ∙ ap (λ xs. before ++ xs) (sym (law there.0 (drop (i + 1) classes)))
+      ∙ ap (λ ks. before ++ from i ks) (sym there.1) ∙ so_far
+
+  -- none is left
+  pub none_left : (zs : List A) → length classes ≤ i → from i [] ≡ [] → before ++ from i (drop i classes) ≡ zs
+      → before ≡ zs
+  none_left zs past none so_far =
+      sym (ap (λ ks. before ++ from i ks) (drop_all i classes past) ∙ ap (λ xs. before ++ xs) none ∙ append-nil before)
+      ∙ so_far
 
 -- ---- short names
 

@@ -22,7 +22,7 @@ use Rattle.at_start.specs.AspectFiles.{GivesRules, AllHold, reads_circular}
 use Rattle.at_start.specs.declared.language.Language.{Language}
 use Rattle.at_start.specs.declared.language.Language.TheVariants.{Profile, JastAdd}
 use Rattle.at_start.specs.declared.fault.StartFault.{StartFault}
-use Rattle.at_start.specs.Redeclaring.{read_in, signatures}
+use Rattle.at_start.specs.Redeclaring.{read_in}
 use Rattle.at_start.proofs.JavaFits.{hold_booleans, hold_ints}
 use Rattle.at_start.proofs.Ruled.{made_builds}
 
@@ -42,10 +42,9 @@ given_well_formed (Profile forms) classes files rules hierarchy gives =
     built_well_formed classes gives.aspects rules hierarchy (hold_spelled forms (aliases_in (Profile forms) classes) files gives.aspects gives.hold)
     gives.built
 given_well_formed JastAdd classes files rules hierarchy gives =
-    let among = signatures classes gives.aspects in
     declared_well_formed classes (located 1 (read_in JastAdd classes gives.aspects)) rules hierarchy
-    (hold_ints (aliases_in JastAdd classes) classes among 1 files gives.aspects gives.hold)
-    (hold_booleans (aliases_in JastAdd classes) classes among 1 files gives.aspects gives.hold)
+    (hold_ints (aliases_in JastAdd classes) classes files gives.aspects gives.hold)
+    (hold_booleans (aliases_in JastAdd classes) classes files gives.aspects gives.hold)
     (made_builds JastAdd classes gives.aspects rules gives.built)
 
 pub well_formed_by : (language : Language) (classes : Classes) (files : List (List ℕ)) (result : Result Rules StartFault)

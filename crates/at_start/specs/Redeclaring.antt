@@ -13,6 +13,7 @@ use Rattle.at_typing.specs.Declaring.{is_below}
 use Rattle.at_typing.specs.declared.fault.Breach.{Breach}
 use Rattle.at_text.specs.declared.fault.Failure.{Failure}
 use Rattle.at_text.specs.declared.fault.Failure.TheVariants.{For, Memory}
+use Rattle.at_start.specs.Spreading.{spread}
 use Rattle.at_start.specs.declared.language.Language.{Language}
 use Rattle.at_start.specs.declared.language.Language.TheVariants.{Profile, JastAdd}
 
@@ -144,14 +145,21 @@ files_read classes among files = map (map (aspect_read classes among)) files
 
 -- how aspects are read in the language --------------------------------------------------------------------------------
 
+-- where nothing is declared for ASTNode
+abbrev pub read_below : Classes → List (List Aspect) → List (List Aspect)
+read_below classes files = files_read classes (signatures classes files) files
+
+abbrev pub fault_below : Classes → List (List Aspect) → Option Breach
+fault_below classes files = first_stray classes (signatures classes files)
+
 abbrev pub read_in : Language → Classes → List (List Aspect) → List (List Aspect)
 read_in (Profile forms) classes files = files
-read_in JastAdd classes files = files_read classes (signatures classes files) files
+read_in JastAdd classes files = read_below classes (spread classes files)
 
 -- the fault that is met there, if there is one
 abbrev pub fault_in : Language → Classes → List (List Aspect) → Option Breach
 fault_in (Profile forms) classes files = None
-fault_in JastAdd classes files = first_stray classes (signatures classes files)
+fault_in JastAdd classes files = fault_below classes (spread classes files)
 
 -- no fault is met, and that holds; or it is told; of want of memory nothing is said
 abbrev pub Reads : {T : Type 0} → Option Breach → (T → Type 0) → Result T (Failure Breach) → Type 0

@@ -1,15 +1,20 @@
 //! The laws over the whole: each is the contract of a function that does nothing.
 
 ghost use Rattle.std.specs.Prelude.{◌≡◌, ℕ, false, List, [], Option, Some, Ok};
+ghost use Rattle.at_jrag.specs.Syntax.{Aspect};
+ghost use Rattle.at_model.specs.Classes.{Classes};
 ghost use Rattle.at_model.specs.Effects.{PostNothing};
 ghost use Rattle.at_model.specs.Machine.{State};
 ghost use Rattle.at_model.specs.Rules.{Rules};
 ghost use Rattle.at_rules.specs.Circular.{HasNoneCircular};
 ghost use Rattle.at_engine.specs.declared.stream.desk.Report.{Report};
 ghost use Rattle.at_start.specs.AspectFiles.{reads_circular};
+ghost use Rattle.at_start.specs.Redeclaring.{read_below, read_in};
+ghost use Rattle.at_start.specs.Spreading.{HaveNoneEverywhere};
 ghost use Rattle.at_start.specs.Starts.{Starts};
 ghost use Rattle.at_start.specs.Whole.{Answers, IsWithinMemory, MeansOutput};
 ghost use Rattle.at_start.specs.declared.files.Files.{Files};
+ghost use Rattle.at_start.specs.declared.language.Language.TheVariants.{JastAdd};
 
 /// From the bytes of the files and of the lines to the bytes written: where all bytes of the lines are known, and those that
 /// were written, a run that came to its end has written the output that the files mean for them, and nothing else. Where its
@@ -25,6 +30,11 @@ pub fn whole()
 pub fn none_circular()
     ensures { (files : Files) (rules : Rules) (state : State) → reads_circular files.language ≡ false → Starts files rules state
         → HasNoneCircular rules }
+{}
+
+/// Where no attribute is declared for ASTNode, aspects are read as if nothing ever could be.
+pub fn none_everywhere()
+    ensures { (classes : Classes) (files : List (List Aspect)) → HaveNoneEverywhere files → read_in JastAdd classes files ≡ read_below classes files }
 {}
 
 /// Any two outputs that files mean for the same bytes are equal, where no line posts a question and nothing is told for want of

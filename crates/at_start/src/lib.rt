@@ -3,12 +3,12 @@
 //!
 //! **Its specs:** `Whole` is the theorem, to be read first; `Starts` is what files make, with a page for each kind of file
 //! (`GrammarFiles`, `AspectFiles`, `TreeFiles`) over their bytes (`Files`); `Lists` are the short names of lists, which aspects may
-//! have, and `Redeclaring` is what is read of attributes that are declared again below; `StartFaults` and `Codes` are what is printed of
-//! a file that is refused.
+//! have, `Spreading` is what is read of attributes that are declared for ASTNode, and `Redeclaring` of those that are declared again
+//! below; `StartFaults` and `Codes` are what is printed of a file that is refused.
 //!
 //! **Where to begin:** `answer` in `serving.rt` is the whole, and `start`, below, its first half; `grammar.rt`, `aspects.rt`
-//! and `tree.rt` have what each kind of file gives, `lists.rt` and `redeclared.rt` what JastAdd's own language has beside its reader,
-//! `fault.rt` why there is no engine.
+//! and `tree.rt` have what each kind of file gives, `lists.rt`, `everywhere.rt` and `redeclared.rt` what JastAdd's own language has beside
+//! its reader, `fault.rt` why there is no engine.
 //!
 //! **What it keeps true:** an engine that is made is sound, keeps nothing yet, and has just the classes, rules and
 //! tree of the files, as they are read in the language that these name.
@@ -23,6 +23,7 @@ ghost use Rattle.at_start.specs.Starts.{AreSameButTree, Starts, IsReady, IsStart
 
 mod aspects;
 mod code;
+mod everywhere;
 mod fault;
 mod files;
 mod grammar;

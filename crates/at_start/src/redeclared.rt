@@ -5,8 +5,9 @@ ghost use Rattle.std.specs.List.{find, flat_map, list_any};
 ghost use Rattle.at_jrag.specs.View.{aspect_view, decl_view, decl_form_view, ending_view, kind_view, param_view, params_view, word_view};
 ghost use Rattle.at_typing.specs.Declaring.{is_below};
 ghost use Rattle.at_start.specs.declared.language.Language.TheVariants.{JastAdd};
-ghost use Rattle.at_start.specs.Redeclaring.{as_equation, aspect_read, equation_of, fault_in, files_read, in_aspect, in_files, is_above, is_again, is_declared_above, kind_text, may_start, read_as, read_in, signature_in, signature_of, signatures, strays, strays_from, superclass, superclass_in, with_kinds, Reads};
+ghost use Rattle.at_start.specs.Redeclaring.{as_equation, aspect_read, equation_of, fault_below, fault_in, files_read, in_aspect, in_files, is_above, is_again, is_declared_above, kind_text, may_start, read_as, read_below, read_in, signature_in, signature_of, signatures, strays, strays_from, superclass, superclass_in, with_kinds, Reads};
 
+use crate::everywhere::spread;
 use crate::language::Language;
 use at_class::{ClassId, ClassTable};
 use at_jrag::{Aspect, Decl, DeclForm, Ending, Kind, KindWord, Param, Params, Word};
@@ -72,6 +73,19 @@ fn read_again(
 ) -> Result<Vec<Vec<Aspect>>, RuleFault>
     ensures { Reads (fault_in JastAdd classes.now (map (λ f. map aspect_view f.items) files.items))
         (λ v. map (λ f. map aspect_view f.items) v.items ≡ read_in JastAdd classes.now (map (λ f. map aspect_view f.items) files.items)) result }
+{
+    let files = spread(alloc, classes, files)?;
+    read_below(alloc, classes, files)
+}
+
+/// The same, where nothing is declared for ASTNode.
+fn read_below(
+    alloc: Global,
+    classes: &ClassTable,
+    files: Vec<Vec<Aspect>>,
+) -> Result<Vec<Vec<Aspect>>, RuleFault>
+    ensures { Reads (fault_below classes.now (map (λ f. map aspect_view f.items) files.items))
+        (λ v. map (λ f. map aspect_view f.items) v.items ≡ read_below classes.now (map (λ f. map aspect_view f.items) files.items)) result }
 {
     let among = signatures(alloc, classes, &files)?;
     if let Some(found) = first_stray(classes, &among) {

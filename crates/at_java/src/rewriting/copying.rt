@@ -38,6 +38,13 @@ pub fn copied(alloc: Global, expr: &Expr) -> Result<Box<Expr>, AllocError>
     plain(alloc).boxed(expr)
 }
 
+/// The expression, copied as it stands, without a box; or want of memory.
+pub fn copy_of(alloc: Global, expr: &Expr) -> Result<Expr, AllocError>
+    ensures { IfOk result (λ e. expr_view e ≡ expr_view expr.now) }
+{
+    plain(alloc).expr(expr)
+}
+
 /// The expression, copied, with the other in the place of each such name.
 pub fn with_name(alloc: Global, name: &str, by: &Expr, expr: &Expr) -> Result<Box<Expr>, AllocError>
     ensures { IfOk result (λ e. boxed_view e ≡ named (name_for name.now (expr_view by.now)) (expr_view expr.now)) }
