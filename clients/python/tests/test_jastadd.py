@@ -71,6 +71,19 @@ AGAIN = """aspect A {
   int S.n() { return 1; } //: J2/8
 }
 """
+# And of what is declared for ASTNode: the root, a P, has no inherited one.
+EVERYWHERE = """aspect A {
+  public int ASTNode.a() { return 1; }
+  eq P.a() = 2;
+  int T.a() { return 3; }
+  int ASTNode.a() { return 4; } //: J2/15
+  boolean U.b() { return a() == 1; }
+  inh P ASTNode.p();
+  eq P.getS().p() = this;
+  syn P U.q() = p();
+  syn P P.r() = p(); //: J3/0
+}
+"""
 
 
 def spelled(it):
@@ -133,7 +146,7 @@ class Reading(unittest.TestCase):
         self.assertEqual([it.form for it in read_aspects("aspect X { int A.m() { return 1; } }")], ["other"])
 
     def test_all_faults_are_found_in_one_run(self):
-        for grammar, aspects in (GRAMMAR, FAULTS), (CLASSES, AGAIN):
+        for grammar, aspects in (GRAMMAR, FAULTS), (CLASSES, AGAIN), (CLASSES, EVERYWHERE):
             findings = check(grammar, [Source("x.jrag", aspects)], PROGRAM, "jastadd").findings
             wanted = [(line, fault) for line, text in enumerate(aspects.splitlines(), 1) for fault in text.partition("//: ")[2].split()]
             self.assertEqual([(it.line, f"{it.code}/{it.section.partition('.')[0] or 0}") for it in findings], wanted)

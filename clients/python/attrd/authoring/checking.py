@@ -38,7 +38,8 @@ def checking(grammar: Source, aspects: Sequence[Source], program: str = "attrd",
     if specification.whole.grammar is None:
         return Checked(found, 0)
     try:
-        judge = Judge(specification.grammar, program, forms)
+        has_top = not any(specification.is_everywhere(it.declaration) for it in specification.declarations)
+        judge = Judge(specification.grammar, program, forms, has_top)
     except TermFault as fault:
         endless = Finding(grammar.name, "G", "no finite tree", 1, 1, 0, 0, fault.reason, "Have a list or an optional where the class comes again.")
         return Checked(found or [endless], 0)

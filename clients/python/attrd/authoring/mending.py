@@ -289,7 +289,8 @@ class Mending:
         """Whether what an equation is for is declared for ASTNode or its like alone, of which that is told then; it is put right."""
         for placed in self.specification.named("" if it.name is None else it.name.text):
             other, file = placed.declaration, self.names.index(placed.file)
-            if other.of is None or other.of.text not in NODES or not self.patched[file].is_free(other.of.at, other.of.end):
+            if other.of is None or other.of.text not in NODES or not self.patched[file].is_free(other.of.at, other.of.end) \
+                    or self.specification.is_everywhere(other):
                 continue
             self.patched[file].put(other.of.at, other.of.end, ANY_NODE)
             self._waiting.append(Refused(file, "J3", "unknown name", other.of.at, other, None, False))
@@ -398,7 +399,7 @@ class Mending:
         assert it.name is not None
         spelled = ", ".join(f"{_spelled(kind)} p{number}" for number, kind in enumerate(self._kinds_of(it)))
         equation = f"eq {TOP}.getChild().{it.name.text}({spelled}) = {self._dummy(it)};"
-        if self._dummy(it) is None or equation in self.extra:
+        if self._dummy(it) is None or equation in self.extra or not self.judge.has_top:
             return False
         self.extra.append(equation)
         return True

@@ -28,12 +28,13 @@ class Refusal(NamedTuple):
 class Judge:
     """Has the program judge texts of aspects over one grammar, where these forms are read. `runs` counts how often it was started."""
 
-    def __init__(self, grammar: Grammar, program: str, forms: str = "") -> None:
-        """Raises TermFault where no finite tree fits the grammar: then nothing can be judged."""
+    def __init__(self, grammar: Grammar, program: str, forms: str = "", has_top: bool = True) -> None:
+        """Raises TermFault where no finite tree fits the grammar: then nothing can be judged. Without `has_top` no class stands above that
+        of the root, since it would have what is declared for ASTNode."""
         tree = grammar.smallest(grammar.start)
-        has_room = len(list(grammar)) < MOST_CLASSES
-        self.tree = Node(TOP, tree) if has_room else tree
-        self.grammar, self.program, self.runs = f"{TOP} ::= {grammar.start};\n" * has_room + written(grammar), program, 0
+        self.has_top = has_top and len(list(grammar)) < MOST_CLASSES
+        self.tree = Node(TOP, tree) if self.has_top else tree
+        self.grammar, self.program, self.runs = f"{TOP} ::= {grammar.start};\n" * self.has_top + written(grammar), program, 0
         self.options = forms_options(forms)
 
     def refusal(self, texts: Sequence[str]) -> Optional[Refusal]:

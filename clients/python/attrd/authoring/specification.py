@@ -61,13 +61,25 @@ class Specification:
 
     def with_any_node(self) -> Specification:
         """Has the class ASTNode above all others in its grammar from now on, where aspects speak of it or its like, so that what else they
-        say of it can be looked at."""
-        heads = (it for placed in self.declarations for it in (placed.declaration.of, placed.declaration.kind))
+        say of it can be looked at; but where the program reads what is declared for it."""
+        heads = (it for placed in self.declarations for it in (placed.declaration.of, placed.declaration.kind)
+                 if it is not placed.declaration.of or not self.is_everywhere(placed.declaration))
         is_named = any(word is not None and word.text in NODES for word in heads)
         if is_named and "ASTNode" not in self.grammar and len(self.classes) < MOST_CLASSES:
             above = ClassOf("ASTNode", True, None, (), (), {})
             self.grammar = Grammar([*(replace(it, superclass=it.superclass or "ASTNode") for it in self.grammar), above])
         return self
+
+    def is_everywhere(self, it: Declaration) -> bool:
+        """Whether an attribute is declared for ASTNode where the program reads that as declarations for classes."""
+        return "jastadd" in self.forms and it.form in ("syn", "inh") and it.of is not None and it.of.text == "ASTNode"
+
+    def _stands_for(self, it: Declaration, of: str) -> bool:
+        """Whether an attribute is declared for a class: for that one, for one above it, or for ASTNode, but one inherited by the root."""
+        if not self.is_everywhere(it):
+            return it.of is not None and self.grammar.is_below(of, it.of.text)
+        start = next(iter(self.grammar), None)
+        return it.form == "syn" or start is None or not (self.grammar.is_below(of, start.name) or self.grammar.is_below(start.name, of))
 
     def is_overriding(self, it: Declaration) -> bool:
         """Whether a method would be an equation, since its name is declared for a class above its own."""
@@ -95,7 +107,8 @@ class Specification:
         if of not in self.grammar:
             return None
         own = {it.declaration.of.text: it for it in reversed(self.named(name)) if it.declaration.of is not None}
-        return next((own[it] for it in self.grammar.ancestors(of) if it in own), None)
+        everywhere = (it for it in self.named(name) if self.is_everywhere(it.declaration) and self._stands_for(it.declaration, of))
+        return next((own[it] for it in self.grammar.ancestors(of) if it in own), next(everywhere, None))
 
     def attributes_of(self, of: str) -> List[Placed]:
         """The attributes that a class has, by their names, each once."""
@@ -156,7 +169,7 @@ class Specification:
         if attribute.form == "inh":
             return equation.getter is not None
         assert equation.of is not None and attribute.of is not None
-        return equation.getter is None and self.grammar.is_below(equation.of.text, attribute.of.text)
+        return equation.getter is None and self._stands_for(attribute, equation.of.text)
 
     def kind_of(self, expression: Expression, within: Declaration) -> Optional[str]:
         """The kind of an expression in a declaration: int, boolean, String, null, a class, or a list as `Stmt*`; None where it isn't known."""
