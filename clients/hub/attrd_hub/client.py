@@ -51,6 +51,11 @@ class Client:
     take, and `weight` what it was thought to take at most; `expected` and `latest` are that of the next one, by what its last ones took.
     """
 
+    # An object with more than thirty attributes and no slots has a table of its own, in which each look takes longer.
+    __slots__ = ("service", "stream", "member", "unread", "drained", "is_dirty", "is_ready", "is_ended", "is_new", "is_charged", "charged",
+                 "paid", "weight", "expected", "latest", "_token", "_peer", "_may_edit", "_later", "_later_bytes", "_lines", "_rest",
+                 "_routes", "_known", "_is_last", "_is_gone", "_expected", "_kept", "_noted", "_heard", "_events")
+
     def __init__(self, service: "Service", stream: socket.socket, token: Optional[bytes] = None, may_edit: bool = True) -> None:
         """`token` is what the first line has to be, where one is asked for. Who may not edit may not mark, either. Raises OSError where
         the system can't wait for one more."""

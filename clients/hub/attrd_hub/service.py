@@ -60,6 +60,12 @@ class Slow(NamedTuple):
 class Service:
     """Serves from `run` on until a signal. `ready` are clients with lines that wait, `dirty` those with replies to be sent."""
 
+    # As in a client: it has more than thirty.
+    __slots__ = ("settings", "loop", "counts", "room", "ready", "callers", "dirty", "clients", "hub", "program", "journal", "pace", "meter",
+                 "waits", "clock", "program_version", "began", "at_once", "_told_version", "_handed_on", "_listening", "_made", "_is_paused",
+                 "_told_again", "_is_stopping", "_is_running", "_has_ended", "_is_renewing", "_started", "_told", "_answered", "_sent",
+                 "_waiting")
+
     def __init__(self, settings: Settings) -> None:
         """Takes the journal's folder. Raises JournalFault."""
         self.settings = settings
