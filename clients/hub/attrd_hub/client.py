@@ -8,7 +8,7 @@ import socket
 import time
 from collections import deque
 from functools import partial
-from typing import TYPE_CHECKING, Deque, Dict, Optional
+from typing import TYPE_CHECKING, Deque, Dict, Optional, Union
 
 from .hub import SHARED, NoSession, Route
 from .lines import (EDITS, LINE_BYTES, QUESTIONS, REFUSED_LIMIT, REFUSED_SYNTAX, TOLD, Places, first_lines, plain_session,
@@ -22,8 +22,8 @@ if TYPE_CHECKING:
     from .service import Service
 
 CHUNK = 1 << 15
-# Most of what is there to be read is shorter: room for more is made only where it isn't, since that takes its time.
-FIRST_CHUNK = 1 << 12
+# Most of what is there to be read is shorter. For bytes of this length Python has room at hand, for longer ones it asks the system.
+FIRST_CHUNK = 479
 # So many lines of a client may have no reply; fewer where a reply can be as long as the tree.
 MANY, FEW = 1_024, 4
 # So many bytes a client may leave unread before its next lines wait.
@@ -37,7 +37,7 @@ READ_ON = 8
 # So many sessions a client may have to itself: for marks and for questions in turns.
 OWN_SESSIONS = 100
 _F = ord("f")
-_SHOW_ALL, _SHOWS_ALL = b" show /\n", re.compile(rb"[0-9]+ show /\n")
+_SHOW_ALL, _SHOWS_ALL = b"show /\n", re.compile(rb"[0-9]+ show /\n")
 # Of so many sessions it is known at once where their questions go.
 ROUTES = 16
 # So are so many lines, each of so many bytes at most.
@@ -54,7 +54,7 @@ class Client:
     # An object with more than thirty attributes and no slots has a table of its own, in which each look takes longer.
     __slots__ = ("service", "stream", "member", "unread", "drained", "is_dirty", "is_ready", "is_ended", "is_new", "is_charged", "charged",
                  "paid", "weight", "expected", "latest", "_token", "_peer", "_may_edit", "_later", "_later_bytes", "_lines", "_rest",
-                 "_routes", "_known", "_is_last", "_is_gone", "_expected", "_kept", "_noted", "_heard", "_events")
+                 "_receive", "_send", "_routes", "_known", "_is_last", "_is_gone", "_expected", "_kept", "_noted", "_heard", "_events")
 
     def __init__(self, service: "Service", stream: socket.socket, token: Optional[bytes] = None, may_edit: bool = True) -> None:
         """`token` is what the first line has to be, where one is asked for. Who may not edit may not mark, either. Raises OSError where
@@ -64,10 +64,12 @@ class Client:
         service.loop.watch(stream.fileno(), READ, self._on_event)
         self._may_edit = may_edit
         self.service, self.stream, self._token = service, stream, token
+        self._receive, self._send = stream.recv, stream.send
         self._peer = peer_of(stream)
         self.member = Member(service.hub, self.end, self._tell_done)
         self.member.client, self.member.on_swept = self, self._go_on
-        self.unread: bytearray = bytearray()
+        # A reply is sent as it came. Where more come behind it, or it doesn't go as a whole, it is an array, which grows and shrinks.
+        self.unread: Union[bytes, bytearray] = b""
         # Parts of long replies that are unread behind it, and what comes behind these: they aren't copied.
         self._later: Deque[memoryview] = deque()
         self._later_bytes = 0
@@ -112,10 +114,10 @@ class Client:
             self._read()
 
     def _read(self) -> None:
-        if self.is_ended or self._is_last:
+        if self._is_last:
             return
         try:
-            data = self.stream.recv(FIRST_CHUNK)
+            data = self._receive(FIRST_CHUNK)
         except BlockingIOError:
             # Of who is gone no more comes.
             if not self._is_gone:
@@ -147,22 +149,23 @@ class Client:
     def _goes_at_once(self, data: bytes) -> bool:
         """Hands on what came, where it is one plain question, and nothing of this client waits. Whether it was."""
         route = self._known.get(data) or self._know(data)
+        if route is None or self._lines or self._rest or self.unread or self._later or self.latest >= LONG:
+            return False
         service = self.service
-        if route is None or service.at_once <= 0 or self._lines or self._rest or self.unread or self._later:
+        hub = service.hub
+        if hub.in_flight >= service.at_once or route.member.unanswered >= FEW:
             return False
-        if self.latest >= LONG or route.member.unanswered >= FEW or (service.room.has_long_tree and data.endswith(_SHOW_ALL)):
-            return False
-        service.at_once -= 1
         service.counts.lines += 1
         self.paid = self.weight = QUICK_COST
-        service.hub.send_question(route, data)
+        hub.send_question(route, data)
         return True
 
     def _know(self, data: bytes) -> Optional[Route]:
-        """Where a line goes, if it is a whole one with a plain question of a session that has asked some: it is known from then on."""
+        """Where a line goes, if it is a whole one with a plain question of a session that has asked some: it is known from then on. Not so
+        one for the whole tree, whose reply may be long."""
         own, _, command = data.partition(b" ")
         route = self._routes.get(own)
-        if route is None or data.find(b"\n") != len(data) - 1 or not command.startswith(QUESTIONS):
+        if route is None or data.find(b"\n") != len(data) - 1 or not command.startswith(QUESTIONS) or command == _SHOW_ALL:
             return None
         if len(data) <= KNOWN_BYTES:
             if len(self._known) >= KNOWN:
@@ -271,7 +274,7 @@ class Client:
         lines = first_lines(self._lines, min(share, MANY - unanswered))
         if lines.find(b" show ") >= 0:
             lines = first_lines(lines, FEW - unanswered)
-        if self._expected or (self.service.room.has_long_tree and b" show /\n" in lines):
+        if self._expected or (self.service.room.has_long_tree and b" " + _SHOW_ALL in lines):
             return first_lines(lines, 1) if self._has_room_for_one(lines) else b""
         return lines
 
@@ -361,16 +364,14 @@ class Client:
         self._write(b"%d %b\n" % (session, form))
 
     def _write(self, data: bytes) -> None:
-        if self.is_ended:
-            return
         # The byte is looked for first: that takes a tenth of the time.
-        if _F in data and data.find(b" refused ") >= 0:
+        if _F in data and data.find(b" refused ") >= 0 and not self.is_ended:
             self.service.counts.count_refused(data)
         if not self._is_gone:
-            if self._later:
-                self._put_later(data)
+            if self.unread or self._later:
+                self._put_behind(data)
             else:
-                self.unread += data
+                self.unread = data
             if len(data) > self._noted:
                 self._note(len(data))
         if not self.is_dirty:
@@ -379,8 +380,6 @@ class Client:
 
     def _write_part(self, data: bytes, length: int) -> None:
         """A part of a long reply, which has this length where it is the last part."""
-        if self.is_ended:
-            return
         if not self._is_gone:
             self._put_later(data)
             if length > self._noted:
@@ -388,6 +387,20 @@ class Client:
         if not self.is_dirty:
             self.is_dirty = True
             self.service.dirty.append(self)
+
+    def _put_behind(self, data: bytes) -> None:
+        """The reply goes behind what is unread."""
+        if self._later:
+            self._put_later(data)
+        else:
+            unread = self._unread_array()
+            unread += data
+
+    def _unread_array(self) -> bytearray:
+        """What is unread, as an array from now on."""
+        if not isinstance(self.unread, bytearray):
+            self.unread = bytearray(self.unread)
+        return self.unread
 
     def _put_later(self, data: bytes) -> None:
         self._later.append(memoryview(data))
@@ -410,29 +423,43 @@ class Client:
     def flush(self) -> None:
         """Sends what the other side takes; lines that waited for that go on."""
         self.is_dirty = False
-        if self.is_ended:
-            return
         unread = self.unread
         if self.latest > QUICK_COST:
             # Where its last lines may not have been quick, these are looked at.
             self.service.ready.settle(self)
         try:
-            while unread:
-                del unread[:self.stream.send(unread)]
-                # What is drained is of interest where something is left.
-                if unread:
-                    self.drained = self.service.loop.now
+            if unread:
+                taken = self._send(unread)
+                if taken == len(unread):
+                    self.unread = b""
+                else:
+                    self._send_rest(taken)
             if self._later:
                 self._flush_later()
         except BlockingIOError:
             pass
         except OSError:
             self._lose_reader()
+        # Of who has sent the last line no more is read.
+        if self._lines or self._is_gone or self._events != READ or self.unread or self._later:
+            self._go_on_behind()
+
+    def _go_on_behind(self) -> None:
+        """Replies went, as far as there was room for them."""
         if self._lines or self._is_last or self._is_gone:
             self._make_ready()
-        if unread or self._later or self._events & WRITE:
+        if self.unread or self._later or self._events & WRITE:
             self._watch()
             self._count_unread()
+
+    def _send_rest(self, taken: int) -> None:
+        """So many of the unread bytes went: sends the others, as far as there is room for them. Raises OSError."""
+        unread = self._unread_array()
+        while taken:
+            del unread[:taken]
+            # What is drained is of interest where something is left.
+            self.drained = self.service.loop.now
+            taken = self._send(unread) if unread else 0
 
     def _flush_later(self) -> None:
         """Sends parts as they are, which takes no copy of them. Raises OSError."""
@@ -452,7 +479,7 @@ class Client:
         self._kept = left
 
     def _clear_unread(self) -> None:
-        self.unread.clear()
+        self.unread = b""
         self._later.clear()
         self._later_bytes = 0
         self._count_unread()
@@ -488,7 +515,7 @@ class Client:
         """Ends the connection. Its marks are taken back."""
         if self.is_ended:
             return
-        self.is_ended = True
+        self.is_ended = self._is_last = self._is_gone = True
         self.service.loop.forget(self.stream.fileno())
         self.stream.close()
         self._clear_unread()

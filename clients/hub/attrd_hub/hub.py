@@ -194,7 +194,7 @@ class Hub:
             data = b"".join(self._parts)
             self._parts.clear()
         first = self._sent[0] if self._sent and not self._questions else None
-        if isinstance(first, Route) and data.find(b"\n") == len(data) - 1:
+        if type(first) is Route and data.find(b"\n") == len(data) - 1:
             self._settle_question(first, data)
             return
         end = data.rfind(b"\n") + 1
@@ -232,20 +232,32 @@ class Hub:
 
     def _feed_lines(self, replies: bytes) -> None:
         """Whole replies."""
-        sent, find = self._sent, replies.find
+        sent, questions = self._sent, self._questions
         start, end = 0, len(replies)
         while start < end:
-            first = sent[0] if sent and not self._questions else None
-            if isinstance(first, Route):
-                behind = find(b"\n", start) + 1
-                self._settle_question(first, replies[start:behind])
-            elif isinstance(first, _Block):
+            first = sent[0] if sent and not questions else None
+            if type(first) is Route:
+                behind = self._settle_questions(replies, start)
+            elif type(first) is _Block:
                 behind, count = end_of_lines(replies, start, first.left)
                 self._settle_block(first, replies[start:behind], count)
             else:
-                behind = find(b"\n", start) + 1
+                behind = replies.find(b"\n", start) + 1
                 self._answer(replies[start:behind - 1])
             start = behind
+
+    def _settle_questions(self, replies: bytes, start: int) -> int:
+        """Whole replies, of which those from `start` on answer lines of routes, as long as such lines are the first ones under way. Where
+        what is behind them begins."""
+        sent, find, end = self._sent, replies.find, len(replies)
+        while start < end and sent:
+            route = sent[0]
+            if type(route) is not Route:
+                break
+            behind = find(b"\n", start) + 1
+            self._settle_question(route, replies[start:behind])
+            start = behind
+        return start
 
     def _settle_question(self, route: Route, reply: bytes) -> None:
         self._sent.popleft()

@@ -69,8 +69,9 @@ class Loop:
         if not found:
             found = self._poll(seconds, AT_ONCE)
             self.now = monotonic()
+        handler_of = self._handlers.get
         for file, events in found:
-            handler = self._handlers.get(file)
+            handler = handler_of(file)
             if handler is not None:
                 handler(events)
 
@@ -80,10 +81,10 @@ class Loop:
             looking.left -= 1
             return []
         found: List[Tuple[int, int]] = []
-        now = monotonic()
+        poll, now = self._poll, monotonic()
         end = now + LOOK
         while not found and now < end:
-            found = self._poll(0.0, AT_ONCE)
+            found = poll(0, AT_ONCE)
             now = monotonic()
         self.now = now
         if found:

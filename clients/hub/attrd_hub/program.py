@@ -14,8 +14,8 @@ from .lines import LINE_BYTES
 from .meter import Times, clock
 
 CHUNK = 1 << 16
-# Most of what is there to be read is shorter: room for more is made only where it isn't, since that takes its time.
-FIRST_CHUNK = 1 << 12
+# Most of what is there to be read is shorter. For bytes of this length Python has room at hand, for longer ones it asks the system.
+FIRST_CHUNK = 479
 ENDING_SECONDS = 10.0
 # So many lines are sent before their replies are read: these have room in a pipe.
 BATCH = 256
@@ -55,11 +55,13 @@ class Program:
 
     def times(self) -> Times:
         """How many seconds it ran so far, and how many it waited for a processor; where the system doesn't tell that, as what always runs."""
-        if self._schedule is not None:
-            with suppress(OSError, ValueError):
-                ran, waited, _ = os.pread(self._schedule, SCHEDULE_BYTES, 0).split()
-                return int(ran) * 1e-9, int(waited) * 1e-9
-        return clock()
+        if self._schedule is None:
+            return clock()
+        try:
+            ran, waited, _ = os.pread(self._schedule, SCHEDULE_BYTES, 0).split()
+        except (OSError, ValueError):
+            return clock()
+        return int(ran) * 1e-9, int(waited) * 1e-9
 
     def replay(self, commands: Sequence[bytes]) -> None:
         """Has the edits made, each by the session 0. Raises Unfit where one is refused, and StartFault where the program ends."""
@@ -99,36 +101,51 @@ class Program:
 
     def read(self) -> Optional[bytes]:
         """The bytes that are there; None where there are none yet, and b"" at the end."""
-        data = b""
         try:
             data = os.read(self.output, self._chunk)
-            if len(data) == FIRST_CHUNK:
-                data += os.read(self.output, CHUNK)
-            # In the middle of a long reply more of it comes.
-            self._chunk = CHUNK if len(data) >= CHUNK else FIRST_CHUNK
-            return data
         except BlockingIOError:
-            return data or None
+            return None
         except OSError:
-            return data
+            return b""
+        if len(data) == FIRST_CHUNK:
+            data += self._read_on()
+        # In the middle of a long reply more of it comes.
+        self._chunk = CHUNK if len(data) >= CHUNK else FIRST_CHUNK
+        return data
 
-    def send(self, data: bytes) -> None:
-        """Hands lines on, as far as the program takes them; the rest is `unsent`, and goes with the next call."""
-        unsent = self.unsent
-        if unsent:
-            unsent += data
+    def _read_on(self) -> bytes:
+        """More of what is there. How the stream ends, the next reading tells."""
         try:
-            taken = os.write(self.input, unsent or data)
+            return os.read(self.output, CHUNK)
+        except OSError:
+            return b""
+
+    def send(self, data: bytes) -> bool:
+        """Hands lines on, as far as the program takes them; the rest is `unsent`, and goes with the next call. Whether there is a rest."""
+        if self.unsent:
+            self.unsent += data
+            return self._send_unsent()
+        try:
+            taken = os.write(self.input, data)
         except BlockingIOError:
             taken = 0
         except OSError:
             # It has ended, which its output tells.
-            unsent.clear()
-            return
-        if unsent:
-            del unsent[:taken]
-        elif taken < len(data):
-            unsent += data[taken:]
+            return False
+        if taken == len(data):
+            return False
+        self.unsent += data[taken:]
+        return True
+
+    def _send_unsent(self) -> bool:
+        """Hands on what waits, as far as the program takes it. Whether there is a rest."""
+        try:
+            del self.unsent[:os.write(self.input, self.unsent)]
+        except BlockingIOError:
+            pass
+        except OSError:
+            self.unsent.clear()
+        return bool(self.unsent)
 
     def fault(self) -> AttrdError:
         """Why it ended before it answered."""

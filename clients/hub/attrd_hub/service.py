@@ -97,7 +97,7 @@ class Service:
         self._answered = 0.0
         self._sent = 0
         self._waiting = self.ready.waiting
-        # So many questions may go to the program as they come, before the next lines are handed on by turns: none where a client waits.
+        # As long as fewer lines are under way a question goes to the program as it comes, and not by turns: never where a client waits.
         self.at_once = 0
 
     def run(self) -> int:
@@ -188,7 +188,7 @@ class Service:
     def _serve(self) -> int:
         tick = time.monotonic() + TICK_SECONDS
         while not self._is_stopping:
-            self.loop.turn(0.0 if self.ready.waiting and self.has_room() else TICK_SECONDS, self.hub.in_flight > 0)
+            self.loop.turn(0.0 if self._waiting and self.has_room() else TICK_SECONDS, self.hub.in_flight > 0)
             self._hand_on()
             if self._has_ended and not self._go_on():
                 return 0 if self._is_stopping else 3
@@ -208,23 +208,11 @@ class Service:
         """Sends what the turn has brought: lines to the program, edits to the journal, and then replies to clients."""
         if self._waiting:
             self._supply()
-        hub = self.hub
-        if hub.out:
-            if hub.answered >= self._sent:
-                self._answered = self.clock()
-                if hub.answered < self.ready.until:
-                    self.meter.mark()
-            self._sent = hub.answered + hub.in_flight
-            self.program.send(hub.lines())
-            if self.loop.now >= self.pace.next:
-                self.pace.begin(hub.answered, hub.in_flight, self.loop.now)
-                self._handed_on = self.loop.now
-            if self.program.unsent:
-                self.at_once = 0
-                self._await_room()
+        if self.hub.out:
+            self._send()
         if self.journal is not None and self.journal.pending:
             self.journal.commit()
-            if hub.answered >= self.ready.until:
+            if self.hub.answered >= self.ready.until:
                 # Replies may be there for a while: how long lines took that go together counts from now on.
                 self._answered = self.clock()
         if self.dirty:
@@ -233,6 +221,23 @@ class Service:
                 client.flush()
             if self.room.is_full:
                 self._make_room()
+
+    def _send(self) -> None:
+        """Sends the hub's lines to the program; what else is to be done comes behind that, since the program works meanwhile."""
+        hub, now = self.hub, self.loop.now
+        answered = hub.answered
+        is_idle = answered >= self._sent
+        if is_idle and answered < self.ready.until:
+            self.meter.mark()
+        if self.program.send(hub.lines()):
+            self.at_once = 0
+            self._await_room()
+        if is_idle:
+            self._answered = self.clock()
+        self._sent = answered + hub.in_flight
+        if now >= self.pace.next:
+            self.pace.begin(answered, hub.in_flight, now)
+            self._handed_on = now
 
     def _make_room(self) -> None:
         """Ends clients that don't read, as long as all together leave too much unread."""
@@ -269,22 +274,24 @@ class Service:
         if not data:
             self._has_ended = True
             return
-        hub, now = self.hub, self.loop.now
-        answered = hub.answered
-        slow = self._slow(data, now) if now - self._answered > QUICK or now > self.meter.next or answered < self.ready.until else None
+        hub, pace, now, until = self.hub, self.pace, self.loop.now, self.ready.until
+        before = hub.answered
+        is_looked_at = now - self._answered > QUICK or now > self.meter.next or before < until
+        slow = self._slow(data, now) if is_looked_at else None
         try:
             hub.feed(data)
         except ProtocolFault as fault:
             log(Level.ERROR, str(fault))
             self._has_ended = True
-        if hub.answered != answered:
+        answered = hub.answered
+        if answered != before:
             self._answered = now
             if slow is not None:
-                self._charge(slow, hub.answered - answered)
-            self.at_once = 0 if self._waiting or hub.answered < self.ready.until else self.pace.most - hub.in_flight
-        if hub.answered >= self.pace.until:
-            self.pace.end(now)
-            self.waits.add(now - self._handed_on)
+                self._charge(slow, answered - before)
+            self.at_once = 0 if self._waiting or answered < until else pace.most
+            if answered >= pace.until:
+                pace.end(now)
+                self.waits.add(now - self._handed_on)
 
     def _slow(self, replies: bytes, now: float) -> Optional[Slow]:
         """Whose lines these replies answer, where one of them wasn't quick, or might have been so."""
