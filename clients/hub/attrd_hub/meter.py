@@ -12,8 +12,6 @@ from typing import Callable, Tuple
 
 # Replies that come no later than this, in seconds, needn't be looked at: their lines were quick.
 QUICK = 2e-4
-# So long after a look even these are, so that their time isn't taken for that of a line behind them.
-PAUSE = 1e-3
 # While a process runs, the system counts its time at ticks alone, which are so many seconds apart on most machines, and by so many late.
 TICK, LATE = 4e-3, 2e-3
 # How many seconds a process ran, and how many it waited for a processor.
@@ -26,19 +24,19 @@ def clock() -> Times:
 
 
 class Meter:
-    """Looks at the program's times where replies didn't come at once, and from the time `next` on."""
+    """Looks at the program's times where replies didn't come at once, and now and then even where they did, so that the time of quick lines
+    isn't taken for that of a line behind them. `times` are what it saw last."""
 
-    def __init__(self, times: Callable[[], Times], now: float) -> None:
-        """`times` are those of the program."""
+    def __init__(self, times: Callable[[], Times]) -> None:
+        """`times` tells those of the program."""
         self._times = times
-        self._ran, self._waited = times()
-        self.next = now + PAUSE
+        self.times = times()
         # What it ran more than lines took; less than nothing where the system's count is behind.
         self._left = 0.0
 
     def mark(self) -> None:
         """The program doesn't run, and is about to: what it ran up to now isn't told any more."""
-        self._ran, self._waited = self._times()
+        self.times = self._times()
         self._left = 0.0
 
     def look(self, began: float, now: float, is_idle: bool = False) -> float:
@@ -47,12 +45,12 @@ class Meter:
         `began` is when the replies before them came, or where none was due, when their lines went to the program. `is_idle` tells that
         no line is under way any more: then the program doesn't run, and the system's count is right.
         """
-        ran, waited = self._times()
-        left = self._left + ran - self._ran
-        taken = max(0.0, now - began - (waited - self._waited))
+        (ran_before, waited_before), self.times = self.times, self._times()
+        ran, waited = self.times
+        left = self._left + ran - ran_before
+        taken = max(0.0, now - began - (waited - waited_before))
         if taken > left + (0.0 if is_idle else TICK + LATE):
             taken = max(0.0, left)
         # What is left is of quick lines, which take no part.
         self._left = min(left - taken, 0.0)
-        self._ran, self._waited, self.next = ran, waited, now + PAUSE
         return taken

@@ -79,7 +79,7 @@ class Service:
         self.hub = Hub()
         self.program: Program
         self.journal = Journal(Path(settings.state), settings.sync) if settings.state is not None else None
-        self.pace, self.meter = Pace(clock), Meter(clock, self.loop.now)
+        self.pace, self.meter = Pace(clock), Meter(clock)
         self.waits, self.clock = Waits(), time.monotonic
         self.program_version: Optional[str] = None
         self._told_version: Optional[str] = None
@@ -156,7 +156,7 @@ class Service:
                 raise
             # It is the operator's file that is refused, and not the copy of it.
             raise start_fault(fault.status, fault.message.replace(files[1], self.settings.files[1])) from None
-        self.meter = Meter(self.program.times, time.monotonic())
+        self.meter = Meter(self.program.times)
 
     def _ask_version(self) -> None:
         """Asks the program for its version. Where it isn't the hub's, or none is told, that is told once."""
@@ -210,6 +210,10 @@ class Service:
             self._supply()
         if self.hub.out:
             self._send()
+        self._tell()
+
+    def _tell(self) -> None:
+        """Sends edits to the journal, and then replies to clients."""
         if self.journal is not None and self.journal.pending:
             self.journal.commit()
             if self.hub.answered >= self.ready.until:
@@ -276,7 +280,7 @@ class Service:
             return
         hub, pace, now, until = self.hub, self.pace, self.loop.now, self.ready.until
         before = hub.answered
-        is_looked_at = now - self._answered > QUICK or now > self.meter.next or before < until
+        is_looked_at = pace.is_measuring or now - self._answered > QUICK or before < until
         slow = self._slow(data, now) if is_looked_at else None
         try:
             hub.feed(data)
@@ -288,9 +292,12 @@ class Service:
             self._answered = now
             if slow is not None:
                 self._charge(slow, answered - before)
+            elif not hub.in_flight and not self._waiting:
+                # No lines go first: so replies do, before what else is to be done.
+                self._tell()
             self.at_once = 0 if self._waiting or answered < until else pace.most
             if answered >= pace.until:
-                pace.end(now)
+                pace.end(now, self.meter.times)
                 self.waits.add(now - self._handed_on)
 
     def _slow(self, replies: bytes, now: float) -> Optional[Slow]:

@@ -170,7 +170,7 @@ class Simulation:
         self.service.clock = lambda: self.loop.now + self.held_up
         self.program = Program(cost, machine, self.chance)
         self.service.program = self.program  # type: ignore[assignment]
-        self.service.pace, self.service.meter = Pace(self.program.times), Meter(self.program.times, 0.0)
+        self.service.pace, self.service.meter = Pace(self.program.times), Meter(self.program.times)
         self.streams = [Stream(it) for it in range(len(lines))]
         self.lines = [b"%b:%d\n" % (line, it) for it, line in enumerate(lines)]
         with mock.patch("attrd_hub.client.peer_of", return_value=None):

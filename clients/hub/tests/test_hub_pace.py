@@ -5,18 +5,20 @@ import tempfile
 import time
 import unittest
 from pathlib import Path
+from typing import Callable, Tuple
 
 from hub_support import calculator, program
 
 from attrd_hub.meter import TICK
-from attrd_hub.pace import FIRST, LEAST, LONG, MOST, PAUSE, SHORT, Pace
+from attrd_hub.pace import ALONE, FIRST, LEAST, LONG, MOST, PAUSE, SHORT, Pace
 from attrd_hub.program import Program
 
 
 class Paces(unittest.TestCase):
     def setUp(self) -> None:
         self.taken = self.stood = self.now = 0.0
-        self.pace = Pace(lambda: (self.taken, self.stood))
+        self.times: Callable[[], Tuple[float, float]] = lambda: (self.taken, self.stood)
+        self.pace = Pace(lambda: self.times())
 
     def batch(self, lines: int, taken: float, waited: float, stood: float = 0.0) -> None:
         """So many lines have their replies: the program took so many seconds of a processor for them, and they waited so many, for so
@@ -26,7 +28,7 @@ class Paces(unittest.TestCase):
         self.taken += taken
         self.stood += stood
         self.now += waited
-        self.pace.end(self.now)
+        self.pace.end(self.now, self.times())
 
     def grow(self) -> None:
         while self.pace.most < MOST:
@@ -74,7 +76,7 @@ class Paces(unittest.TestCase):
         self.assertEqual(self.pace.most, LEAST)
 
     def test_a_program_whose_time_is_not_told_goes_by_the_clock(self) -> None:
-        self.pace = Pace(lambda: (self.now, 0.0))
+        self.times = lambda: (self.now, 0.0)
         self.grow()
         self.batch(MOST, 0.0, 4 * LONG)
         self.assertLessEqual(self.pace.most, MOST // 2)
@@ -82,6 +84,25 @@ class Paces(unittest.TestCase):
     def test_it_is_looked_at_now_and_then(self) -> None:
         self.batch(1, 0.0, 0.0)
         self.assertAlmostEqual(self.pace.next, PAUSE)
+
+    def measured(self, lines: int, waited: float) -> bool:
+        """Whether the program's times are of use for so many lines, which wait so long."""
+        self.now = max(self.now, self.pace.next)
+        self.pace.begin(0, lines, self.now)
+        is_measuring = self.pace.is_measuring
+        self.now += waited
+        self.pace.end(self.now, self.times())
+        return is_measuring
+
+    def test_a_line_that_is_alone_is_measured_now_and_then(self) -> None:
+        self.now = ALONE
+        found = [self.measured(1, 0.0) for _ in range(int(ALONE / PAUSE) + 2)]
+        self.assertEqual((found[:2], found.count(True)), ([True, False], 2), found)
+        self.assertTrue(self.measured(2, 0.0))
+
+    def test_behind_one_that_waited_long_the_next_one_is_measured(self) -> None:
+        self.now = ALONE
+        self.assertEqual([self.measured(1, it) for it in (0.0, 0.0, LONG, 0.0, 0.0)], [True, False, False, True, False])
 
 
 class Times(unittest.TestCase):

@@ -25,6 +25,7 @@ class ClockMeter(Meter):
 
     def look(self, began: float, now: float, is_idle: bool = False) -> float:
         """The time between replies."""
+        super().look(began, now, is_idle)
         return now - began
 
 
@@ -147,7 +148,7 @@ class Edits(unittest.TestCase):
 
 class Times(unittest.TestCase):
     def meter(self, times: Callable[[], "tuple[float, float]"]) -> Meter:
-        return Meter(times, 0.0)
+        return Meter(times)
 
     def test_what_others_had_of_the_processor_is_not_taken(self) -> None:
         ran, waited = 0.0, 0.0
