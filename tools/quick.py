@@ -30,19 +30,22 @@ from tools.sources import ROOT
 
 # Many of the tests wait for others, so more go on at once than there are processors. Beside the build, the first half of which is one
 # thread, there is one lane.
-LANES = 3
+LANES = 4
 # The parts that take longest, by the clock; one that begins last would have a processor wait.
 LONGEST = ("client hub", "client hub, more", "client lsp", "the program", "client python")
 # The modules of a client that are a part by themselves.
 DIVIDED = {"hub": ("test_hub_hostile", "test_hub_operator", "test_hub_lost")}
-# What is tried less often than in the gate: kills of the hub, pairs of trees, sessions by chance, and caches under want of memory; and
-# trees have fewer nodes. With the last word the tests of clients that take long are left out (clients/at_length.py).
+# What is tried less often than in the gate: kills of the hub, pairs of trees, sessions and files by chance, and caches under want of memory;
+# and trees have fewer nodes. With the last word the tests of clients that take long are left out (clients/at_length.py).
 LESS = (("ATTRD_HUB_POINTS", "15"), ("ATTRD_PAIRS", "250"), ("ATTRD_CIRCULAR_SESSIONS", "10"), ("ATTRD_MADE_SESSIONS", "10"),
-        ("ATTRD_TEST_NODES", "5000"), ("ATTRD_MEMORY_KEEPERS", "1"))
+        ("ATTRD_TEST_NODES", "5000"), ("ATTRD_MEMORY_KEEPERS", "1"), ("ATTRD_READINGS", "1500"), ("ATTRD_SPOILED_FILES", "10"))
+# Of requests for memory each third one is refused in turn.
+SELDOM = (("ATTRD_MEMORY_EVERY", "3"),)
 SHORT = ("ATTRD_SHORT", "1")
 # Tests of clients that take long and start no program, so that they run while it is built.
-APART = ("test_grammars", "test_hub_journal", "test_hub_turns", "test_lsp_again.Edits.test_edits_of_a_part_make_the_whole_tree",
-         "test_lsp_again.Readings", "test_lsp_syntax", "test_terms", "test_update.Edits")
+APART = ("test_grammars", "test_hub_journal", "test_hub_lines", "test_hub_loop.Looking", "test_hub_package", "test_hub_turns",
+         "test_lsp_again.Edits.test_edits_of_a_part_make_the_whole_tree", "test_lsp_again.Readings", "test_lsp_again.Texts",
+         "test_lsp_positions", "test_lsp_source", "test_lsp_syntax", "test_replies", "test_terms", "test_update.Edits")
 # What goes on beside the build leaves the processors to that, for which all else waits.
 BESIDE = ("nice", "-n", "5")
 COUNTED = re.compile(r"^(\d+) passed, (\d+) failed$", re.M)
@@ -153,14 +156,14 @@ def of_the_program(program: Path, pages: Sequence[str]) -> List[Part]:
     """The parts that run a program, the longest first."""
     tests = [part for it in clients() for part in of_a_client(it, program)]
     examples = Part("examples of pages", python("tools/examples.py", "--program", str(program), *pages))
-    parts = [*tests, examples, Part("the program", python("tools/program.py", str(program)), LESS)]
+    parts = [*tests, examples, Part("the program", python("tools/program.py", str(program)), (*LESS, *SELDOM))]
     return sorted(parts, key=lambda it: LONGEST.index(it.name) if it.name in LONGEST else len(LONGEST))
 
 
 def of_the_sources() -> List[Part]:
     """The parts that wait for no build; mypy and pyflakes are left out, and told, where they aren't installed."""
     parts = [Part("counts", python("tools/counts.py", "--hold")), Part("tools", python("-m", "unittest", *TOOLS_TESTS)),
-             Part("clients without a program", python("clients/run_tests.py", shutil.which("false") or "/bin/false", *APART))]
+             Part("clients without a program", python("clients/run_tests.py", shutil.which("false") or "/bin/false", *APART), (*LESS, SHORT))]
     if shutil.which("mypy"):
         folders = [ROOT / "clients" / client / part for client in clients() for part in ("", "tests")]
         path = ("MYPYPATH", os.pathsep.join(map(str, folders)))

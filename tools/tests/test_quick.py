@@ -9,8 +9,8 @@ from pathlib import Path
 from typing import List, Tuple
 from unittest import mock
 
-from tools.of_the_program import test_circular, test_made
-from tools.quick import APART, DIVIDED, LESS, SHORT, Part, environment_of, furnish, of_the_program, outcome_of, python
+from tools.of_the_program import test_circular, test_jastadd_spoiled, test_made
+from tools.quick import APART, DIVIDED, LESS, SELDOM, SHORT, Part, environment_of, furnish, of_the_program, outcome_of, python
 
 ROOT = Path(__file__).resolve().parents[2]
 sys.path.insert(0, str(ROOT / "clients"))
@@ -148,7 +148,11 @@ class Less(unittest.TestCase):
         files = [*ROOT.glob("clients/*/tests/*.py"), *ROOT.glob("tools/of_the_program/*.py")]
         texts = [it.read_text(encoding="utf-8") for it in files]
         found = [(name, int(count)) for text in texts for name, count in usual.findall(text)]
-        found += [("ATTRD_CIRCULAR_SESSIONS", test_circular.SESSIONS), ("ATTRD_MADE_SESSIONS", test_made.SESSIONS)]
+        found += [("ATTRD_CIRCULAR_SESSIONS", test_circular.SESSIONS), ("ATTRD_MADE_SESSIONS", test_made.SESSIONS),
+                  ("ATTRD_SPOILED_FILES", test_jastadd_spoiled.FILES)]
         for name, count in LESS:
             others = [it for known, it in found if known == name]
             self.assertTrue(others and int(count) < min(others), name)
+        for name, count in SELDOM:
+            others = [it for known, it in found if known == name]
+            self.assertTrue(others and int(count) > max(others), name)

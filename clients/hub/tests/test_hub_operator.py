@@ -179,6 +179,7 @@ class Editors(unittest.TestCase):
         hub.start()
         self.assertEqual(hub.client().ask("0 show /Block/Stmt:0"), '0 = Decl("y",Num(1))')
 
+    @at_length
     def test_the_log_says_who_where_it_is_asked_to(self) -> None:
         hub = self.edited("--log-edits")
         who = f"pid {self.editor}, uid {os.getuid()}, gid {os.getgid()}"
@@ -297,6 +298,7 @@ class Checks(unittest.TestCase):
         self.assertEqual(status, 0)
         self.assertIn("warning: journal-0: it ends with version 0: the edit behind it was cut off in the middle, and is left out", lines)
 
+    @at_length
     def test_states_from_which_no_start_goes_on(self) -> None:
         self.hub.kill()
         for name, data in (("journal-0", b"attrd journal 9 from 0\n"), ("tree-0.txt", b"Program(Block([]))\n")):

@@ -194,6 +194,7 @@ class Restarts(unittest.TestCase):
         hub.start()
         self.assertEqual(hub.client().ask("0 version"), "0 ok 1")
 
+    @at_length
     def test_a_long_journal_is_renewed(self) -> None:
         hub = self.hub("--sync", "second")
         client = hub.client()

@@ -7,6 +7,7 @@ from pathlib import Path
 from typing import Callable, Dict, List
 from unittest import mock
 
+from at_length import at_length
 from simulated import Machine, Program, Simulation
 
 from attrd_hub.journal import Journal
@@ -46,14 +47,17 @@ class Equal(unittest.TestCase):
     def test_a_machine_without_other_work(self) -> None:
         self.check(Machine())
 
+    @at_length
     def test_a_machine_with_other_work(self) -> None:
         """The program has less than a third of a processor."""
         self.check(Machine(share=0.3))
 
+    @at_length
     def test_a_program_that_stops_at_random(self) -> None:
         """For a tenth of a second, once in a hundred lines."""
         self.check(Machine(stops=100))
 
+    @at_length
     def test_a_hub_that_stops_at_random(self) -> None:
         self.check(Machine(lates=50))
 

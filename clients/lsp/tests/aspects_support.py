@@ -39,6 +39,15 @@ class AspectsClient(Client):
         self.ask("initialize", {})
         self.notify("initialized", {})
 
+    def leave(self) -> None:
+        """Closes what is open, before the folder goes; what is told of it isn't looked at any more."""
+        for file in self.texts:
+            self.notify("textDocument/didClose", {"textDocument": {"uri": self.uri(file)}})
+        self.ask("textDocument/hover", {})
+        self.texts.clear()
+        self.versions.clear()
+        self.notes.clear()
+
     def uri(self, file: str) -> str:
         """What a file of the folder is called."""
         return (self.folder / file).as_uri()

@@ -14,14 +14,21 @@ SAMPLE = Path(__file__).resolve().parents[3] / "samples" / "simplic"
 
 
 class OfPlaces(unittest.TestCase):
-    """What is answered of places in the tutorial's files."""
+    """What is answered of places in the tutorial's files: one server, and a folder for each test."""
+
+    client: AspectsClient
+
+    @classmethod
+    def setUpClass(cls) -> None:
+        cls.client = AspectsClient(Path())
+        cls.addClassCleanup(cls.client.close)
 
     def setUp(self) -> None:
         temporary = tempfile.TemporaryDirectory(prefix="attrd-aspects-")
         self.addCleanup(temporary.cleanup)
         self.folder = write_small(Path(temporary.name))
-        self.client = AspectsClient(self.folder)
-        self.addCleanup(self.client.close)
+        self.client.folder = self.folder
+        self.addCleanup(self.client.leave)
 
     def at(self, file: str, text: str, number: int = 0, behind: int = 0) -> Dict[str, Any]:
         """The place of a text where it stands for the time of that number, and so many characters on."""
@@ -132,7 +139,15 @@ class OfPlaces(unittest.TestCase):
 
 
 class OfStatements(unittest.TestCase):
-    """What is answered of places in bodies of statements, in the sample that is written as users of JastAdd write it."""
+    """What is answered of places in bodies of statements, in the sample that is written as users of JastAdd write it: one server, and a
+    folder for each test."""
+
+    client: AspectsClient
+
+    @classmethod
+    def setUpClass(cls) -> None:
+        cls.client = AspectsClient(Path(), None, "--forms", "jastadd")
+        cls.addClassCleanup(cls.client.close)
 
     def setUp(self) -> None:
         temporary = tempfile.TemporaryDirectory(prefix="attrd-aspects-")
@@ -140,8 +155,8 @@ class OfStatements(unittest.TestCase):
         for file in SAMPLE.iterdir():
             if file.suffix in (".ast", ".jrag"):
                 shutil.copy(file, temporary.name)
-        self.client = AspectsClient(Path(temporary.name), None, "--forms", "jastadd")
-        self.addCleanup(self.client.close)
+        self.client.folder = Path(temporary.name)
+        self.addCleanup(self.client.leave)
         self.client.open("names.jrag")
         self.client.open("functions.jrag")
 

@@ -316,6 +316,7 @@ class OnFaults(unittest.TestCase):
         client.notify("textDocument/didOpen", {})
         self.assertIn("textDocument", client.note("window/showMessage")["message"])
 
+    @at_length
     def test_the_status_tells_how_the_editor_ended(self):
         with Client() as client:
             self.assertIsNone(client.ask("shutdown", None))
