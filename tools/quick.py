@@ -37,15 +37,18 @@ LONGEST = ("client hub", "client hub, more", "client lsp", "the program", "clien
 DIVIDED = {"hub": ("test_hub_hostile", "test_hub_operator", "test_hub_lost")}
 # What is tried less often than in the gate: kills of the hub, pairs of trees, sessions and files by chance, and caches under want of memory;
 # and trees have fewer nodes. With the last word the tests of clients that take long are left out (clients/at_length.py).
-LESS = (("ATTRD_HUB_POINTS", "15"), ("ATTRD_PAIRS", "250"), ("ATTRD_CIRCULAR_SESSIONS", "10"), ("ATTRD_MADE_SESSIONS", "10"),
-        ("ATTRD_TEST_NODES", "5000"), ("ATTRD_MEMORY_KEEPERS", "1"), ("ATTRD_READINGS", "1500"), ("ATTRD_SPOILED_FILES", "10"))
-# Of requests for memory each third one is refused in turn.
-SELDOM = (("ATTRD_MEMORY_EVERY", "3"),)
+LESS = (("ATTRD_HUB_POINTS", "10"), ("ATTRD_PAIRS", "250"), ("ATTRD_CIRCULAR_SESSIONS", "10"), ("ATTRD_MADE_SESSIONS", "7"),
+        ("ATTRD_TEST_NODES", "5000"), ("ATTRD_MEMORY_KEEPERS", "1"), ("ATTRD_READINGS", "1500"), ("ATTRD_SPOILED_FILES", "10"),
+        ("ATTRD_PROBLEMS", "50"))
+# Of requests for memory each third one is refused in turn, and of reads and writes each third one fails.
+SELDOM = (("ATTRD_MEMORY_EVERY", "3"), ("ATTRD_CALLS_EVERY", "3"))
 SHORT = ("ATTRD_SHORT", "1")
 # Tests of clients that take long and start no program, so that they run while it is built.
-APART = ("test_grammars", "test_hub_journal", "test_hub_lines", "test_hub_loop.Looking", "test_hub_package", "test_hub_turns",
+APART = ("test_check.Grammars.test_each_refused_grammar_of_the_manual", "test_grammars", "test_hub_journal", "test_hub_lines", "test_hub_loop.Looking", "test_hub_package", "test_hub_turns",
          "test_lsp_again.Edits.test_edits_of_a_part_make_the_whole_tree", "test_lsp_again.Readings", "test_lsp_again.Texts",
-         "test_lsp_positions", "test_lsp_source", "test_lsp_syntax", "test_replies", "test_terms", "test_update.Edits")
+         "test_lsp_positions", "test_lsp_source", "test_lsp_syntax", "test_page_source.OfALanguageServer.test_a_grammar_that_is_refused",
+         "test_page_source.OfALanguageServer.test_a_text_that_has_no_tree", "test_replies", "test_terms", "test_update.Edits",
+         "test_versions.Wheel")
 # What goes on beside the build leaves the processors to that, for which all else waits.
 BESIDE = ("nice", "-n", "5")
 COUNTED = re.compile(r"^(\d+) passed, (\d+) failed$", re.M)

@@ -1,5 +1,6 @@
 """Sessions whose reads or writes fail, at each call in turn (tools/pieces.c): a read or a write is of one byte where calls are counted."""
 import contextlib
+import os
 import socket
 import subprocess
 import tempfile
@@ -9,6 +10,9 @@ from tools.of_the_program.keeping import KeepingTest
 from tools.of_the_program.runs import SECONDS, End, all_of, ended
 from tools.of_the_program.sessions import CALCULATOR
 from tools.starve import preloading
+
+# Each how many of the calls fails.
+EVERY = int(os.environ.get("ATTRD_CALLS_EVERY", "1"))
 
 
 class Session(NamedTuple):
@@ -77,14 +81,14 @@ class FailingCalls(KeepingTest):
     def test_a_failed_read_leaves_whole_lines(self) -> None:
         for lines, replies in SESSIONS:
             told = replies.splitlines(keepends=True)
-            for reads in range(len(lines) + 1):
+            for reads in range(0, len(lines) + 1, EVERY):
                 whole = "".join(told[:lines[:reads].count("\n")])
                 end = self.ended(lines, READ_PIECE=1, READS=reads)
                 self.assertEqual(end, (3, whole.encode(), b"read fault\n"), reads)
 
     def test_a_failed_write_leaves_a_front(self) -> None:
         for lines, replies in SESSIONS:
-            for writes in range(len(replies)):
+            for writes in range(0, len(replies), EVERY):
                 for nothing in (0, 1):
                     end = self.ended(lines, WRITE_PIECE=1, WRITES=writes, NOTHING=nothing)
                     self.assertEqual(end, (3, replies[:writes].encode(), b"write fault\n"), writes)

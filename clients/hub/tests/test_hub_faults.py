@@ -16,6 +16,7 @@ import time
 import unittest
 from typing import Callable, List
 
+from at_length import at_length
 from hub_support import ENVIRONMENT, SECONDS, Hub, Lines, run_hub
 
 from attrd_hub.status import asked
@@ -168,10 +169,11 @@ class Faults(unittest.TestCase):
         self.assertLess(int(after or 0), MEMORY_KIB + int(memory or 0), told)
 
     def made(self, name: str) -> None:
-        ended = subprocess.run([sys.executable, __file__, name, self.hub.socket], env=ENVIRONMENT, timeout=SECONDS, check=False,
-                               capture_output=True, text=True)
+        ended = subprocess.run([sys.executable, __file__, name, self.hub.socket], timeout=SECONDS, check=False, capture_output=True,
+                               text=True, env={**ENVIRONMENT, "PYTHONPATH": os.pathsep.join(sys.path)})
         self.assertEqual(ended.returncode, 0, ended.stderr)
 
+    @at_length
     def test_many_connections(self) -> None:
         start = time.monotonic()
         self.fault("many_connections")
@@ -188,6 +190,7 @@ class Faults(unittest.TestCase):
     def test_no_readers(self) -> None:
         self.fault("no_readers")
 
+    @at_length
     def test_closed_within(self) -> None:
         self.fault("closed_within")
 

@@ -76,6 +76,7 @@ class Figures(unittest.TestCase):
         self.assertEqual(status, 0, told)
         return metrics(told)
 
+    @at_length
     def test_versions(self) -> None:
         figures = self.figures()
         self.assertEqual((figures["hub_version"], figures["program_version"]), (VERSION, VERSION))
@@ -185,6 +186,7 @@ class Editors(unittest.TestCase):
         who = f"pid {self.editor}, uid {os.getuid()}, gid {os.getgid()}"
         self.assertIn(f'version 1 by {who}: token /Block/Stmt:0 ID "y"\n', hub.told())
 
+    @at_length
     def test_over_tcp_nobody_is_known(self) -> None:
         with tempfile.TemporaryDirectory() as folder, socket.socket() as free:
             token = Path(folder) / "token"
@@ -271,6 +273,7 @@ class Checks(unittest.TestCase):
         self.assertEqual(status, 1, lines)
         self.assertTrue(lines[-1].startswith("fault: "), lines)
 
+    @at_length
     def test_edits_that_don_t_fit(self) -> None:
         self.hub.kill()
         (self.hub.state / "journal-0").write_bytes(head(0) + record(1, b"drop /Block/Stmt:7"))

@@ -13,6 +13,7 @@ from pathlib import Path
 from typing import Any, Callable, List, Tuple
 from unittest import mock
 
+from at_length import at_length
 from hub_support import CLONE, ENVIRONMENT, SECONDS, Hub, calculator, program, run_hub, until
 
 import attrd_hub.main
@@ -98,6 +99,7 @@ class Ends(unittest.TestCase):
 
 
 class FullDisks(unittest.TestCase):
+    @at_length
     def test_a_start_on_a_full_disk(self) -> None:
         """There is no room for a temporary file: the hub ends, and may be started again."""
         hub = Hub("--sync", "never")
@@ -157,6 +159,7 @@ class Descriptors(unittest.TestCase):
         for it in others:
             it.close()
 
+    @at_length
     def test_edits_are_made_safe_where_no_more_files_may_be_open(self) -> None:
         hub = Hub("--sync", "second")
         self.addCleanup(hub.close)

@@ -139,6 +139,7 @@ class Sessions(unittest.TestCase):
         self.assertEqual(status, 0, told)
         return json.loads(told)
 
+    @at_length
     def test_figures(self) -> None:
         client = self.client()
         client.ask("0 show /")
@@ -236,6 +237,7 @@ class Restarts(unittest.TestCase):
         hub.start()
         self.assertEqual([hub.client().ask(it) for it in ("0 version", "0 show /Block/Stmt:389999")], ["0 ok 1", '0 = Decl("y",-)'])
 
+    @at_length
     def test_a_number_of_nodes_that_is_none(self) -> None:
         hub = self.hub()
         hub.kill()
@@ -266,6 +268,7 @@ class Restarts(unittest.TestCase):
         self.assertEqual(status, 5)
         self.assertIn("drop /Block/Stmt:0: 0 refused 4 path", told)
 
+    @at_length
     def test_an_accepted_edit_that_can_t_be_written(self) -> None:
         hub = self.hub()
         client = hub.client()

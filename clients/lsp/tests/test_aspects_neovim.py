@@ -65,6 +65,7 @@ class Aspects(unittest.TestCase):
         listed = self.editor.until("local found = vim.fn.getqflist() return #found == 6 and found")
         self.assertEqual([it["lnum"] for it in listed], [7, 8, 9, 10, 11, 12])
 
+    @at_length
     def test_names_are_completed(self) -> None:
         self.editor.keys("4G$F;i")
         self.editor.keys(" == this.getI<C-x><C-o>")

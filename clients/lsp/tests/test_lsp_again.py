@@ -333,6 +333,7 @@ class Diagnostics(unittest.TestCase):
         self.finish(project)
         self.assertEqual(str(project.desk.session.show("/")), str(project.source.tree))
 
+    @at_length
     def test_edits_before_a_check_is_over(self):
         chance = random.Random(8)
         project = self.project("".join(map(large_class, range(4))))

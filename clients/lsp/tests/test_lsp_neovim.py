@@ -159,6 +159,7 @@ class OnSmallFile(unittest.TestCase):
 class OnFaults(unittest.TestCase):
     """A language that is refused, and a program that ends."""
 
+    @at_length
     def test_a_refused_file_shows_its_fault_at_its_place_until_it_is_corrected(self) -> None:
         folder = Folder(SMALL)
         self.addCleanup(folder.temporary.cleanup)

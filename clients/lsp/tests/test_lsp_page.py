@@ -7,6 +7,7 @@ import tempfile
 import unittest
 from pathlib import Path
 
+from at_length import at_length
 from lsp_support import CLONE, SAMPLE, SECONDS, Client, Editing, program
 from neovim import Neovim
 from test_lsp_neovim import DIAGNOSTICS, READY, WATCH
@@ -148,6 +149,7 @@ class Followed(unittest.TestCase):
         editor.until("return vim.api.nvim_buf_get_lines(0, 3, 4, true)[1] == 'show wide'")
         self.assertEqual(len(editor.lua("return vim.api.nvim_list_wins()")), 1)
 
+    @at_length
     def test_words_numbers_and_comments_are_coloured_in_neovim(self):
         (self.home.sums / "one.sums").write_text("let a = 10; // let 1\nshow letter;\n", "utf-8")
         editor = self.home.neovim(self, block("lua", 0), self.home.sums / "one.sums")
@@ -192,6 +194,7 @@ class Followed(unittest.TestCase):
 class Sample(unittest.TestCase):
     """The sample's language in Neovim, with the page's lines."""
 
+    @at_length
     def test_two_files_in_neovim(self):
         home = Home(self)
         (home.folder / "tokens.rules").write_text('token NUMBER;\ntoken PLUS "+";\n', "utf-8")

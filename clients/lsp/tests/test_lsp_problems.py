@@ -1,4 +1,5 @@
 """The problems of a tree at each of many edits, against all that the library's own search finds on the same tree."""
+import os
 import random
 import re
 import unittest
@@ -13,6 +14,7 @@ from attrd_lsp.small.language import tutorials
 from attrd_lsp.small.syntax import KEYWORDS
 from lsp_support import FILE, large_class, program
 
+EDITS = int(os.environ.get("ATTRD_PROBLEMS", "120"))
 NAMES = "int boolean x q a1 b2 t3 u3 s C1 C2 C9 me1".split(" ")
 NAME = re.compile(r"[A-Za-z]\w*")
 
@@ -56,7 +58,7 @@ class ByChance(unittest.TestCase):
         chance = random.Random(5)
         self.assertEqual(self.check(), [])
         counts = []
-        for _ in range(120):
+        for _ in range(EDITS):
             self.change(chance)
             told, wanted = self.check(), self.wanted()
             if wanted is not None and self.project.source.is_good:
@@ -64,7 +66,7 @@ class ByChance(unittest.TestCase):
                 counts.append(len(wanted))
             if chance.random() < 0.06:
                 self.project.put(FILE, FILE, "".join(map(large_class, range(4))))
-        self.assertGreater(len(counts), 40)
+        self.assertGreater(len(counts), EDITS // 3)
         self.assertGreater(max(counts), 10)
 
 

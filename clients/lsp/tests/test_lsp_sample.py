@@ -48,7 +48,12 @@ class Parser(unittest.TestCase):
 
 
 class OnAFolder(unittest.TestCase):
-    """Two files of a folder, one of which is open."""
+    """Two files of a folder, one of which is open: one server, and a folder for each test."""
+
+    @classmethod
+    def setUpClass(cls):
+        cls.client = Client(script=SAMPLE / "rules_server.py").__enter__()
+        cls.addClassCleanup(cls.client.close)
 
     def setUp(self):
         temporary = tempfile.TemporaryDirectory(prefix="attrd-lsp-")
@@ -56,9 +61,8 @@ class OnAFolder(unittest.TestCase):
         self.folder = Path(temporary.name).resolve()
         self.tokens = self.folder / "tokens.rules"
         self.tokens.write_text(TOKENS, "utf-8")
-        self.client = Client(script=SAMPLE / "rules_server.py").__enter__()
-        self.addCleanup(self.client.close)
         self.document = Editing(self.client, CALCULATOR, (self.folder / "calculator.rules").as_uri())
+        self.addCleanup(self.client.notify, "textDocument/didClose", {"textDocument": {"uri": self.document.uri}})
 
     def other(self):
         """What is told next of the file that isn't open, with severities."""

@@ -8,6 +8,7 @@ import unittest
 from pathlib import Path
 from types import SimpleNamespace
 
+from at_length import at_length
 from lsp_support import LSP, SMALL, Client, Editing, program
 from attrd import Done, Value
 from attrd_lsp.desk import Task
@@ -97,6 +98,7 @@ class InTurns(unittest.TestCase):
         self.held.unlink()
         self.assertEqual(document.settled(), [])
 
+    @at_length
     def test_colours_wait_for_the_check(self):
         client = self.client(300, 0.0005)
         document = Editing(client, SMALL.replace("x + r", "q + r"))
@@ -105,6 +107,7 @@ class InTurns(unittest.TestCase):
         self.assertNotEqual(client.answer(request["id"])["data"], [])
         self.assertEqual([len(it["params"]["diagnostics"]) for it in client.notes], [1])
 
+    @at_length
     def test_what_is_told_of_a_version_is_what_its_text_has(self):
         client = self.client(5, 0.001)
         document = Editing(client, SMALL)

@@ -113,6 +113,7 @@ class Windows(unittest.TestCase):
         self.shows(one, "#edits li", "by this window")
         self.shows(two, "#clients", "3 clients")
 
+    @at_length
     def test_faults_and_circles_are_told_in_words(self) -> None:
         tab = self.window()
         circle = self.probe(tab, "/", "around")
@@ -166,6 +167,7 @@ class Windows(unittest.TestCase):
         tab.value(f"document.querySelector('#node [data-field=\"{field}\"]').value = {json.dumps(value)}")
         tab.value(f"document.querySelector('#node [data-field=\"{field}\"]').form.requestSubmit()")
 
+    @at_length
     def test_a_refusal_stands_where_one_looks(self) -> None:
         tab = self.window()
         self.select(tab, "/Kind:2/Block/Stmt:0/Init/Right")

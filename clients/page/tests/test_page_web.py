@@ -91,9 +91,7 @@ class Page:
 
 
 class Web(unittest.TestCase):
-    def setUp(self) -> None:
-        self.served = Served()
-        self.addCleanup(self.served.close)
+    served: Served
 
     def page(self, origin: Optional[str] = None) -> Page:
         page = Page(self.served, origin)
@@ -110,6 +108,15 @@ class Web(unittest.TestCase):
                 if not data:
                     return int(self.head.split(b" ")[1])
                 self.head += data
+
+
+class Unchanged(Web):
+    """What changes nothing: one server for all."""
+
+    @classmethod
+    def setUpClass(cls) -> None:
+        cls.served = Served()
+        cls.addClassCleanup(cls.served.close)
 
     def test_who_is_answered(self) -> None:
         path = self.served.address.split(str(self.served.port), 1)[1]
@@ -161,6 +168,21 @@ class Web(unittest.TestCase):
             page.send(text)
             self.assertTrue(page.told("refused")["text"], text)
 
+    def test_the_reason_of_a_refusal(self) -> None:
+        page = self.page()
+        page.do(do="edit", edit="set", id=page.number("/Kind:2/Block"), term='Block([Show(Num("x"))])')
+        self.assertIn('/Stmt:0/Expr/Value: "x" stands where a token of kind int is wanted', page.told("refused")["text"])
+        page.do(do="edit", edit="token", id=page.number("/Kind:2/Block/Stmt:0/Init/Right"), part="Value", value="1x")
+        self.assertIn("is no number", page.told("refused")["text"])
+
+
+class Changed(Web):
+    """What edits the tree: a server for each."""
+
+    def setUp(self) -> None:
+        self.served = Served()
+        self.addCleanup(self.served.close)
+
     def test_answers(self) -> None:
         page = self.page()
         self.assertEqual(page.probe("/", "errors")["value"], "0")
@@ -186,13 +208,6 @@ class Web(unittest.TestCase):
         self.assertTrue(all(" ok " in client.reply() for _ in range(20)))
         self.assertEqual(client.ask("0 show /Kind:21"), '0 = Basic("renamed")')
         client.close()
-
-    def test_the_reason_of_a_refusal(self) -> None:
-        page = self.page()
-        page.do(do="edit", edit="set", id=page.number("/Kind:2/Block"), term='Block([Show(Num("x"))])')
-        self.assertIn('/Stmt:0/Expr/Value: "x" stands where a token of kind int is wanted', page.told("refused")["text"])
-        page.do(do="edit", edit="token", id=page.number("/Kind:2/Block/Stmt:0/Init/Right"), part="Value", value="1x")
-        self.assertIn("is no number", page.told("refused")["text"])
 
     @at_length
     def test_more_probes_than_a_session_has_marks(self) -> None:

@@ -5,6 +5,7 @@ import sys
 import unittest
 from pathlib import Path as FilePath
 
+from at_length import at_length
 from attrd.prompt import Prompt
 from support import CALCULATOR, PROGRAM, SAMPLES
 
@@ -61,6 +62,7 @@ class Process(unittest.TestCase):
         typed = "$ attrd calc.ast tree.txt calc.jrag\n> 0 version\n0 ok 0\n> 0 drop /Block/Stmt:0\n0 ok 1\nquit\n> 0 version\n"
         self.assertEqual(self.run_prompt(typed, *FILES), (0, "0 ok 0\n0 ok 1\n", ""))
 
+    @at_length
     def test_forms_that_are_left_out_else(self):
         flow = SAMPLES / "flow"
         files = [str(flow / it) for it in ("flow.ast", "tree.txt", "flow.jrag")]

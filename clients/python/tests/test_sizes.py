@@ -37,6 +37,7 @@ class Checks(unittest.TestCase):
     def setUp(self):
         self.grammar = Grammar.read(GRAMMAR.text)
 
+    @at_length
     def test_how_many_nodes_a_tree_may_have_can_be_said(self):
         for tree, nodes in (row(TREE_NODES), None), (row(8), 8), (row(TREE_NODES + 1), TREE_NODES + 1):
             named = {} if nodes is None else {"nodes": nodes}
@@ -78,6 +79,7 @@ class Servers(unittest.TestCase):
         document.refresh()
         self.assertEqual(document.tree, more)
 
+    @at_length
     def test_faults_are_counted_in_lists_of_more_elements_than_the_usual(self):
         text = "aspect A { syn boolean Item.isBad() = getID().equals(\"b\"); }"
         found = attrd.diagnostics(Grammar.read(GRAMMAR.text), [text], ["isBad"])

@@ -171,6 +171,7 @@ class Documents(ServerTest):
         self.assertEqual(self.document.version, 1)
         self.document.verify()
 
+    @at_length
     def test_many_long_texts(self):
         self.update(self.program(*[Node("Decl", "\"" * 4096, Node("Use", "é" * 2048)) for _ in range(60)]))
 
@@ -188,6 +189,7 @@ class Documents(ServerTest):
         update = self.update(self.program(Node("Print", spine)))
         self.assertLess(len(update.edits), 520)
 
+    @at_length
     def test_a_wide_sum_longer_than_a_line(self):
         def balanced(count):
             return Node("Num", count) if count < 2 else Node("Add", balanced(count // 2), balanced(count - count // 2))
