@@ -2,14 +2,18 @@
 reading files and words.
 
 A function of the repository's crates stands in one part, and is declared in the other where that calls it. A function of a library is
-copied into each part that needs it, so what is inlined, and how deep a question goes on the stack, stays as it is in one module.
+copied into each part that needs it, so what is inlined within a part, and how deep a question goes on the stack, stays as it is in one
+module.
 """
 import re
 from typing import Dict, Iterable, List, Set
 
 # The crates that make up the first part. What is evaluated deep in the tree, by functions that call each other, is all here.
-ANSWERING = ("at_class", "at_tree", "at_store", "at_rules", "at_body", "at_cache", "at_evaluate", "at_solve", "at_search", "at_demand",
-             "at_engine", "at_protocol")
+ANSWERING = ("at_store", "at_body", "at_cache", "at_evaluate", "at_solve", "at_search", "at_demand", "at_engine")
+# The library that reads the command line. What it alone leads to runs at the start, and isn't optimized: that takes a third of the time.
+PLAIN = "clap"
+# What stands in front of the attributes in the first line of a function's definition.
+ATTRIBUTES = re.compile(r"\) ([^()]*)\{$")
 # A name of the module, and the crate at the beginning of a function's name.
 NAME = re.compile(r'@("[^"]*"|[\w.$-]+)')
 CRATE = re.compile(r'"?<?&?(?:mut )?(\w+)')
@@ -45,14 +49,19 @@ def crate_of(name: str) -> str:
     return found[1] if found else ""
 
 
-def needed(module: Module, roots: Set[str], own: Set[str]) -> Set[str]:
-    """These functions, and those of libraries to which they lead; `own` are the repository's."""
+def needed(module: Module, roots: Set[str], but: Set[str]) -> Set[str]:
+    """These functions, and those to which they lead otherwise than by the functions of `but`."""
     found, wanted = set(roots), list(roots)
     while wanted:
-        new = module.named[wanted.pop()] - own - found
+        new = module.named[wanted.pop()] - but - found
         found |= new
         wanted += new
     return found
+
+
+def without_optimizing(line: str) -> str:
+    """The first line of the definition of a function that isn't optimized."""
+    return ATTRIBUTES.sub(r") noinline optnone \1{", line)
 
 
 def declaration(line: str) -> str:
@@ -60,12 +69,14 @@ def declaration(line: str) -> str:
     return line.replace("define internal ", "declare hidden ", 1).rpartition(" {")[0]
 
 
-def text_of(module: Module, there: Set[str], shared: Set[str]) -> List[str]:
-    """The lines of the part that has these functions. Those that are shared with the other part are known to it, too."""
+def text_of(module: Module, there: Set[str], shared: Set[str], plain: Set[str]) -> List[str]:
+    """The lines of the part that has these functions. Those that are shared with the other part are known to it, too; those that are plain
+    aren't optimized."""
     text = list(module.outside)
     for name, lines in module.functions.items():
         if name in there:
-            text.append(lines[0].replace("define internal ", "define hidden ", 1) if name in shared else lines[0])
+            first = without_optimizing(lines[0]) if name in plain else lines[0]
+            text.append(first.replace("define internal ", "define hidden ", 1) if name in shared else first)
             text += lines[1:]
         elif name in shared:
             text.append(declaration(lines[0]))
@@ -80,4 +91,5 @@ def divided(lines: Iterable[str], crates: Iterable[str]) -> List[List[str]]:
     outside = set(NAME.findall("\n".join(module.outside))) & module.functions.keys()
     parts = [needed(module, roots | outside - own, own) for roots in (answering, own - answering)]
     calls = [set[str]().union(outside, *(module.named[it] for it in part)) & own - part for part in parts]
-    return [text_of(module, part, calls[0] | calls[1]) for part in parts]
+    plain = module.functions.keys() - needed(module, own | outside, {it for it in module.functions if crate_of(it) == PLAIN})
+    return [text_of(module, part, calls[0] | calls[1], plain) for part in parts]

@@ -4,7 +4,7 @@
 
 The program is the quick one (tools/quick_program.py). With it run the examples of the pages and sample folders, the tests of
 the program and those of the clients; beside it the counts (tools/counts.py --hold) and, where they are installed, mypy and
-pyflakes. While the program is built one part that needs none runs beside it, and then three side by side. Of each it is told how
+pyflakes. While the program is built one part that needs none runs beside it, and then four side by side. Of each it is told how
 many of its tests passed, and what it printed where one failed. It is told, too, how many tests were left out. The last line is
 'N passed, M failed', a part that counts nothing being one; the status is 1 where one failed.
 

@@ -19,7 +19,16 @@ define i32 @main() #0 {
 
 define internal void @"attrd::main"() #0 {
   call void @"at_engine::line"(ptr @text)
+  call void @"clap::words"()
   call void @"std::both<at_jrag::Word>"()
+}
+
+define internal void @"clap::words"() #0 {
+  call void @"std::of_words"()
+  call void @"std::both<at_jrag::Word>"()
+}
+
+define internal void @"std::of_words"() #0 {
 }
 
 define internal void @"at_engine::line"(ptr %0) #0 {
@@ -62,7 +71,11 @@ class Divided(unittest.TestCase):
         answering, reading = (self.names(it, "define ") for it in (self.answering, self.reading))
         both = {"std::both<at_jrag::Word>", "std::kept"}
         self.assertEqual(answering, {"at_engine::line", "std::only", "<&at_store::Node as core::eq>::eq"} | both)
-        self.assertEqual(reading, {"main", "attrd::main", "at_text::word"} | both)
+        self.assertEqual(reading, {"main", "attrd::main", "at_text::word", "clap::words", "std::of_words"} | both)
+
+    def test_what_the_library_of_the_command_line_alone_leads_to_is_not_optimized(self) -> None:
+        plain = [it for it in [*self.answering, *self.reading] if "optnone" in it]
+        self.assertEqual(plain, [f'define internal void @"{it}"() noinline optnone #0 {{' for it in ("clap::words", "std::of_words")])
 
     def test_what_the_other_part_calls_is_known_to_it(self) -> None:
         self.assertEqual(self.names(self.answering, "declare hidden "), {"at_text::word"})
