@@ -59,6 +59,7 @@ others_plain rules b p place x no_not no_and no_or no_choose no_call no_exists =
     by (Body-F.Has a n) is = at (variant.Has a n) (whole x (Body-F.Has a n) is ∙ variant.rolls-Has a n) (plain refl)
     by (Body-F.TokenOf a n) is = at (variant.TokenOf a n) (whole x (Body-F.TokenOf a n) is ∙ variant.rolls-TokenOf a n) (plain refl)
     by (Body-F.Call a n bs) is = absurd (no_call a n bs (whole x (Body-F.Call a n bs) is ∙ variant.rolls-Call a n bs))
+    by (Body-F.Passed a) is = at (variant.Passed a) (whole x (Body-F.Passed a) is ∙ variant.rolls-Passed a) (plain refl)
     by (Body-F.Exists a n c) is = absurd (no_exists a n c (whole x (Body-F.Exists a n c) is ∙ variant.rolls-Exists a n c))
     by (Body-F.First a n c) is = at (variant.First a n c) (whole x (Body-F.First a n c) is ∙ variant.rolls-First a n c) (plain refl)
     by (Body-F.Sum a n c) is = at (variant.Sum a n c) (whole x (Body-F.Sum a n c) is ∙ variant.rolls-Sum a n c) (plain refl)

@@ -17,6 +17,7 @@ pub mod FormPlain
 pub mod Formed
 pub mod FormKinds
 pub mod SamenessLemmas
+pub mod ShortTexts
 pub mod TypedParts
 pub mod TypedUses
 pub mod TypedFolds

@@ -1,6 +1,6 @@
 -- What is done with values of the right kinds comes to what the trial may be told.
 use Rattle.std.proofs.Common.{◌≡◌, ℕ, false, nat_eq, List, [], ◌∷◌, ◌++◌, append-nil, map, None, Some, refl, subst, sym, ◌∙◌, Result, Ok, Err, IfOk}
-use Rattle.at_model.specs.Bodies.{Expr, Exprs, no_exprs, Scope, Name, Negate, Not, Arithmetic, Compare, Join, JoinInt, Same, Differ, Equals, InstanceOf, CastTo, Child, Element, Count, Has, TokenOf, eval}
+use Rattle.at_model.specs.Bodies.{Expr, Exprs, no_exprs, Scope, Name, Negate, Not, Arithmetic, Compare, Join, JoinInt, Same, Differ, Equals, InstanceOf, CastTo, Child, Element, Count, Has, TokenOf, Passed, eval}
 use Rattle.at_model.specs.Instances.{AnyText, all_literals, literals}
 use Rattle.at_model.specs.Kinds.{HasKind, HaveKinds, ScopeKinds}
 use Rattle.at_model.specs.Kinds as form
@@ -128,6 +128,7 @@ module _ (rules : Rules) (at : ClassAt ℕ) (look : Contents ℕ) (over : IsOver
   used_typed s p _ _ _ v h (typed.count c part b e) is = evaluated _ (Count (Name 0) part) _ _ (form.count c part b e (form.name 0 refl)) (one_scope s p _ v h is)
   used_typed s p _ _ _ v h (typed.has c part b e) is = evaluated _ (Has (Name 0) part) _ _ (form.has c part b e (form.name 0 refl)) (one_scope s p _ v h is)
   used_typed s p _ _ _ v h (typed.token c part kind e) is = evaluated _ (TokenOf (Name 0) part) _ _ (form.token_of c part kind e (form.name 0 refl)) (one_scope s p _ v h is)
+  used_typed s p _ _ _ v h (typed.handed_on k) is = evaluated _ (Passed (Name 0)) _ _ (form.passed k (form.name 0 refl)) (one_scope s p _ v h is)
 
   -- and what it comes to may be told
   pub use_typed : (t : Trial) (u : Unary) (v : Value ℕ) (now : Now) → Uses rules at t (code.Use u) v → ComesTo look (with_one rules.classes u v) now → IsTypedNow rules at now t
@@ -170,6 +171,7 @@ module _ (rules : Rules) (at : ClassAt ℕ) where
       by_use _ _ _ (typed.count c part b e) is = is_ref rules at c v is
       by_use _ _ _ (typed.has c part b e) is = is_ref rules at c v is
       by_use _ _ _ (typed.token c part kind e) is = is_ref rules at c v is
+      by_use _ _ _ (typed.handed_on k) is = tt
 
       by_todo : (s : PlaceKinds) (k : Kind) (s' : PlaceKinds) (k' : Kind) → IsOfKind rules.classes at v k → IsTodo rules at s k (code.Use u) s' k' → IsOperand u v
       by_todo s _ _ _ is (typed.used _ k l _ does) = by_use k l u does is

@@ -1,7 +1,7 @@
 -- An expression of a kind is evaluated by parts of their kinds, for uses of their values.
 use Rattle.std.proofs.Common.{◌≡◌, ℕ, ℤ, List, ◌∷◌, subst, Bor, Result, Ok, Err, IfOk}
 use Rattle.at_model.specs.Terms.{IsInt32}
-use Rattle.at_model.specs.Bodies.{Expr, Negate, Not, Arithmetic, Compare, Join, JoinInt, Same, Differ, And, Or, Choose, Equals, InstanceOf, CastTo, Child, Element, Count, Has, TokenOf, Call, Exists, First, Sum}
+use Rattle.at_model.specs.Bodies.{Expr, Negate, Not, Arithmetic, Compare, Join, JoinInt, Same, Differ, And, Or, Choose, Equals, InstanceOf, CastTo, Child, Element, Count, Has, TokenOf, Call, Exists, First, Sum, Passed}
 use Rattle.at_model.specs.Rules.{Rules, Kind}
 use Rattle.at_model.specs.Rules as model
 use Rattle.at_model.specs.Kinds.{HasKind}
@@ -95,6 +95,14 @@ module _ (rules : Rules) (at : ClassAt ℕ) (s : PlaceKinds) where
       by_kind _ (form.widened c d sub x) h = by_kind (model.Class c) x (typed.widened c d sub h)
       by_kind _ (form.widened_all c d sub x) h = by_kind (model.Nodes c) x (typed.widened_all c d sub h)
       by_kind k (form.token_of c _ token is x) h = one_part a _ ts (model.Class c) k x (typed.used s (model.Class c) k (unary.Token part) (typed.token c part token is)) h
+
+  pub passes : (a : Expr) (k : Kind) (ts : List Todo) → HasKind rules (scope_kinds s) (Passed a) k → AreTodos rules at s k ts → IsPart a (code.Use unary.Passed) ts
+  passes a k ts x h = by_kind k x h
+    where
+      by_kind : (k : Kind) → HasKind rules (scope_kinds s) (Passed a) k → AreTodos rules at s k ts → IsPart a (code.Use unary.Passed) ts
+      by_kind _ (form.widened c d sub x) h = by_kind (model.Class c) x (typed.widened c d sub h)
+      by_kind _ (form.widened_all c d sub x) h = by_kind (model.Nodes c) x (typed.widened_all c d sub h)
+      by_kind k (form.passed _ x) h = one_part a _ ts k k x (typed.used s k k unary.Passed (typed.handed_on k)) h
 
   -- the operands of a form with two
   two_parts : (a : Expr) (b : Bor Body) (o : _) (ts : List Todo) (k l m : Kind) → IsOperation rules k l o m → HasKind rules (scope_kinds s) a k → HasKind rules (scope_kinds s) (body_view b.now) l → AreTodos rules at s m ts → IsPart a (code.Right o b) ts

@@ -50,6 +50,10 @@ pub joined_told : {E : Type 0} (look : Contents ℕ) (t : Trial) (res : Result N
 joined_told look t (Err e) l r l' r' e' f h = tt
 joined_told look t (Ok now) l r l' r' e f h = (joined_seen {E = ℕ} look (Ok now) l r l' r' e f h, refl)
 
+pub told_still : {E : Type 0} (t : Trial) (res : Result Now E) (P : Now → Type 0) → IfOk res P → IfOk res (λ now. P now × (t ≡ record t { reads = t.reads }))
+told_still t (Err e) P h = tt
+told_still t (Ok now) P h = (h, refl)
+
 module _ (rules : Rules) (at : ClassAt ℕ) where
   -- what is looked at changes nothing else
   seen_stands : (s : PlaceKinds) (k : Kind) (t : Trial) (seen : List (Location ℕ)) → Stands rules at s k t → Stands rules at s k (record t { reads = seen })

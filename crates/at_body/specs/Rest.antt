@@ -3,7 +3,7 @@ use Rattle.std.specs.Prelude.{◌≡◌, ℕ, ◌+◌, nat_eq, not, cond, true, 
 use Rattle.std.specs.Fmt.{signed_decimal}
 use Rattle.std.specs.Int.{w32, int_wrapping_add, int_wrapping_neg}
 use Rattle.at_model.specs.Classes.{Classes}
-use Rattle.at_model.specs.Bodies.{Expr, Exprs, eval, eval_all, computed, joined, is_in_order, value_eq, int_of, truth_of, text_of, ref_of, is_instance, cast_to, child_of, element_of, count_of, has_of, token_of, demand_of, elements_of, exists_in, first_in, sum_in}
+use Rattle.at_model.specs.Bodies.{Expr, Exprs, eval, eval_all, computed, joined, is_in_order, value_eq, int_of, truth_of, text_of, ref_of, is_instance, cast_to, child_of, element_of, count_of, has_of, token_of, passed, demand_of, elements_of, exists_in, first_in, sum_in}
 use Rattle.at_model.specs.Run.{Value, Int, Truth, Ref, Location, Contents, Run, Gives, Fails, Demands, ◌>>=◌}
 use Rattle.at_model.specs.Follow.{Reached, Ends, Stops, Waits, follow}
 use Rattle.at_body.specs.declared.todo.Unary.{Unary}
@@ -41,6 +41,7 @@ with_one classes (unary.Child part) v = child_of part v
 with_one classes (unary.Count part) v = count_of part v
 with_one classes (unary.Has part) v = has_of part v
 with_one classes (unary.Token part) v = token_of part v
+with_one classes unary.Passed v = passed v
 
 -- what is done with two values
 abbrev pub with_two : Binary → Value ℕ → Value ℕ → Run ℕ (Value ℕ)

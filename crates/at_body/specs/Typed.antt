@@ -47,6 +47,7 @@ class_shown s = class_numbered (path s) (class_at (tree s))
 abbrev pub IsOperand : Unary → Value ℕ → Type 0
 IsOperand unary.Negate v = IsInt v
 IsOperand unary.Not v = IsTruth v
+IsOperand unary.Passed v = ⊤
 IsOperand u v = IsRef v
 
 -- what is done with two values may be done with these
@@ -127,6 +128,7 @@ pub data IsUse (rules : Rules) : Kind → Unary → Kind → Type 0 where
   has : (c part b : ℕ) → shape_of_part rules.classes c part ≡ Some (Maybe b) → IsUse rules (Class c) (unary.Has part) Truth
   token : (c part : ℕ) (kind : TokenKind) → shape_of_part rules.classes c part ≡ Some (Token kind)
       → IsUse rules (Class c) (unary.Token part) (kind_of_token kind)
+  handed_on : (k : Kind) → IsUse rules k unary.Passed k
 
 -- of values of the first two kinds, the left one first, it gives one of the third
 pub data IsOperation (rules : Rules) : Kind → Kind → Binary → Kind → Type 0 where

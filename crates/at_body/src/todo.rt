@@ -17,6 +17,8 @@ pub enum Unary {
     Count(usize),
     Has(usize),
     Token(usize),
+    /// It was computed, and is passed.
+    Passed,
 }
 
 /// What is done with two values, the left one and then the right one.

@@ -238,6 +238,7 @@ impl<'a> Trial<'a> {
             Body::Element(a, part, b) => self.operands(store, Binary::Element(*part), a, b),
             Body::Count(a, part) => self.operand(rules, store, Unary::Count(*part), a),
             Body::Has(a, part) => self.operand(rules, store, Unary::Has(*part), a),
+            Body::Passed(a) => self.operand(rules, store, Unary::Passed, a),
             Body::Exists(a, part, b) => self.over(Fold::Exists, a, *part, b),
             Body::First(a, part, b) => self.over(Fold::First, a, *part, b),
             Body::Sum(a, part, b) => self.over(Fold::Sum(0), a, *part, b),

@@ -4,7 +4,7 @@ ghost use Rattle.std.specs.Prelude.{◌≡◌, ◌++◌, ◌+◌, ℕ, List, len
 ghost use Rattle.std.specs.Fmt.{signed_decimal};
 ghost use Rattle.at_model.specs.Classes.{Classes};
 ghost use Rattle.at_model.specs.Run.{Contents, Int, Ref, Text};
-ghost use Rattle.at_model.specs.Bodies.{max_text, int_of, text_of, computed, joined, is_in_order, element_at, child_of, element_of, count_of, has_of, token_of, is_instance, cast_to};
+ghost use Rattle.at_model.specs.Bodies.{max_text, int_of, text_of, computed, joined, passed, is_in_order, element_at, child_of, element_of, count_of, has_of, token_of, is_instance, cast_to};
 ghost use Rattle.at_store.specs.Shown.{contents, IsIdle};
 ghost use Rattle.at_body.specs.Typed.{AreOperands, ComesTo, IsOperand};
 ghost use Rattle.at_body.specs.ValueKinds.{IsInt, IsRef};
@@ -52,6 +52,7 @@ impl<'a> Trial<'a> {
             Unary::Count(part) => self.count(store, part, value.node()),
             Unary::Has(part) => self.has(store, part, value.node()),
             Unary::Token(part) => self.token(store, part, value.node()),
+            Unary::Passed => passed(value),
         }
     }
 
@@ -318,6 +319,19 @@ fn computed<'a>(operator: Operator, left: i32, right: i32) -> Now<'a>
             0 => Now::Fail(FaultKind::Zero),
             divisor => Now::Back(Value::Int(left.wrapping_rem(divisor))),
         },
+    }
+}
+
+/// The value, or the fault of an int that is too far from 0 and of a text that is too long to be passed.
+fn passed<'a>(value: &Value) -> Result<Now<'a>, AllocError>
+    ensures same { (classes : Classes) (t : Trial) → IfOk result (λ now. onto classes t (passed (value_view value.now)) ≡ rest classes now t) }
+    ensures less { (t : Trial) → IfOk result (λ now. weight now t ≡ load t.todo) }
+    ensures told { (look : Contents ℕ) → IfOk result (λ now. ComesTo look (passed (value_view value.now)) now) }
+{
+    if value.may_pass() {
+        Ok(Now::Back(value.copy()?))
+    } else {
+        Ok(Now::Fail(FaultKind::Long))
     }
 }
 

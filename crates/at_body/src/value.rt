@@ -1,9 +1,9 @@
 //! Values and faults.
 
-ghost use Rattle.std.specs.Prelude.{◌≡◌, ◌≤◌, nat_eq, pos, not, string_bytes, IfOk};
+ghost use Rattle.std.specs.Prelude.{◌≡◌, ◌≤◌, ℕ, nat_eq, pos, not, string_bytes, IfOk};
 ghost use Rattle.std.specs.Int.{w32, int_wrapping_neg};
 ghost use Rattle.at_model.specs.Run.{Int, Text};
-ghost use Rattle.at_model.specs.Bodies.{int_of, truth_of, text_of, ref_of, value_of, value_eq};
+ghost use Rattle.at_model.specs.Bodies.{int_of, truth_of, text_of, ref_of, value_of, value_eq, may_pass, is_text_within, max_passed};
 ghost use Rattle.at_store.specs.Tokens.{lent_view};
 ghost use Rattle.at_body.specs.Values.{value_view};
 ghost use Rattle.at_body.specs.ValueKinds.{AreAlike, IsInt, IsRef, IsText, IsTruth};
@@ -13,6 +13,12 @@ pub use at_tree::fault::FaultKind;
 use std::alloc::AllocError;
 use std::hash::{Hash, Hasher};
 use std::rc::Rc;
+
+/// The farthest from 0 that an int is that is computed and passed.
+const MAX_STEP: i32 = 1048576;
+
+/// The most bytes of a text that is computed and passed.
+const MAX_PASSED: usize = 4096;
 
 /// The value of an attribute: also a reference to a node, or null. A text is shared by all that hold it.
 #[derive(Debug, Drop)]
@@ -164,6 +170,17 @@ impl Value {
         }
     }
 
+    /// Whether it may be passed where it was computed: an int that isn't too far from 0, or a text that isn't too long.
+    pub fn may_pass(&self) -> bool
+        ensures { result ≡ may_pass (value_view self.now) }
+    {
+        match self {
+            Value::Int(n) => is_near(*n),
+            Value::Text(text) => is_short(text.as_ref().as_str()),
+            _ => true,
+        }
+    }
+
     /// A number of nodes as an int.
     pub fn of_count(count: usize) -> Value
         requires { count ≤ 16777216 }
@@ -192,4 +209,22 @@ impl Value {
             Value::Ref(node) => *node == other.node(),
         }
     }
+}
+
+/// Whether the int is no farther from 0 than one may be that is computed and passed.
+fn is_near(number: i32) -> bool
+    ensures { result ≡ may_pass {N = ℕ} (Int number) }
+{
+    if number < 0 {
+        -MAX_STEP - 1 <= number
+    } else {
+        number <= MAX_STEP
+    }
+}
+
+/// Whether the text has no more bytes than one may have that is computed and passed.
+fn is_short(text: &str) -> bool
+    ensures { result ≡ is_text_within max_passed text.now }
+{
+    text.len() <= MAX_PASSED
 }

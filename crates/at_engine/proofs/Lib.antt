@@ -8,6 +8,7 @@ pub mod of_asking
 pub mod of_marks
 pub mod FollowingLemmas
 pub mod Verdicts
+pub mod ReadingLemmas
 pub mod NamingLemmas
 pub mod Storing
 pub mod Components

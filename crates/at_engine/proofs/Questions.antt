@@ -5,7 +5,7 @@ use Rattle.at_model.specs.Paths.{Node, tree_at}
 use Rattle.at_model.specs.Run.{Value}
 use Rattle.at_model.specs.Rules.{Rules, attribute_named}
 use Rattle.at_model.specs.Lines.{Place, Argument, Ask}
-use Rattle.at_model.specs.Machine.{State, Verdict, Refuses, Asks, each, fit_parameters, node_named, obeyed, parameters_of, questioned, value_named}
+use Rattle.at_model.specs.Machine.{State, Verdict, Refuses, Asks, each, node_named, obeyed, questioned, suit, value_named}
 use Rattle.at_model.specs.Replies as code
 
 module _ (rules : Rules) (s : State) (session : ℕ) (place : Place) (name : List ℕ) (arguments : List Argument) where
@@ -27,7 +27,7 @@ module _ (rules : Rules) (s : State) (session : ℕ) (place : Place) (name : Lis
       by_fit a b = if b then Asks (record { node = n; attribute = a; arguments = vs }) else Refuses code.Arguments
 
       abbrev by_attribute : Option ℕ → Verdict
-      by_attribute o = elim o as (λ _. Verdict) [ None ↦ Refuses code.Attribute | Some a ↦ by_fit a (fit_parameters rules.classes s.tree (parameters_of rules a) vs) ]
+      by_attribute o = elim o as (λ _. Verdict) [ None ↦ Refuses code.Attribute | Some a ↦ by_fit a (suit rules s.tree a vs) ]
 
       by_name : (o : Option ℕ) → attribute_named rules (class_of u) name ≡ o → obeyed rules s session (Ask place name arguments) ≡ by_attribute o
       by_name o e = ap by_node named ∙ ap (by_values n) values ∙ ap (λ (x : Option Tree). by_attribute (option_and_then (λ y. attribute_named rules (class_of y) name) x)) there ∙ ap by_attribute e
@@ -36,8 +36,8 @@ module _ (rules : Rules) (s : State) (session : ℕ) (place : Place) (name : Lis
       asked_strangely e = by_name None e
 
       module _ (a : ℕ) (is : attribute_named rules (class_of u) name ≡ Some a) where
-        pub asked_unfitly : fit_parameters rules.classes s.tree (parameters_of rules a) vs ≡ false → obeyed rules s session (Ask place name arguments) ≡ Refuses code.Arguments
+        pub asked_unfitly : suit rules s.tree a vs ≡ false → obeyed rules s session (Ask place name arguments) ≡ Refuses code.Arguments
         asked_unfitly e = by_name (Some a) is ∙ ap (by_fit a) e
 
-        pub asked_fitly : fit_parameters rules.classes s.tree (parameters_of rules a) vs ≡ true → obeyed rules s session (Ask place name arguments) ≡ Asks (record { node = n; attribute = a; arguments = vs })
+        pub asked_fitly : suit rules s.tree a vs ≡ true → obeyed rules s session (Ask place name arguments) ≡ Asks (record { node = n; attribute = a; arguments = vs })
         asked_fitly e = by_name (Some a) is ∙ ap (by_fit a) e

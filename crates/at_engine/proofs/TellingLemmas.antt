@@ -3,7 +3,7 @@ use Rattle.std.proofs.Common.{◌≡◌, ℕ, true, false, List, Option, None, i
 use Rattle.std.specs.List.{list_all}
 use Rattle.at_model.specs.Rules.{Rules}
 use Rattle.at_model.specs.Lines.{Spells, IsSessionOf, Line}
-use Rattle.at_model.specs.Machine.{State, Verdict, Refuses, Waits, is_stale, is_marked, marks_used, verdict}
+use Rattle.at_model.specs.Machine.{State, Verdict, Refuses, Waits, is_read, is_stale, is_marked, marks_used, verdict}
 use Rattle.at_model.specs.Machine as machine
 use Rattle.at_model.specs.Replies.{Refused}
 use Rattle.at_model.specs.Replies as code
@@ -18,14 +18,19 @@ use Rattle.at_engine.specs.KeptOver as kept
 use Rattle.at_engine.specs.Telling.{IsTold, Meets, memory_for}
 use Rattle.at_engine.specs.declared.engine.Engine.{Engine}
 use Rattle.at_engine.proofs.FollowingLemmas.{refuses}
-use Rattle.at_engine.proofs.Verdicts.{at_stale, at_unmarked}
+use Rattle.at_engine.proofs.Verdicts.{at_stale, at_unmarked, at_unread}
 
 module _ (rules : Rules) (s : State) (l : Line) where
-  pub meets_stale : is_stale l.expected s.version ≡ true → Meets rules s l (form.Refused (refusal.Stale s.version)) s
-  meets_stale e = refuses rules s (verdict rules s l) (refusal.Stale s.version) (at_stale rules s l e)
+  pub meets_unread : is_read rules l.command ≡ false → Meets rules s l (form.Refused refusal.Syntax) s
+  meets_unread e = refuses rules s (verdict rules s l) refusal.Syntax (at_unread rules s l e)
 
-  pub meets_unmarked : is_stale l.expected s.version ≡ false → list_all (is_marked s.marks l.session) (marks_used l.command) ≡ false → Meets rules s l (form.Refused refusal.Mark) s
-  meets_unmarked e f = refuses rules s (verdict rules s l) refusal.Mark (at_unmarked rules s l e f)
+  module _ (read : is_read rules l.command ≡ true) where
+    pub meets_stale : is_stale l.expected s.version ≡ true → Meets rules s l (form.Refused (refusal.Stale s.version)) s
+    meets_stale e = refuses rules s (verdict rules s l) (refusal.Stale s.version) (at_stale rules s l read e)
+
+    pub meets_unmarked : is_stale l.expected s.version ≡ false → list_all (is_marked s.marks l.session) (marks_used l.command) ≡ false
+        → Meets rules s l (form.Refused refusal.Mark) s
+    meets_unmarked e f = refuses rules s (verdict rules s l) refusal.Mark (at_unmarked rules s l read e f)
 
 module _ {K : Type 0} (entries : K → Entries) (memories : K → Memories) (e : Engine K) (bytes : List ℕ) (session : Option ℕ)
     (is : IsSessionOf bytes session) where

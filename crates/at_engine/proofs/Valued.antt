@@ -1,11 +1,11 @@
 -- Values that arguments name.
-use Rattle.std.proofs.Common.{◌≡◌, ℕ, ◌+◌, ◌<◌, ◌≤◌, List, [], ◌∷◌, ◌++◌, map, length, drop, get_or, Option, Some, None, option_map, sym, ap, ◌∙◌, subst}
+use Rattle.std.proofs.Common.{◌≡◌, ℕ, ℤ, ◌+◌, ◌<◌, ◌≤◌, List, [], ◌∷◌, ◌++◌, map, length, drop, get_or, Option, Some, None, option_map, sym, ap, ◌∙◌, subst}
 use Rattle.std.proofs.lemmas.List.{drop_all, map-append}
 use Rattle.at_model.specs.Paths.{Node}
-use Rattle.at_model.specs.Run.{Value, Text}
+use Rattle.at_model.specs.Run.{Value, Int, Text}
 use Rattle.at_model.specs.Lines.{Argument}
 use Rattle.at_model.specs.Machine.{each}
-use Rattle.at_model.specs.Alike.{ValueLike, text, Names}
+use Rattle.at_model.specs.Alike.{ValueLike, int, text, Names}
 use Rattle.at_body.specs.Values.{value_view}
 use Rattle.at_body.specs.declared.value.Value.{Value as ValueCode}
 use Rattle.at_protocol.specs.LineView.{argument_view, arguments_view}
@@ -17,6 +17,9 @@ use Rattle.at_engine.proofs.Positions.{drop_next}
 
 pub text_like : (path : ℕ → Option Node) (a b : List ℕ) → a ≡ b → ValueLike (Names path) (Text a) (Text b)
 text_like path a b e = subst (λ (x : List ℕ). ValueLike (Names path) (Text a) (Text x)) e (text a)
+
+pub int_like : (path : ℕ → Option Node) (n : ℤ) (v : Value ℕ) → v ≡ Int n → ValueLike (Names path) v (Int n)
+int_like path n v e = subst (λ (x : Value ℕ). ValueLike (Names path) x (Int n)) (sym e) (int n)
 
 -- the values of the arguments before the rest are there
 module _ (path : ℕ → Option Node) (named : Argument → Option (Value Node)) (all : List (Option (Value Node))) where

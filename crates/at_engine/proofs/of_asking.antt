@@ -1,3 +1,2 @@
-pub mod NamedValues
 pub mod FittingAlike
 pub mod Asked

@@ -4,7 +4,7 @@ use Rattle.at_model.specs.Paths.{Node}
 use Rattle.at_model.specs.Run.{Instance, Value}
 use Rattle.at_model.specs.Run as run
 use Rattle.at_model.specs.Instances.{instances}
-use Rattle.at_model.specs.Lines.{Argument, Text, Ref, Null}
+use Rattle.at_model.specs.Lines.{Argument, Text}
 use Rattle.at_model.specs.Machine.{Posted as PostedOf}
 use Rattle.at_model.specs.Rules.{Rules}
 use Rattle.at_model.specs.Trees.{Tree}
@@ -65,8 +65,7 @@ pub record IsRenewed (look : ℕ → Option Node) (position : ℕ) (p : Posted) 
 abbrev pub texts_in : List Argument → List (Value Node)
 texts_in [] = []
 texts_in (Text bytes ∷ as') = run.Text bytes ∷ texts_in as'
-texts_in (Ref place ∷ as') = texts_in as'
-texts_in (Null ∷ as') = texts_in as'
+texts_in (a ∷ as') = texts_in as'
 
 -- how many instances stand in the list of all to which the words of a question can lead on that tree
 abbrev pub universe_of : Rules → Tree → PostedOf → ℕ

@@ -5,7 +5,7 @@ ghost use Rattle.std.specs.Fmt.{signed_decimal};
 ghost use Rattle.std.specs.Int.{int_wrapping_neg, w32};
 ghost use Rattle.at_model.specs.Run.{Gives, Int, Ref, Truth};
 ghost use Rattle.at_model.specs.Bodies.{cast_to, child_of, computed, count_of, element_at, element_of, has_of, int_of, is_in_order, is_instance, joined};
-ghost use Rattle.at_model.specs.Bodies.{max_text, ref_of, text_of, token_of, truth_of, value_eq};
+ghost use Rattle.at_model.specs.Bodies.{max_text, passed, ref_of, text_of, token_of, truth_of, value_eq};
 ghost use Rattle.at_store.specs.Shown.{IsIdle, contents};
 ghost use Rattle.at_rules.specs.Bodies.{operator_view, order_view};
 ghost use Rattle.at_body.specs.Rest.{with_one, with_two};
@@ -45,6 +45,7 @@ pub fn with_one(
         Unary::Count(part) => count(store, reads, part, value),
         Unary::Has(part) => has(store, reads, part, value),
         Unary::Token(part) => token(store, reads, part, value),
+        Unary::Passed => passed(value),
     }
 }
 
@@ -228,6 +229,16 @@ fn arithmetic(operator: Operator, left: &Value, right: &Value) -> Result<Value, 
         return Err(Stop::GivesUp);
     }
     computed(operator, left.int(), right.int())
+}
+
+// The value, where it may be passed.
+fn passed(value: &Value) -> Result<Value, Stop>
+    ensures { IfOk result (λ v. passed (value_view value.now) ≡ Gives (value_view v)) }
+{
+    if value.may_pass() {
+        return Ok(value.copy()?);
+    }
+    Err(Stop::GivesUp)
 }
 
 // What an operator gives.

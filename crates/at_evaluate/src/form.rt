@@ -44,6 +44,7 @@ pub fn form_of(body: &Body) -> Form<'_>
         Body::Count(a, part) => Form::One(Unary::Count(*part), a),
         Body::Has(a, part) => Form::One(Unary::Has(*part), a),
         Body::TokenOf(a, part) => Form::One(Unary::Token(*part), a),
+        Body::Passed(a) => Form::One(Unary::Passed, a),
         Body::Arithmetic(o, a, b) => Form::Two(Binary::Arithmetic(*o), a, b),
         Body::Compare(o, a, b) => Form::Two(Binary::Compare(*o), a, b),
         Body::Join(a, b) => Form::Two(Binary::Join, a, b),

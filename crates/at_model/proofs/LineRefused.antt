@@ -16,11 +16,11 @@ use Rattle.at_model.specs.Edits.{Edit, Refusal, edited, edited_within, left_by, 
 use Rattle.at_model.specs.Edits as edit
 use Rattle.at_model.specs.Shaping.{names_classes, shaped}
 use Rattle.at_model.specs.Effects.{component_named}
-use Rattle.at_model.specs.Lines.{Line, Place, From_root, From_mark, Argument, Text, Ref, Null, Command, Ask, Set, Put, Drop, Insert, Token, Move, Show, Mark, Unmark, Where, Version, Post, Wait, last_version, last_post}
+use Rattle.at_model.specs.Lines.{Line, Place, From_root, From_mark, Argument, Text, Int, Truth, Ref, Null, Command, Ask, Set, Put, Drop, Insert, Token, Move, Show, Mark, Unmark, Where, Version, Post, Wait, last_version, last_post}
 use Rattle.at_model.specs.Replies.{Code}
 use Rattle.at_model.specs.Replies as code
 use Rattle.at_model.specs.Replies.{Written, At}
-use Rattle.at_model.specs.Machine.{State, Posted, Verdict, Refuses, Leaves, Edits, Asks, Posts, Waits, marked, is_marked, marks_used, node_named, node_below, value_named, each, fit_parameters, parameters_of, is_posted, code_of, max_marks, max_posted, is_edit, is_stale, changed, with_component, with_tree, obeyed, verdict}
+use Rattle.at_model.specs.Machine.{State, Posted, Verdict, Refuses, Leaves, Edits, Asks, Posts, Waits, marked, is_marked, marks_used, node_named, node_below, value_named, each, suit, is_read, is_posted, code_of, max_marks, max_posted, is_edit, is_stale, changed, with_component, with_tree, obeyed, verdict}
 use Rattle.at_model.specs.Refusing.{number, rank, Breaks, places_in, Asked, component_asked, term_in, shape_named, HasComponent, class_for, tree_for, meant, ExpectsOther, IsRefusedAs, IsTooLarge, IsPastLast, MarksAgain, MarksTooMany, PostsTooMany, AsksNone, AsksAmiss, WaitsForNone, Applies}
 use Rattle.at_model.proofs.Options.{led, mapped, both, either_true, or_right}
 use Rattle.at_model.proofs.of_edits.Untouched.{tree_at-append}
@@ -82,18 +82,22 @@ module _ (rules : Rules) (s : State) (session : ℕ) (expected : Option ℕ) (fr
   abbrev Isnt : Command → Code → Type 0
   Isnt c d = Applies rules s (line c) d → ⊥
 
+  -- it can be read, and the marks that it uses are there
+  abbrev Begins : Command → Type 0
+  Begins c = Isnt c code.Mark × (is_read rules c ≡ true)
+
   -- whatever the verdict refuses the command for is the first reason, and where it doesn't refuse it there is none
   abbrev Firstly : Command → Verdict → Type 0
   Firstly c v = ((d : Code) → v ≡ Refuses d → IsFirst c d) × (((d : Code) → v ≡ Refuses d → ⊥) → (d : Code) → Isnt c d)
 
-  none_before : (c : Command) (n : ℕ) → Isnt c code.Mark → (4 < n → Isnt c code.Path) → (5 < n → Isnt c code.Component)
+  none_before : (c : Command) (n : ℕ) → Begins c → (4 < n → Isnt c code.Path) → (5 < n → Isnt c code.Component)
       → (6 < n → Isnt c code.Class) → (7 < n → Isnt c code.Fit) → (8 < n → Isnt c code.Index)
       → (9 < n → Isnt c code.Taken) → (10 < n → Isnt c code.Fixed) → (11 < n → Isnt c code.Inside)
       → (12 < n → Isnt c code.Limit) → (13 < n → Isnt c code.Attribute) → (14 < n → Isnt c code.Arguments) → n ≤ 15
       → (e : Code) → number e < n → Isnt c e
-  none_before c n mk pa co cl fi ix ta fx ins li at ar m code.Syntax l x = x
+  none_before c n mk pa co cl fi ix ta fx ins li at ar m code.Syntax l x = off_on (is_read rules c) x mk.1
   none_before c n mk pa co cl fi ix ta fx ins li at ar m (code.Stale v) l x = fresh x.0
-  none_before c n mk pa co cl fi ix ta fx ins li at ar m code.Mark l x = mk x
+  none_before c n mk pa co cl fi ix ta fx ins li at ar m code.Mark l x = mk.0 x
   none_before c n mk pa co cl fi ix ta fx ins li at ar m code.Path l x = pa l x
   none_before c n mk pa co cl fi ix ta fx ins li at ar m code.Component l x = co l x
   none_before c n mk pa co cl fi ix ta fx ins li at ar m code.Class l x = cl l x
@@ -133,7 +137,7 @@ module _ (rules : Rules) (s : State) (session : ℕ) (expected : Option ℕ) (fr
   stage c None d k f g = told c d (f refl)
   stage c (Some a) d k f g = g a refl
 
-  module _ (c : Command) (mk : Isnt c code.Mark) where
+  module _ (c : Command) (mk : Begins c) where
     first_path : Applies rules s (line c) code.Path → IsFirst c code.Path
     first_path x = (
       x,
@@ -323,7 +327,7 @@ module _ (rules : Rules) (s : State) (session : ℕ) (expected : Option ℕ) (fr
       → HasComponent rules.classes s session (asked place name wanted)
   has_some place name wanted a e = let (shape, f, g) = led wanted (shape_named rules.classes s session place name) a e in record { shape = shape; there = f; serves = ap is_some g }
 
-  component_stage : {A : Type 0} (c : Command) (mk : Isnt c code.Mark) (pa : Isnt c code.Path) (place : Place) (name : List ℕ) (n : Node) (wanted : Shape → Option A) (k : ℕ → A → Verdict)
+  component_stage : {A : Type 0} (c : Command) (mk : Begins c) (pa : Isnt c code.Path) (place : Place) (name : List ℕ) (n : Node) (wanted : Shape → Option A) (k : ℕ → A → Verdict)
       → component_asked c ≡ Some (asked place name wanted) → node_named rules.classes s session place ≡ Some n
       → ((p : ℕ) (a : A) → component_named rules.classes s.tree n name ≡ Some p
       → option_and_then wanted (shape_at rules.classes s.tree n p) ≡ Some a → option_and_then wanted
@@ -359,7 +363,7 @@ module _ (rules : Rules) (s : State) (session : ℕ) (expected : Option ℕ) (fr
   tree_is : (c : Command) (t : Term) (o : Option ℕ) → term_in c ≡ Some t → class_for rules.classes s session c ≡ o → tree_for rules.classes s session c ≡ option_and_then (shaped rules.classes t) o
   tree_is c t o e f = ap (option_and_then (λ t. option_and_then (shaped rules.classes t) (class_for rules.classes s session c))) e ∙ ap (option_and_then (shaped rules.classes t)) f
 
-  tree_stage : (c : Command) (mk : Isnt c code.Mark) (pa : Isnt c code.Path) (co : Isnt c code.Component) (t : Term)
+  tree_stage : (c : Command) (mk : Begins c) (pa : Isnt c code.Path) (co : Isnt c code.Component) (t : Term)
       (o : Option ℕ) (k : Tree → Verdict) → term_in c ≡ Some t → class_for rules.classes s session c ≡ o
       → ((u : Tree) → tree_for rules.classes s session c ≡ Some u → Isnt c code.Class → Firstly c (k u)) → Firstly c (with_tree rules.classes t o k)
   tree_stage c mk pa co t o k e f h =
@@ -387,14 +391,14 @@ module _ (rules : Rules) (s : State) (session : ℕ) (expected : Option ℕ) (fr
 
   -- edits ---------------------------------------------------------------------------------------------------------------
 
-  of_set : (place : Place) (t : Term) → Isnt (Set place t) code.Mark → Firstly (Set place t) (obeyed rules s session (Set place t))
+  of_set : (place : Place) (t : Term) → Begins (Set place t) → Firstly (Set place t) (obeyed rules s session (Set place t))
   of_set place t mk =
       let c = Set place t in
       stage c (node_named rules.classes s session place) code.Path _ (λ none. first_path c mk (place, inl refl, none)) (λ n named.
       tree_stage c mk (one_place place n named) (no_asked c refl) t (class_asked rules.classes s.tree n) _ refl (ap (option_and_then (class_asked rules.classes s.tree)) named) (λ u tr cl.
       edit_stage c mk (edit.Set n u) (rw (tr, named) refl) refl refl (one_place place n named) (no_asked c refl) cl (treed c u tr)))
 
-  of_put : (place : Place) (name : List ℕ) (t : Term) → Isnt (Put place name t) code.Mark → Firstly (Put place name t) (obeyed rules s session (Put place name t))
+  of_put : (place : Place) (name : List ℕ) (t : Term) → Begins (Put place name t) → Firstly (Put place name t) (obeyed rules s session (Put place name t))
   of_put place name t mk =
       let c = Put place name t in
       stage c (node_named rules.classes s session place) code.Path _ (λ none. first_path c mk (place, inl refl, none)) (λ n named.
@@ -402,13 +406,13 @@ module _ (rules : Rules) (s : State) (session : ℕ) (expected : Option ℕ) (fr
       tree_stage c mk (one_place place n named) co t (Some b) _ refl found (λ u tr cl.
       edit_stage c mk (edit.Put n p u) (rw (tr, named, part) refl) refl (ap is_some shape) (one_place place n named) co cl (treed c u tr))))
 
-  of_drop : (place : Place) → Isnt (Drop place) code.Mark → Firstly (Drop place) (obeyed rules s session (Drop place))
+  of_drop : (place : Place) → Begins (Drop place) → Firstly (Drop place) (obeyed rules s session (Drop place))
   of_drop place mk =
       let c = Drop place in
       stage c (node_named rules.classes s session place) code.Path _ (λ none. first_path c mk (place, inl refl, none)) (λ n named.
       edit_stage c mk (edit.Drop n) (ap (option_map (λ n. edit.Drop n)) named) refl refl (one_place place n named) (no_asked c refl) (no_term c refl) (termless c refl))
 
-  of_insert : (place : Place) (name : List ℕ) (index : ℕ) (t : Term) → Isnt (Insert place name index t) code.Mark
+  of_insert : (place : Place) (name : List ℕ) (index : ℕ) (t : Term) → Begins (Insert place name index t)
       → Firstly (Insert place name index t) (obeyed rules s session (Insert place name index t))
   of_insert place name index t mk =
       let c = Insert place name index t in
@@ -417,14 +421,14 @@ module _ (rules : Rules) (s : State) (session : ℕ) (expected : Option ℕ) (fr
       tree_stage c mk (one_place place n named) co t (Some b) _ refl found (λ u tr cl.
       edit_stage c mk (edit.Insert n p index u) (rw (tr, named, part) refl) refl (ap is_some shape) (one_place place n named) co cl (treed c u tr))))
 
-  of_token : (place : Place) (name : List ℕ) (v : tree.Token) → Isnt (Token place name v) code.Mark → Firstly (Token place name v) (obeyed rules s session (Token place name v))
+  of_token : (place : Place) (name : List ℕ) (v : tree.Token) → Begins (Token place name v) → Firstly (Token place name v) (obeyed rules s session (Token place name v))
   of_token place name v mk =
       let c = Token place name v in
       stage c (node_named rules.classes s session place) code.Path _ (λ none. first_path c mk (place, inl refl, none)) (λ n named.
       component_stage c mk (one_place place n named) place name n token_kind _ refl named (λ p b part shape found co.
       edit_stage c mk (edit.Token n p v) (rw (named, part) refl) refl (ap is_some shape) (one_place place n named) co (no_term c refl) (termless c refl)))
 
-  of_move : (place to : Place) (name : List ℕ) (index : ℕ) → Isnt (Move place to name index) code.Mark → Firstly (Move place to name index) (obeyed rules s session (Move place to name index))
+  of_move : (place to : Place) (name : List ℕ) (index : ℕ) → Begins (Move place to name index) → Firstly (Move place to name index) (obeyed rules s session (Move place to name index))
   of_move place to name index mk =
       let c = Move place to name index in
       stage c (node_named rules.classes s session place) code.Path _ (λ none. first_path c mk (place, inl refl, none)) (λ n named.
@@ -444,7 +448,7 @@ module _ (rules : Rules) (s : State) (session : ℕ) (expected : Option ℕ) (fr
   no_last c e (f, m, b) = none_some (meant rules.classes s session c) f e m
 
   -- of a command that is no edit, only what is given here can come first
-  first_other : (c : Command) (d : Code) → Isnt c code.Mark → component_asked c ≡ None → term_in c ≡ None → meant rules.classes s session c ≡ None → number d ≤ 15
+  first_other : (c : Command) (d : Code) → Begins c → component_asked c ≡ None → term_in c ≡ None → meant rules.classes s session c ≡ None → number d ≤ 15
       → Isnt c code.Path → (9 < number d → MarksAgain s (line c) → ⊥)
       → (12 < number d → (MarksTooMany s (line c) ⊎ PostsTooMany s (line c)) → ⊥)
       → (13 < number d → Isnt c code.Attribute) → (14 < number d → Isnt c code.Arguments)
@@ -462,7 +466,7 @@ module _ (rules : Rules) (s : State) (session : ℕ) (expected : Option ℕ) (fr
   )
 
   -- and where none of these is there, no reason is
-  none_other : (c : Command) → Isnt c code.Mark → component_asked c ≡ None → term_in c ≡ None
+  none_other : (c : Command) → Begins c → component_asked c ≡ None → term_in c ≡ None
       → meant rules.classes s session c ≡ None → Isnt c code.Path → (MarksAgain s (line c) → ⊥)
       → (MarksTooMany s (line c) ⊎ PostsTooMany s (line c) → ⊥) → Isnt c code.Attribute → Isnt c code.Arguments
       → Isnt c code.Question → (d : Code) → Isnt c d
@@ -487,7 +491,7 @@ module _ (rules : Rules) (s : State) (session : ℕ) (expected : Option ℕ) (fr
   is_plain (Wait which) = false
   is_plain c = true
 
-  none_plain : (c : Command) → is_plain c ≡ true → Isnt c code.Mark → component_asked c ≡ None → term_in c ≡ None → meant rules.classes s session c ≡ None → Isnt c code.Path → (d : Code) → Isnt c d
+  none_plain : (c : Command) → is_plain c ≡ true → Begins c → component_asked c ≡ None → term_in c ≡ None → meant rules.classes s session c ≡ None → Isnt c code.Path → (d : Code) → Isnt c d
   none_plain c plain mk co te ed pa = none_other c mk co te ed pa
       (λ x. off_on false refl (sym (ap is_plain x.2) ∙ plain))
       (λ x. elim x [ inl y ↦ off_on false refl (sym (ap is_plain y.2) ∙ plain) | inr y ↦ off_on false refl (sym (ap is_plain y.3) ∙ plain) ])
@@ -502,6 +506,16 @@ module _ (rules : Rules) (s : State) (session : ℕ) (expected : Option ℕ) (fr
   some_unnamed (Text bytes ∷ rest) e = some_unnamed rest (unmapped (each (map (value_named rules.classes s session) rest)) e)
     where
       unmapped : (o : Option (List (Value Node))) → option_map (λ vs. run.Text bytes ∷ vs) o ≡ None → o ≡ None
+      unmapped None e = refl
+      unmapped (Some vs) e = absurd cc
+  some_unnamed (Int n ∷ rest) e = some_unnamed rest (unmapped (each (map (value_named rules.classes s session) rest)) e)
+    where
+      unmapped : (o : Option (List (Value Node))) → option_map (λ vs. run.Int n ∷ vs) o ≡ None → o ≡ None
+      unmapped None e = refl
+      unmapped (Some vs) e = absurd cc
+  some_unnamed (Truth b ∷ rest) e = some_unnamed rest (unmapped (each (map (value_named rules.classes s session) rest)) e)
+    where
+      unmapped : (o : Option (List (Value Node))) → option_map (λ vs. run.Truth b ∷ vs) o ≡ None → o ≡ None
       unmapped None e = refl
       unmapped (Some vs) e = absurd cc
   some_unnamed (Null ∷ rest) e = some_unnamed rest (unmapped (each (map (value_named rules.classes s session) rest)) e)
@@ -529,6 +543,8 @@ module _ (rules : Rules) (s : State) (session : ℕ) (expected : Option ℕ) (fr
       → Among p (flat_map places_in arguments) → node_named rules.classes s session p ≡ None → ⊥
   all_named [] vs e p among none = among
   all_named (Text bytes ∷ rest) vs e p among none = let (ws, f, g) = mapped (λ vs. run.Text bytes ∷ vs) (each (map (value_named rules.classes s session) rest)) vs e in all_named rest ws f p among none
+  all_named (Int n ∷ rest) vs e p among none = let (ws, f, g) = mapped (λ vs. run.Int n ∷ vs) (each (map (value_named rules.classes s session) rest)) vs e in all_named rest ws f p among none
+  all_named (Truth b ∷ rest) vs e p among none = let (ws, f, g) = mapped (λ vs. run.Truth b ∷ vs) (each (map (value_named rules.classes s session) rest)) vs e in all_named rest ws f p among none
   all_named (Null ∷ rest) vs e p among none = let (ws, f, g) = mapped (λ vs. run.Ref None ∷ vs) (each (map (value_named rules.classes s session) rest)) vs e in all_named rest ws f p among none
   all_named (Ref place ∷ rest) vs e p among none =
       let (v, f, g) =
@@ -558,7 +574,7 @@ module _ (rules : Rules) (s : State) (session : ℕ) (expected : Option ℕ) (fr
   not_many_asked place name arguments (inl (other, at, e, x)) = absurd cc
   not_many_asked place name arguments (inr (other, at, more, e, x)) = absurd cc
 
-  of_ask : (place : Place) (name : List ℕ) (arguments : List Argument) → Isnt (Ask place name arguments) code.Mark
+  of_ask : (place : Place) (name : List ℕ) (arguments : List Argument) → Begins (Ask place name arguments)
       → Firstly (Ask place name arguments) (obeyed rules s session (Ask place name arguments))
   of_ask place name arguments mk =
       let c = Ask place name arguments in
@@ -570,7 +586,7 @@ module _ (rules : Rules) (s : State) (session : ℕ) (expected : Option ℕ) (fr
       (λ l. not_many_asked place name arguments) (λ l. absurd (past_itself 13 l)) (λ l. absurd (omega (arith, l)))
       (record { place = place; name = name; arguments = arguments; node = n; asks = refl; named = named; none = none }))
       (λ a found.
-      by_fit c (fit_parameters rules.classes s.tree (parameters_of rules a) vs) _
+      by_fit c (suit rules s.tree a vs) _
       (λ amiss. first_other c code.Arguments mk refl refl refl (omega arith) (asked_places place n arguments vs named
       all) (λ l. not_marking place name arguments) (λ l. not_many_asked place name arguments)
       (λ l. has_attribute place name arguments n a named found) (λ l. absurd (past_itself 14 l))
@@ -595,7 +611,7 @@ module _ (rules : Rules) (s : State) (session : ℕ) (expected : Option ℕ) (fr
       fits_all : (place : Place) (name : List ℕ) (arguments : List Argument) (n : Node) (a : ℕ) (vs : List (Value Node))
           → node_named rules.classes s session place ≡ Some n → option_and_then (λ u. attribute_named rules (class_of u)
           name) (tree_at s.tree n) ≡ Some a → each (map (value_named rules.classes s session) arguments) ≡ Some vs
-          → fit_parameters rules.classes s.tree (parameters_of rules a) vs ≡ true → Isnt (Ask place name arguments) code.Arguments
+          → suit rules s.tree a vs ≡ true → Isnt (Ask place name arguments) code.Arguments
       fits_all place name arguments n a vs named found all fit x =
           let place_same : place ≡ x.place = let e = x.asks in cc in
           let name_same : name ≡ x.name = let e = x.asks in cc in
@@ -609,11 +625,10 @@ module _ (rules : Rules) (s : State) (session : ℕ) (expected : Option ℕ) (fr
           let attribute_same : a ≡ x.attribute = cc in
           let values : Some vs ≡ Some x.values = sym all ∙ ap (λ as'. each (map (value_named rules.classes s session) as')) arguments_same ∙ x.told in
           let values_same : vs ≡ x.values = cc in
-          off_on (fit_parameters rules.classes s.tree (parameters_of rules a) vs)
-          (ap (λ z. fit_parameters rules.classes s.tree (parameters_of rules z) vs) attribute_same
-          ∙ ap (fit_parameters rules.classes s.tree (parameters_of rules x.attribute)) values_same ∙ x.amiss) fit
+          off_on (suit rules s.tree a vs)
+          (ap (λ z. suit rules s.tree z vs) attribute_same ∙ ap (suit rules s.tree x.attribute) values_same ∙ x.amiss) fit
 
-  of_show : (place : Place) → Isnt (Show place) code.Mark → Firstly (Show place) (obeyed rules s session (Show place))
+  of_show : (place : Place) → Begins (Show place) → Firstly (Show place) (obeyed rules s session (Show place))
   of_show place mk =
       let c = Show place in
       stage c (node_named rules.classes s session place) code.Path _ (λ none. first_path c mk (place, inl refl, none)) (λ n named.
@@ -621,7 +636,7 @@ module _ (rules : Rules) (s : State) (session : ℕ) (expected : Option ℕ) (fr
       place_there rules.classes s session place n named in absurd (none_some (tree_at s.tree n) u none there))
       (λ u there. (λ d e. absurd cc, λ no. none_plain c refl mk refl refl refl (one_place place n named))))
 
-  of_mark : (name : List ℕ) (place : Place) → Isnt (Mark name place) code.Mark → Firstly (Mark name place) (obeyed rules s session (Mark name place))
+  of_mark : (name : List ℕ) (place : Place) → Begins (Mark name place) → Firstly (Mark name place) (obeyed rules s session (Mark name place))
   of_mark name place mk =
       let c = Mark name place in
       stage c (node_named rules.classes s session place) code.Path _ (λ none. first_path c mk (place, inl refl, none)) (λ n named.
@@ -674,15 +689,15 @@ module _ (rules : Rules) (s : State) (session : ℕ) (expected : Option ℕ) (fr
   any_among p [] e = absurd cc
   any_among p (y ∷ ys) e = elim (either_true (p y) _ e) [ inl f ↦ (y, inl refl, f) | inr f ↦ let (x, among, g) = any_among p ys f in (x, inr among, g) ]
 
-  of_where : (name : List ℕ) → Isnt (Where name) code.Mark → Firstly (Where name) (obeyed rules s session (Where name))
+  of_where : (name : List ℕ) → Begins (Where name) → Firstly (Where name) (obeyed rules s session (Where name))
   of_where name mk = stage (Where name) (marked s.marks session name) code.Mark
-      _ (λ none. absurd (mk (name, inl refl, none)))
+      _ (λ none. absurd (mk.0 (name, inl refl, none)))
       (λ n some. (λ d e. absurd cc, λ no. none_plain (Where name) refl mk refl refl refl (λ x. x.1)))
 
   not_posted : (place : Place) (name : List ℕ) (arguments : List Argument) → MarksAgain s (line (Post place name arguments)) → ⊥
   not_posted place name arguments (other, at, e, x) = absurd cc
 
-  post_limit : (place : Place) (name : List ℕ) (arguments : List Argument) → Isnt (Post place name arguments) code.Mark
+  post_limit : (place : Place) (name : List ℕ) (arguments : List Argument) → Begins (Post place name arguments)
       → (max_posted ≤ count_by (λ q. nat_eq session q.session) s.posted) ⊎ (s.posts ≡ last_post)
       → IsFirst (Post place name arguments) code.Limit
   post_limit place name arguments mk h =
@@ -698,7 +713,7 @@ module _ (rules : Rules) (s : State) (session : ℕ) (expected : Option ℕ) (fr
   by_posts c q false true f g h = told c code.Limit (g refl)
   by_posts c q false false f g h = (λ d e. absurd cc, λ no. h refl refl)
 
-  of_post : (place : Place) (name : List ℕ) (arguments : List Argument) → Isnt (Post place name arguments) code.Mark
+  of_post : (place : Place) (name : List ℕ) (arguments : List Argument) → Begins (Post place name arguments)
       → Firstly (Post place name arguments) (obeyed rules s session (Post place name arguments))
   of_post place name arguments mk = by_posts (Post place name arguments) _ (nat_le max_posted (count_by (λ q. nat_eq session q.session) s.posted)) (nat_eq s.posts last_post)
       (λ e. post_limit place name arguments mk (inl (most (count_by (λ q. nat_eq session q.session) s.posted) max_posted e)))
@@ -739,7 +754,7 @@ module _ (rules : Rules) (s : State) (session : ℕ) (expected : Option ℕ) (fr
   no_many which (inl (other, at, e, x)) = absurd cc
   no_many which (inr (other, at, more, e, x)) = absurd cc
 
-  by_open : (which : ℕ) → Isnt (Wait which) code.Mark → (b : Bool) → list_any (is_posted session which) s.posted ≡ b → Firstly (Wait which) (if b then Waits which else Refuses code.Question)
+  by_open : (which : ℕ) → Begins (Wait which) → (b : Bool) → list_any (is_posted session which) s.posted ≡ b → Firstly (Wait which) (if b then Waits which else Refuses code.Question)
   by_open which mk true e = (
     λ d f. absurd cc,
     λ no. none_other (Wait which) mk refl refl refl (λ x. x.1) (no_again which) (no_many which) (no_ask which) (no_amiss which) (λ x.
@@ -752,10 +767,10 @@ module _ (rules : Rules) (s : State) (session : ℕ) (expected : Option ℕ) (fr
       (omega arith) (λ x. x.1) (λ l. no_again which) (λ l. no_many which) (λ l. no_ask which) (λ l. no_amiss which)
       (which, refl, λ q among f. off_on _ e (among_any (is_posted session which) s.posted q among f)))
 
-  of_wait : (which : ℕ) → Isnt (Wait which) code.Mark → Firstly (Wait which) (obeyed rules s session (Wait which))
+  of_wait : (which : ℕ) → Begins (Wait which) → Firstly (Wait which) (obeyed rules s session (Wait which))
   of_wait which mk = by_open which mk (list_any (is_posted session which) s.posted) refl
 
-  of_command : (c : Command) → Isnt c code.Mark → Firstly c (obeyed rules s session c)
+  of_command : (c : Command) → Begins c → Firstly c (obeyed rules s session c)
   of_command (Ask place name arguments) = of_ask place name arguments
   of_command (Set place t) = of_set place t
   of_command (Put place name t) = of_put place name t
@@ -775,22 +790,22 @@ module _ (rules : Rules) (s : State) (session : ℕ) (expected : Option ℕ) (fr
 
 module _ (rules : Rules) (s : State) (l : Line) where
   -- before a mark comes no more than the version
-  small : (n : ℕ) → n ≤ 3 → (2 < n → ExpectsOther l.expected s.version → ⊥) → (e : Code) → number e < n → Applies rules s l e → ⊥
-  small n m h code.Syntax k x = x
-  small n m h (code.Stale v) k x = h k x.0
-  small n m h code.Mark k x = absurd (omega (arith, m, k))
-  small n m h code.Path k x = absurd (omega (arith, m, k))
-  small n m h code.Component k x = absurd (omega (arith, m, k))
-  small n m h code.Class k x = absurd (omega (arith, m, k))
-  small n m h code.Fit k x = absurd (omega (arith, m, k))
-  small n m h code.Index k x = absurd (omega (arith, m, k))
-  small n m h code.Taken k x = absurd (omega (arith, m, k))
-  small n m h code.Fixed k x = absurd (omega (arith, m, k))
-  small n m h code.Inside k x = absurd (omega (arith, m, k))
-  small n m h code.Limit k x = absurd (omega (arith, m, k))
-  small n m h code.Attribute k x = absurd (omega (arith, m, k))
-  small n m h code.Arguments k x = absurd (omega (arith, m, k))
-  small n m h code.Question k x = absurd (omega (arith, m, k))
+  small : (n : ℕ) → n ≤ 3 → (1 < n → is_read rules l.command ≡ true) → (2 < n → ExpectsOther l.expected s.version → ⊥) → (e : Code) → number e < n → Applies rules s l e → ⊥
+  small n m r h code.Syntax k x = off_on (is_read rules l.command) x (r k)
+  small n m r h (code.Stale v) k x = h k x.0
+  small n m r h code.Mark k x = absurd (omega (arith, m, k))
+  small n m r h code.Path k x = absurd (omega (arith, m, k))
+  small n m r h code.Component k x = absurd (omega (arith, m, k))
+  small n m r h code.Class k x = absurd (omega (arith, m, k))
+  small n m r h code.Fit k x = absurd (omega (arith, m, k))
+  small n m r h code.Index k x = absurd (omega (arith, m, k))
+  small n m r h code.Taken k x = absurd (omega (arith, m, k))
+  small n m r h code.Fixed k x = absurd (omega (arith, m, k))
+  small n m r h code.Inside k x = absurd (omega (arith, m, k))
+  small n m r h code.Limit k x = absurd (omega (arith, m, k))
+  small n m r h code.Attribute k x = absurd (omega (arith, m, k))
+  small n m r h code.Arguments k x = absurd (omega (arith, m, k))
+  small n m r h code.Question k x = absurd (omega (arith, m, k))
 
   abbrev IsToldFirst : Code → Type 0
   IsToldFirst d = Applies rules s l d × ((e : Code) → number e < number d → Applies rules s l e → ⊥)
@@ -829,16 +844,23 @@ module _ (rules : Rules) (s : State) (l : Line) where
       is_marked s.marks l.session z ≡ false) same (ap is_some none)) (both (is_marked s.marks l.session first) _ e).0
   none_unmarked (first ∷ rest) e (name, inr among, none) = none_unmarked rest (both (is_marked s.marks l.session first) _ e).1 (name, among, none)
 
-  by_marks : (ExpectsOther l.expected s.version → ⊥) → (b : Bool) → list_all (is_marked s.marks l.session)
+  by_marks : is_read rules l.command ≡ true → (ExpectsOther l.expected s.version → ⊥) → (b : Bool) → list_all (is_marked s.marks l.session)
       (marks_used l.command) ≡ b → IsTold (if not b then Refuses code.Mark else obeyed rules s l.session l.command)
-  by_marks fresh true e = of_command rules s l.session l.expected fresh l.command (none_unmarked (marks_used l.command) e)
-  by_marks fresh false e = tells code.Mark (some_unmarked (marks_used l.command) e, small 3 (omega arith) (λ k. fresh))
+  by_marks read fresh true e = of_command rules s l.session l.expected fresh l.command (none_unmarked (marks_used l.command) e, read)
+  by_marks read fresh false e = tells code.Mark (some_unmarked (marks_used l.command) e, small 3 (omega arith) (λ k. read) (λ k. fresh))
 
-  by_version : (b : Bool) → is_stale l.expected s.version ≡ b
+  by_version : is_read rules l.command ≡ true → (b : Bool) → is_stale l.expected s.version ≡ b
       → IsTold (if b then Refuses (code.Stale s.version) else (if not (list_all (is_marked s.marks l.session)
       (marks_used l.command)) then Refuses code.Mark else obeyed rules s l.session l.command))
-  by_version true e = tells (code.Stale s.version) ((stale_other l.expected s.version e, refl), small 2 (omega arith) (λ k. absurd (past_itself 2 k)))
-  by_version false e = by_marks (fresh_by l.expected s.version e) (list_all (is_marked s.marks l.session) (marks_used l.command)) refl
+  by_version read true e = tells (code.Stale s.version) ((stale_other l.expected s.version e, refl), small 2 (omega arith) (λ k. read) (λ k. absurd (past_itself 2 k)))
+  by_version read false e = by_marks read (fresh_by l.expected s.version e) (list_all (is_marked s.marks l.session) (marks_used l.command)) refl
+
+  by_reading : (b : Bool) → is_read rules l.command ≡ b
+      → IsTold (if not b then Refuses code.Syntax else (if is_stale l.expected s.version then Refuses (code.Stale s.version)
+      else (if not (list_all (is_marked s.marks l.session) (marks_used l.command)) then Refuses code.Mark
+      else obeyed rules s l.session l.command)))
+  by_reading false e = tells code.Syntax (e, small 1 (omega arith) (λ k. absurd (past_itself 1 k)) (λ k. absurd (omega (arith, k))))
+  by_reading true e = by_version e (is_stale l.expected s.version) refl
 
   pub told_first : IsTold (verdict rules s l)
-  told_first = by_version (is_stale l.expected s.version) refl
+  told_first = by_reading (is_read rules l.command) refl

@@ -1,5 +1,5 @@
 -- Every instance that is well formed stands in the list.
-use Rattle.std.proofs.Common.{◌≡◌, ℕ, zero, suc, ◌+◌, ◌<◌, ◌≤◌, pos, negsuc, Bool, true, false, cond, nat_eq, nat_le, ◌||◌, List, [], ◌∷◌, ◌++◌, map, length, Option, Some, None, inl, inr, refl, sym, ap, subst, arith}
+use Rattle.std.proofs.Common.{◌≡◌, ℕ, zero, suc, ◌+◌, ◌<◌, ◌≤◌, pos, negsuc, Bool, true, false, cond, max, nat_eq, nat_le, ◌||◌, List, [], ◌∷◌, ◌++◌, map, length, Option, Some, None, inl, inr, refl, sym, ap, subst, arith}
 use Rattle.std.specs.Prelude.{option_map}
 use Rattle.std.specs.List.{slice_get, AllByRecursion, flat_map}
 use Rattle.std.proofs.lemmas.Option.{slice_get_within}
@@ -14,7 +14,7 @@ use Rattle.at_model.specs.Bodies.{is_text_within}
 use Rattle.at_model.specs.Meaning.{Among}
 use Rattle.at_model.specs.Kinds.{AreTyped, IsParameter, IsDeclarationTyped}
 use Rattle.at_model.specs.TypedRuns.{class_at, IsOfKind, IsAllowed, AreArguments, IsWellTyped}
-use Rattle.at_model.specs.Instances.{all_nodes, cells_nodes, cell_nodes, trees_nodes, texts, argument_values, argument_lists, below, texts_within, ints_within, holds_of_one, is_passed, is_int, is_truth, others_within, others, instances, IsGiven}
+use Rattle.at_model.specs.Instances.{all_nodes, cells_nodes, cell_nodes, trees_nodes, texts, argument_values, argument_lists, most_parameters, below, texts_within, ints_within, holds_of_one, is_passed, is_int, is_truth, others_within, others, instances, IsGiven}
 use Rattle.at_model.proofs.Options.{led, both}
 use Rattle.at_model.proofs.Everywhere.{found}
 
@@ -163,6 +163,18 @@ passed_so rules n d e of k h f =
     one_holds (λ (a : Attribute). holds_of_one of a.parameters) rules.attributes d (among_at rules.attributes n d e)
     (one_holds of d.parameters k h f)
 
+-- no attribute has more parameters
+least_most : (n : ℕ) (xs : List Attribute) → n ≤ most_parameters n xs
+least_most n [] = omega arith
+least_most n (x ∷ xs) = let more = least_most (max n (length x.parameters)) xs in omega (arith, more)
+
+within_most : (n : ℕ) (xs : List Attribute) (a : Attribute) → Among a xs → length a.parameters ≤ most_parameters n xs
+within_most n [] a h = absurd h
+within_most n (x ∷ xs) a (inl same) =
+    let more = least_most (max n (length x.parameters)) xs in
+    subst (λ (y : Attribute). length y.parameters ≤ most_parameters n (x ∷ xs)) (sym same) (omega (arith, more))
+within_most n (x ∷ xs) a (inr h) = within_most (max n (length x.parameters)) xs a h
+
 module _ (rules : Rules) (t : Tree) (vs : List (Value Node)) where
   -- which kinds are passed
   abbrev Passes : Kind → Type 0
@@ -225,29 +237,27 @@ module _ (rules : Rules) (t : Tree) (vs : List (Value Node)) where
   value_listed (Truth b) kind.Text q p h s = absurd h
   value_listed (Truth b) (kind.Class c) q p h s = absurd h
 
-  too_many : (a b c : Kind) (ks : List Kind) → length (a ∷ b ∷ c ∷ ks) ≤ 2 → ⊥
-  too_many a b c ks h = omega arith
-
-  arguments_listed : (ws : List (Value Node)) (ks : List Kind) → ((k : Kind) → Among k ks → Passes k) → length ks ≤ 2 → AllByRecursion
+  -- lists of no more than so many
+  arguments_listed : (n : ℕ) (ws : List (Value Node)) (ks : List Kind) → ((k : Kind) → Among k ks → Passes k) → length ks ≤ n → AllByRecursion
       (IsParameter rules.classes) ks → AreArguments rules.classes (class_at t) (IsGiven rules t vs) ws ks
-      → Among ws (argument_lists (argument_values rules t vs))
-  arguments_listed [] ks q few p h = inl refl
-  arguments_listed (v ∷ ws) [] q few p h = absurd h
-  arguments_listed (v ∷ []) (k ∷ ks) q few (p, ps) (h, s, hs) = inr (among_left (v ∷ []) (map (λ v. v ∷ [])
-      (argument_values rules t vs)) _ (among_map (λ v. v ∷ []) v (argument_values rules t vs) (value_listed v k (q k (inl refl)) p h s)))
-  arguments_listed (v ∷ w ∷ ws) (k ∷ []) q few p (h, s, hs) = absurd hs
-  arguments_listed (v ∷ w ∷ []) (k ∷ l ∷ ks) q few (p, (p2, ps)) (h, s, (g, r, hs)) =
-      inr (among_right (v ∷ w ∷ []) (map (λ v. v ∷ []) (argument_values rules t vs)) _ (among_flat (λ v. map (λ w.
-      v ∷ w ∷ []) (argument_values rules t vs)) v (v ∷ w ∷ []) (argument_values rules t vs) (value_listed v k (q k (inl refl)) p h s)
-      (among_map (λ w. v ∷ w ∷ []) w (argument_values rules t vs) (value_listed w l (q l (inr (inl refl))) p2 g r))))
-  arguments_listed (v ∷ w ∷ x ∷ ws) (k ∷ l ∷ []) q few p (h, s, (g, r, hs)) = absurd hs
-  arguments_listed (v ∷ w ∷ x ∷ ws) (k ∷ l ∷ m ∷ ks) q few p h = absurd (too_many k l m ks few)
+      → Among ws (argument_lists n (argument_values rules t vs))
+  arguments_listed zero [] ks q few p h = inl refl
+  arguments_listed (suc n) [] ks q few p h = inl refl
+  arguments_listed n (v ∷ ws) [] q few p h = absurd h
+  arguments_listed zero (v ∷ ws) (k ∷ ks) q few p h = absurd (omega (arith, few))
+  arguments_listed (suc n) (v ∷ ws) (k ∷ ks) q few (p, ps) (h, s, hs) =
+      inr (among_flat (λ w. map (λ xs. w ∷ xs) (argument_lists n (argument_values rules t vs))) v (v ∷ ws) (argument_values rules t vs)
+      (value_listed v k (q k (inl refl)) p h s)
+      (among_map (λ xs. v ∷ xs) ws (argument_lists n (argument_values rules t vs))
+      (arguments_listed n ws ks (λ l among. q l (inr among)) (omega (arith, few)) ps hs)))
 
   pub instance_listed : AreTyped rules → (i : Instance Node) → IsWellTyped rules (class_at t) (IsGiven rules t vs) i → Among i (instances rules t vs)
   instance_listed typed i w =
       let declared = found (IsDeclarationTyped rules.classes) rules.attributes i.attribute w.declaration typed.attributes w.attribute in
-      let lists = argument_lists (argument_values rules t vs) in
-      let a = arguments_listed i.arguments w.declaration.parameters (λ k h of e. passed_so rules i.attribute w.declaration w.attribute of k h e) declared.few declared.parameters w.arguments in
+      let most = most_parameters 2 rules.attributes in
+      let lists = argument_lists most (argument_values rules t vs) in
+      let a = arguments_listed most i.arguments w.declaration.parameters (λ k h of e. passed_so rules i.attribute w.declaration w.attribute of k h e)
+      (within_most 2 rules.attributes w.declaration (among_at rules.attributes i.attribute w.declaration w.attribute)) declared.parameters w.arguments in
       let b = among_below (length rules.attributes) i.attribute (slice_get_within rules.attributes i.attribute w.declaration w.attribute) in
       let c = node_listed t i.node w.class w.node in
       among_flat (λ n. flat_map (λ k. map (λ ws. record { node = n; attribute = k; arguments = ws }) lists) (below (length rules.attributes))) i.node i (all_nodes t) c

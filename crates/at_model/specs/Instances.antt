@@ -1,5 +1,5 @@
 -- The instances among which stands all that a question leads to.
-use Rattle.std.specs.Prelude.{ℕ, zero, suc, ℤ, pos, negsuc, Bool, true, false, cond, ◌||◌, List, [], ◌∷◌, ◌++◌, map, length, Some, None, ⊤}
+use Rattle.std.specs.Prelude.{ℕ, zero, suc, max, ℤ, pos, negsuc, Bool, true, false, cond, ◌||◌, List, [], ◌∷◌, ◌++◌, map, length, Some, None, ⊤}
 use Rattle.std.specs.List.{AllByRecursion, flat_map}
 use Rattle.at_model.specs.Trees.{Tree, Node as Branch, Cells, no_cells, cell, Cell, One, Many, Empty, Filled, Holds, Trees, no_trees, tree, Token}
 use Rattle.at_model.specs.Trees as held
@@ -162,16 +162,23 @@ abbrev pub argument_values : Rules → Tree → List (Value Node) → List (Valu
 argument_values rules t vs =
     map (λ bytes. Text bytes) (texts rules t vs) ++ ((Ref None ∷ map (λ n. Ref (Some n)) (all_nodes t)) ++ others rules)
 
--- no argument, one, or two of them
-abbrev pub argument_lists : List (Value Node) → List (List (Value Node))
-argument_lists vs = [] ∷ (map (λ v. v ∷ []) vs ++ flat_map (λ v. map (λ w. v ∷ w ∷ []) vs) vs)
+-- the lists of so many of them at most
+abbrev pub argument_lists : ℕ → List (Value Node) → List (List (Value Node))
+argument_lists zero vs = [] ∷ []
+argument_lists (suc n) vs = [] ∷ flat_map (λ v. map (λ ws. v ∷ ws) (argument_lists n vs)) vs
 
--- The instances of each node of the tree and each attribute with no, one or two of these arguments. Some stand in it more
--- than once, and some are not well formed: what counts is that none is missing.
+-- as many parameters as an attribute has, and so many at least
+abbrev pub most_parameters : ℕ → List Attribute → ℕ
+most_parameters n [] = n
+most_parameters n (a ∷ as') = most_parameters (max n (length a.parameters)) as'
+
+-- The instances of each node of the tree and each attribute with up to two of these arguments, or with more where an attribute has
+-- more parameters. Some stand in it more than once, and some are not well formed: what counts is that none is missing.
 abbrev pub instances : Rules → Tree → List (Value Node) → List (Instance Node)
 instances rules t vs =
     flat_map (λ n.
-    flat_map (λ k. map (λ ws. record { node = n; attribute = k; arguments = ws }) (argument_lists (argument_values rules t vs)))
+    flat_map (λ k. map (λ ws. record { node = n; attribute = k; arguments = ws })
+    (argument_lists (most_parameters 2 rules.attributes) (argument_values rules t vs)))
     (below (length rules.attributes)))
     (all_nodes t)
 

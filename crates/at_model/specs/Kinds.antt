@@ -172,12 +172,12 @@ IsKindThere classes (Class c) = c < length classes
 IsKindThere classes (Nodes c) = c < length classes
 IsKindThere classes k = ⊤
 
--- its class and its kinds are there, it has at most two parameters, and where it is circular it is boolean
+-- its class and its kinds are there, it has at most four parameters, and where it is circular it is boolean
 pub record IsDeclarationTyped (classes : Classes) (a : Attribute) : Type 0 where
   pub class : a.class < length classes
   pub result : IsKindThere classes a.result
   pub parameters : AllByRecursion (IsParameter classes) a.parameters
-  pub few : length a.parameters ≤ 2
+  pub few : length a.parameters ≤ 4
   pub boolean : (b : Bool) → a.start ≡ Some b → a.result ≡ Truth
 
 -- The attribute of an own equation is synthesized and one of the class, and the body has its kind, where the names stand for

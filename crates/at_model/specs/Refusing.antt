@@ -12,10 +12,10 @@ use Rattle.at_model.specs.Edits.{Edit, Refusal, has_component, fits_there, is_in
 use Rattle.at_model.specs.Edits as edit
 use Rattle.at_model.specs.Shaping.{names_classes, shaped}
 use Rattle.at_model.specs.Effects.{component_named}
-use Rattle.at_model.specs.Lines.{Line, Place, Argument, Text, Ref, Null, Command, Ask, Set, Put, Drop, Insert, Token, Move, Show, Mark, Post, Wait, last_version, last_post}
+use Rattle.at_model.specs.Lines.{Line, Place, Argument, Ref, Command, Ask, Set, Put, Drop, Insert, Token, Move, Show, Mark, Post, Wait, last_version, last_post}
 use Rattle.at_model.specs.Replies.{Code}
 use Rattle.at_model.specs.Replies as code
-use Rattle.at_model.specs.Machine.{State, Posted, marked, marks_used, node_named, value_named, each, fit_parameters, parameters_of, is_posted, code_of, max_marks, max_posted}
+use Rattle.at_model.specs.Machine.{State, Posted, marked, marks_used, node_named, value_named, each, suit, is_read, is_posted, code_of, max_marks, max_posted}
 
 -- the number of a code: the lower one is told of two that apply
 abbrev pub number : Code → ℕ
@@ -54,9 +54,8 @@ Breaks classes t e edit.Limit = is_within_limits (left_by t e) ≡ false
 -- the words of commands ------------------------------------------------------------------------------------------------
 
 abbrev pub places_in : Argument → List Place
-places_in (Text bytes) = []
 places_in (Ref place) = place ∷ []
-places_in Null = []
+places_in a = []
 
 -- the places that a command names; those of a question that is posted are looked at later
 abbrev pub places : Command → List Place
@@ -193,7 +192,7 @@ pub record AsksAmiss (rules : Rules) (s : State) (l : Line) : Type 0 where
   pub named : node_named rules.classes s l.session place ≡ Some node
   pub found : attribute_at rules s.tree node name ≡ Some attribute
   pub told : each (map (value_named rules.classes s l.session) arguments) ≡ Some values
-  pub amiss : fit_parameters rules.classes s.tree (parameters_of rules attribute) values ≡ false
+  pub amiss : suit rules s.tree attribute values ≡ false
 
 -- the line waits for a question that its session has not open
 abbrev pub WaitsForNone : State → Line → Type 0
@@ -201,7 +200,7 @@ WaitsForNone s l = (asked : ℕ) × (l.command ≡ Wait asked) × ((q : Posted) 
 
 -- there is that reason to refuse the line
 abbrev pub Applies : Rules → State → Line → Code → Type 0
-Applies rules s l code.Syntax = ⊥
+Applies rules s l code.Syntax = is_read rules l.command ≡ false
 Applies rules s l (code.Stale version) = ExpectsOther l.expected s.version × (version ≡ s.version)
 Applies rules s l code.Mark = (name : List ℕ) × Among name (marks_used l.command) × (marked s.marks l.session name ≡ None)
 Applies rules s l code.Path = (place : Place) × Among place (places l.command) × (node_named rules.classes s l.session place ≡ None)

@@ -1,7 +1,7 @@
 -- States, rules and lines for worked sessions on the samples.
-use Rattle.std.specs.Prelude.{ℕ, zero, suc, false, List, [], ◌∷◌, ◌++◌, decimal, replicate}
+use Rattle.std.specs.Prelude.{ℕ, zero, suc, pos, false, List, [], ◌∷◌, ◌++◌, decimal, replicate}
 use lib.Chars.{codes}
-use Rattle.at_model.specs.Bodies.{Same, Child, This, Name}
+use Rattle.at_model.specs.Bodies.{Same, Child, This, Name, IntLiteral, Arithmetic, Add, Multiply, Call, Passed, no_exprs, expr}
 use Rattle.at_model.specs.Rules.{Rules}
 use Rattle.at_model.specs.Rules as kind
 use Rattle.at_model.specs.Lines.{Command, From_root, Post, last_version}
@@ -54,6 +54,15 @@ abbrev pub calc_with_argument : Rules
 calc_with_argument = record calc {
   attributes = calc.attributes ++ synthesized (codes "begins") 8 (kind.Class 5 ∷ []) kind.Truth false ∷ [];
   own = calc.own ++ own 8 17 (Same (Child This 0) (Name 0)) ∷ [];
+}
+
+-- calc.jrag with syn int Program.next(int n) = n + 1; and syn int Program.far(int n) = next(n * 1000000);
+abbrev pub calc_with_numbers : Rules
+calc_with_numbers = record calc {
+  attributes = calc.attributes ++ (synthesized (codes "next") 0 (kind.Int ∷ []) kind.Int false
+      ∷ synthesized (codes "far") 0 (kind.Int ∷ []) kind.Int false ∷ []);
+  own = calc.own ++ (own 0 17 (Arithmetic Add (Name 0) (IntLiteral (pos 1)))
+      ∷ own 0 18 (Call This 17 (expr (Passed (Arithmetic Multiply (Name 0) (IntLiteral (pos 1000000)))) no_exprs)) ∷ []);
 }
 
 -- a declaration's name of so many letters

@@ -7,7 +7,7 @@ ghost use Rattle.at_model.specs.Replies as code;
 ghost use Rattle.at_model.specs.Machine.{Leaves, Refuses, verdict};
 ghost use Rattle.at_model.specs.Samples.{calc};
 ghost use Rattle.at_model.specs.SampleLines.{block_path, mark, nested, opened, says};
-ghost use Rattle.at_model.specs.SampleSessions.{at_last_version, calc_with_argument, full_of_marks, marking, some_marks};
+ghost use Rattle.at_model.specs.SampleSessions.{at_last_version, calc_with_argument, calc_with_numbers, full_of_marks, marking, some_marks};
 
 /// Of two refusals that a line has, the first in their order is told.
 pub fn the_first_refusal_is_told()
@@ -81,6 +81,25 @@ pub fn a_parameter_takes_a_class()
         ∷ "0 ask /Block/Stmt:1/Expr begins(\"x\")" ⟼ "0 refused 14 arguments"
         ∷ "0 ask /Block/Stmt:1/Expr begins()" ⟼ "0 refused 14 arguments"
         ∷ "0 ask /Block/Stmt:1/Expr begins(null,null)" ⟼ "0 refused 14 arguments"
+        ∷ []) }
+{}
+
+/// Ints are read as arguments where an attribute takes ints or booleans, and an int is at most so far from 0; so it is with one
+/// that is computed and passed.
+pub fn numbers_are_arguments()
+    ensures taken { Plays calc_with_numbers opened
+        ("0 ask / next(3)" ⟼ "0 = 4"
+        ∷ "0 ask / next(-4)" ⟼ "0 = -3"
+        ∷ "0 ask / next(1048576)" ⟼ "0 = 1048577"
+        ∷ "0 ask / next(1048577)" ⟼ "0 refused 14 arguments"
+        ∷ "0 ask / next(true)" ⟼ "0 refused 14 arguments"
+        ∷ "0 ask / far(1)" ⟼ "0 = 1000001"
+        ∷ "0 ask / far(2)" ⟼ "0 fault long in /.far"
+        ∷ []) }
+    ensures unread { Plays calc opened
+        ("0 ask / next(3)" ⟼ "0 refused 1 syntax"
+        ∷ "0 at 5 ask $u next(true)" ⟼ "0 refused 1 syntax"
+        ∷ "0 post / next(3)" ⟼ "0 refused 1 syntax"
         ∷ []) }
 {}
 

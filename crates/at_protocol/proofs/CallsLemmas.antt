@@ -5,7 +5,7 @@ use Rattle.std.specs.List.{AllByRecursion}
 use denote.Ref.{Bor}
 use Rattle.std.proofs.lemmas.List.{append_cancel_right, map-append}
 use Rattle.at_model.specs.Terms.{with_commas}
-use Rattle.at_model.specs.Lines.{Argument, Text, Ref, Null, Place, IsArgument, argument_text, place_text}
+use Rattle.at_model.specs.Lines.{Argument, Text, Int, Truth, Ref, Null, Place, IsArgument, argument_text, place_text}
 use Rattle.at_model.proofs.of_texts.OneLine.{same_argument, place_head}
 use Rattle.at_model.proofs.of_texts.QuotedTexts.{same_quoted}
 use Rattle.at_protocol.specs.Words.{HasNo, FailsOn, IsNameText}
@@ -15,6 +15,7 @@ use Rattle.at_protocol.specs.declared.line.Argument.{Argument as ArgumentValue}
 use Rattle.at_text.specs.declared.fault.Failure.{Failure}
 use Rattle.at_protocol.specs.declared.line.words.Misfit.{Misfit}
 use Rattle.at_protocol.proofs.Answering.{fails_with}
+use Rattle.at_protocol.proofs.Arguments.{no_comma_int, no_comma_truth, unquoted_int, unquoted_truth}
 use Rattle.at_protocol.proofs.Spaces.{two_parts, one_cut, has_no_name, has_no_place, has_no_test, comma_outside, tail_of, first, IsNext}
 
 -- the name, and what stands between the parentheses
@@ -114,8 +115,10 @@ no_comma_null = has_no_test 44 (codes "null") refl
 
 bare : (text : List ℕ) (a : Argument) (behind : Option (List ℕ)) → (slice_index text 0 ≡ 34 → ⊥) → IsNextArgument text (a, behind) → IsBare text a
 bare text (Text value) behind none h = absurd (none (sym (first _ _ h.1)))
+bare text (Int n) behind none h = record { is_bare = (h.0, refl); one = no_comma_int n h.0 }
+bare text (Truth b) behind none h = record { is_bare = (tt, refl); one = no_comma_truth b }
 bare text (Ref place) behind none h = record { is_bare = (h.0, refl); one = has_no_place 44 comma_outside place h.0 }
-bare text Null behind none h = record { is_bare = refl; one = no_comma_null }
+bare text Null behind none h = record { is_bare = (tt, refl); one = no_comma_null }
 
 behind_next : (behind : Option (List ℕ)) → IsNext 44 (behind_argument behind)
 behind_next None = tt
@@ -144,8 +147,14 @@ no_place_quote : (text : List ℕ) (place : Place) (behind : List ℕ) → slice
 no_place_quote [] place behind q e = absurd (cc)
 no_place_quote (b ∷ bs) place behind q e = place_head place behind bs 34 refl refl (e ∙ ap (λ (d : ℕ). d ∷ bs) q)
 
+unquoted : (behind : Option (List ℕ)) → slice_index (behind_argument behind) 0 ≡ 34 → ⊥
+unquoted None e = omega (arith, e)
+unquoted (Some rest) e = omega (arith, e)
+
 is_quoted : (text : List ℕ) (a : Argument) (behind : Option (List ℕ)) → slice_index text 0 ≡ 34 → IsNextArgument text (a, behind) → (value : List ℕ) × IsQuotedFirst text (value, behind_argument behind)
 is_quoted text (Text value) behind q h = (value, h)
+is_quoted text (Int n) behind q h = absurd (unquoted_int n (behind_argument behind) text (unquoted behind) h.0 h.1 q)
+is_quoted text (Truth b) behind q h = absurd (unquoted_truth b (behind_argument behind) text h.1 q)
 is_quoted text (Ref place) behind q h = absurd (no_place_quote text place (behind_argument behind) q h.1)
 is_quoted text Null behind q h = let f : 110 ≡ slice_index text 0 = first _ _ h.1 in absurd (omega (arith, f, q))
 

@@ -2,6 +2,7 @@ pub mod Spaces
 pub mod Cuts
 pub mod Values
 pub mod Answering
+mod Arguments
 pub mod CommandsLemmas
 pub mod Parts
 pub mod CallsLemmas

@@ -1,13 +1,12 @@
 -- The text of a question's attribute with its arguments.
-use Rattle.std.specs.Prelude.{◌≡◌, ℕ, List, [], ◌∷◌, ◌++◌, map, Option, Some, None, option_map, codes}
+use Rattle.std.specs.Prelude.{◌≡◌, ℕ, List, [], ◌∷◌, ◌++◌, map, Option, Some, None, option_map}
 use denote.Ref.{Bor}
 use Rattle.std.specs.List.{AllByRecursion}
 use Rattle.std.specs.Str.{IsUtf8}
 use Rattle.at_model.specs.Texts.{quoted}
 use Rattle.at_model.specs.Terms.{with_commas}
-use Rattle.at_model.specs.Lines.{Argument, Text, Ref, Null, IsArgument, argument_text, call_text}
+use Rattle.at_model.specs.Lines.{Argument, Text, Ref, IsArgument, argument_text, call_text}
 use Rattle.at_model.specs.Names.{IsName}
-use Rattle.at_protocol.specs.Words.{IsPlaceText}
 use Rattle.at_protocol.specs.LineView.{argument_view}
 use Rattle.at_protocol.specs.declared.line.Argument.{Argument as ArgumentValue}
 
@@ -17,8 +16,12 @@ IsCallText text call = IsName call.0 × AllByRecursion IsArgument call.1 × (cal
 -- an argument that is no text
 abbrev pub IsBareArgument : List ℕ → Argument → Type 0
 IsBareArgument text (Text value) = ⊥
-IsBareArgument text (Ref place) = IsPlaceText text place
-IsBareArgument text Null = codes "null" ≡ text
+IsBareArgument text a = IsArgument a × (argument_text a ≡ text)
+
+-- an argument that is neither a text nor a node
+abbrev pub IsPlainArgument : List ℕ → Argument → Type 0
+IsPlainArgument text (Ref place) = ⊥
+IsPlainArgument text a = IsBareArgument text a
 
 -- one argument or more, with a comma between each two
 abbrev pub AreArguments : List ℕ → List Argument → Type 0

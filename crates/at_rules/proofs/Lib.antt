@@ -5,6 +5,7 @@ mod Guessed
 mod HoldingLemmas
 mod Lookups
 pub mod NameNumbers
+pub mod Numeric
 mod Numbers
 pub mod Earlier
 pub mod UpwardLemmas

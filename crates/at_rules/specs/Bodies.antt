@@ -1,5 +1,5 @@
 -- What the bodies of equations stand for, and the kinds of values.
-use Rattle.std.specs.Prelude.{List, [], ◌∷◌, string_bytes}
+use Rattle.std.specs.Prelude.{Bool, true, false, List, [], ◌∷◌, string_bytes}
 use Rattle.at_model.specs.Bodies.{Expr, Exprs, no_exprs, expr, IntLiteral, TruthLiteral, TextLiteral, NullLiteral, Arithmetic, Compare, Multiply, Divide, Remainder, Add, Subtract, Below, AtMost, Above, AtLeast}
 use Rattle.at_model.specs.Bodies as model
 use Rattle.at_model.specs.Rules as kinds
@@ -31,6 +31,12 @@ kind_view kind.Bool = kinds.Truth
 kind_view kind.Text = kinds.Text
 kind_view (kind.Class c) = kinds.Class c
 
+-- the kind of ints or of booleans
+abbrev pub is_numeric : Kind → Bool
+is_numeric kind.Int = true
+is_numeric kind.Bool = true
+is_numeric k = false
+
 abbrev mutual
   pub body_view : Body → Expr
   body_view (body.Int n) = IntLiteral n
@@ -60,6 +66,7 @@ abbrev mutual
   body_view (body.Has' p a part) = model.Has (body_view a) part
   body_view (body.TokenOf' p a part) = model.TokenOf (body_view a) part
   body_view (body.Call' p a attribute shape row) = model.Call (body_view a) attribute (row_view row)
+  body_view (body.Passed' p a) = model.Passed (body_view a)
   body_view (body.Exists' p a part q b) = model.Exists (body_view a) part (body_view b)
   body_view (body.First' p a part q b) = model.First (body_view a) part (body_view b)
   body_view (body.Sum' p a part q b) = model.Sum (body_view a) part (body_view b)

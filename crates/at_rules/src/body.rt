@@ -74,6 +74,8 @@ pub enum Body {
     TokenOf(Box<Body>, usize),
     /// An attribute of a receiver, with its arguments.
     Call(Box<Body>, AttrId, Vec<Body>),
+    /// An argument that is computed, an int or a text: a fault where it is too far from 0, or too long.
+    Passed(Box<Body>),
     /// Whether the body is true of an element of a list.
     Exists(Box<Body>, usize, Box<Body>),
     /// The first element of a list of which the body is true, or null.

@@ -111,7 +111,7 @@ impl Model for Rules {
 
 impl Rules {
     ghost use Rattle.std.specs.Prelude.{◌≡◌, ◌<◌, [], length, map, option_map, slice_get, IfSome};
-    ghost use Rattle.at_model.specs.Machine.{parameters_of};
+    ghost use Rattle.at_model.specs.Machine.{parameters_of, takes_numbers};
     ghost use Rattle.at_model.specs.Rules.{attribute_name, attribute_named, inherited_equation, is_inherited, is_lazy, own_equation, own_in, start_of};
     ghost use Rattle.at_rules.specs.Bodies.{body_view, kind_view};
     ghost use Rattle.at_rules.specs.RulesView.{attribute_view, own_view, inherited_view, named};
@@ -186,6 +186,13 @@ impl Rules {
             name,
         )?;
         Some(AttrId::new(position))
+    }
+
+    /// Whether an attribute has ints or booleans as parameters.
+    pub fn takes_numbers(&self) -> bool
+        ensures { result ≡ takes_numbers self.now }
+    {
+        have_numbers(&self.equations.attributes)
     }
 
     /// The kinds of the attribute's parameters.
@@ -308,7 +315,7 @@ ghost use Rattle.std.specs.List.{IsDistinct};
 ghost use Rattle.std.specs.String.{string_eq};
 ghost use Rattle.at_model.specs.Classes.{chain};
 ghost use Rattle.at_model.specs.Rules.{first_answer};
-ghost use Rattle.at_rules.specs.Bodies.{body_view};
+ghost use Rattle.at_rules.specs.Bodies.{body_view, is_numeric};
 ghost use Rattle.at_rules.specs.RulesView.{text_of, name_in, numbered_in, LacksText};
 ghost use Rattle.at_rules.specs.declared.dispatch.Precedence.TheVariants.{Earliest};
 ghost use Rattle.at_rules.specs.Dispatch.{body_at, found_up, AreRight};
@@ -317,6 +324,34 @@ ghost use Rattle.at_rules.specs.Upward.{declared_in};
 ghost use Rattle.std.specs.Map.{keys_of};
 ghost use Rattle.std.specs.Prelude.{position, string_bytes, bytes_eq};
 ghost use Rattle.std.specs.List.{list_any};
+
+/// Whether one of the attributes has ints or booleans as parameters.
+fn have_numbers(attributes: &IndexMap<(usize, usize), Attribute>) -> bool
+    ensures { result ≡ list_any (λ e. list_any is_numeric e.1.params.items) attributes.now.entries }
+{
+    for position in 0..attributes.len() {
+        if let Some((_, attribute)) = attributes.get_index(position)
+            && has_numbers(attribute)
+        {
+            return true;
+        }
+    }
+    false
+}
+
+/// Whether the attribute has ints or booleans as parameters.
+fn has_numbers(attribute: &Attribute) -> bool
+    ensures { result ≡ list_any is_numeric attribute.now.params.items }
+{
+    attribute.params.iter().any(|kind| is_numeric(*kind))
+}
+
+/// Whether it is the kind of ints or of booleans.
+fn is_numeric(kind: Kind) -> bool
+    ensures { result ≡ is_numeric kind }
+{
+    matches!(kind, Kind::Int | Kind::Bool)
+}
 
 /// The number of the name, where it is one: most are guessed.
 fn number_named(names: &IndexSet<String>, guesses: &Guesses, name: &str) -> Option<usize>

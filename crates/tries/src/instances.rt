@@ -140,6 +140,8 @@ fn value_of(world: &World, argument: &Argument<'_>) -> Result<Value, Refusal>
 {
     match argument {
         Argument::Text(text) => Ok(Value::of_text(text.clone()?)?),
+        Argument::Int(number) => Ok(Value::Int(*number)),
+        Argument::Bool(truth) => Ok(Value::Bool(*truth)),
         Argument::Node(place) => Ok(Value::Ref(Some(node(world, place)?))),
         Argument::Null => Ok(Value::Ref(None)),
     }

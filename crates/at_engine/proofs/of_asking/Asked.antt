@@ -9,8 +9,9 @@ use Rattle.at_model.specs.Meaning.{content}
 use Rattle.at_model.specs.Lines.{Place, Argument, Ask}
 use Rattle.at_model.specs.Names.{IsName}
 use Rattle.at_model.specs.Replies as code
-use Rattle.at_model.specs.Machine.{State, Verdict, Asks, Refuses, each, fit_parameters, node_named, obeyed, parameters_of, value_named}
+use Rattle.at_model.specs.Machine.{State, Verdict, Asks, Refuses, each, node_named, obeyed, parameters_of, suit, value_named}
 use Rattle.at_model.specs.Alike.{ListLike, ValueLike, InstanceLike, AlikeAt, Names}
+use Rattle.at_model.proofs.Options.{both}
 use Rattle.at_model.proofs.of_texts.Words.{name_filled}
 use Rattle.at_body.specs.Values.{value_view}
 use Rattle.at_body.specs.declared.value.Value.{Value as ValueCode}
@@ -21,8 +22,7 @@ use Rattle.at_engine.specs.Fitting.{fit_numbers}
 use Rattle.at_engine.specs.Naming.{IsNumberOf}
 use Rattle.at_engine.specs.Seen.{state_seen}
 use Rattle.at_engine.specs.Asking.{IsInstanceOf}
-use Rattle.at_engine.proofs.of_asking.FittingAlike.{class_at, fit_like}
-use Rattle.at_engine.proofs.of_asking.NamedValues.{all_named}
+use Rattle.at_engine.proofs.of_asking.FittingAlike.{class_at, suit_like}
 use Rattle.at_engine.proofs.Typing.{formed, numbered_typed}
 use Rattle.at_engine.proofs.NamingLemmas.{tree_there}
 use Rattle.at_engine.proofs.Numbered.{shown_alike}
@@ -39,10 +39,9 @@ module _ (rules : Rules) (s : State) (session : ℕ) (place : Place) (name : Lis
       by_class : (o : Option ℕ) → attribute_named rules (look (Is k)) name ≡ o → (u : Tree) → tree_at s.tree n ≡ Some u → attribute_named rules (class_of u) name ≡ o
       by_class o e u there = ap (λ c. attribute_named rules c name) (sym (class_at rules.classes path look s.tree alike found k n u p there)) ∙ e
 
-      by_numbers : (a : ℕ) (b : Bool) → fit_numbers rules.classes look (parameters_of rules a) vs ≡ b → fit_parameters rules.classes s.tree (parameters_of rules a) ws ≡ b
+      by_numbers : (a : ℕ) (b : Bool) → fit_numbers rules.classes look (parameters_of rules a) vs ≡ b → suit rules s.tree a ws ≡ b
       by_numbers a b e =
-          sym (fit_like rules.classes path look s.tree alike found (parameters_of rules a) like
-          (all_named rules.classes s session arguments ws values)) ∙ e
+          sym (suit_like rules.classes path look s.tree alike found (parameters_of rules a) like) ∙ e
 
       pub strangely_is : attribute_named rules (look (Is k)) name ≡ None → obeyed rules s session (Ask place name arguments) ≡ Refuses code.Attribute
       strangely_is e = let (u, there) = found k n p in asked_strangely rules s session place name arguments n named u there ws values (by_class None e u there)
@@ -58,7 +57,7 @@ module _ (rules : Rules) (s : State) (session : ℕ) (place : Place) (name : Lis
         fitly_is e = let (u, there) = found k n p in asked_fitly rules s session place name arguments n named u there ws values a (by_class (Some a) is u there) (by_numbers a true e)
 
         pub fitly_formed : fit_numbers rules.classes look (parameters_of rules a) vs ≡ true → IsWellFormed rules s.tree asked_for
-        fitly_formed e = let (u, there) = found k n p in formed rules s.tree n u name ws a there (by_class (Some a) is u there) (by_numbers a true e)
+        fitly_formed e = let (u, there) = found k n p in formed rules s.tree n u name ws a there (by_class (Some a) is u there) (both _ _ (by_numbers a true e)).0
 
 -- the same, in the words of a store
 module _ (rules : Rules) (s : Shown) (idle : IsIdle s) (marks : List Mark) (session : ℕ) (place : Place) (name : List ℕ) (arguments : List Argument) where

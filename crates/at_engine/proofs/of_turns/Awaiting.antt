@@ -11,7 +11,7 @@ use Rattle.at_model.specs.Shaping.{names_classes, shaped}
 use Rattle.at_model.specs.Edits.{Edit, Refusal, class_asked, edited_within, list_class, optional_class, shape_at, token_kind}
 use Rattle.at_model.specs.Edits as edit
 use Rattle.at_model.specs.Lines.{Argument, Ask, Place, Post, last_post, last_version}
-use Rattle.at_model.specs.Machine.{State, Verdict, Asks, Edits, Leaves, Posted, Posts, Refuses, Tells, at_node, changed, code_of, each, fit_parameters, is_marked, is_stale, marked, marks_named, marks_used, max_marks, max_posted, node_named, obeyed, parameters_of, path_to, questioned, value_named, verdict, with_component, with_mark, with_tree}
+use Rattle.at_model.specs.Machine.{State, Verdict, Asks, Edits, Leaves, Posted, Posts, Refuses, Tells, at_node, changed, code_of, each, is_marked, is_read, is_stale, marked, marks_named, marks_used, max_marks, max_posted, node_named, obeyed, path_to, questioned, suit, value_named, verdict, with_component, with_mark, with_tree}
 use Rattle.at_model.specs.Replies.{At, Written}
 use Rattle.at_model.specs.Replies as code
 use Rattle.at_tree.specs.Token.{token_view}
@@ -89,11 +89,11 @@ module _ (rules : Rules) (s : State) (session : ℕ) where
 
       of_values : (n : Node) (vs : List (Value Node)) (o : Option ℕ) → IsAtOnce (elim o as (λ _. Verdict) [
         | None ↦ Refuses code.Attribute
-        | Some a ↦ if fit_parameters rules.classes s.tree (parameters_of rules a) vs
+        | Some a ↦ if suit rules s.tree a vs
             then Asks (record { node = n; attribute = a; arguments = vs }) else Refuses code.Arguments
       ])
       of_values n vs None = tt
-      of_values n vs (Some a) = fits _ (fit_parameters rules.classes s.tree (parameters_of rules a) vs)
+      of_values n vs (Some a) = fits _ (suit rules s.tree a vs)
 
       by : (n : Node) (o : Option (List (Value Node))) → IsAtOnce (elim o as (λ _. Verdict) [
         | None ↦ Refuses code.Path
@@ -106,13 +106,15 @@ module _ (rules : Rules) (s : State) (session : ℕ) where
   pub asked_at_once : (expected : Option ℕ) (place : Place) (attribute : List ℕ) (arguments : List Argument)
       → IsAtOnce (verdict rules s (record { session = session; expected = expected; command = Ask place attribute arguments }))
   asked_at_once expected place attribute arguments =
-      by (is_stale expected s.version) (not (list_all (is_marked s.marks session) (marks_used (Ask place attribute arguments))))
+      by (not (is_read rules (Ask place attribute arguments))) (is_stale expected s.version)
+      (not (list_all (is_marked s.marks session) (marks_used (Ask place attribute arguments))))
     where
-      by : (a b : Bool) → IsAtOnce (if a then Refuses (code.Stale s.version) else (if b then Refuses code.Mark
-          else obeyed rules s session (Ask place attribute arguments)))
-      by true b = tt
-      by false true = tt
-      by false false = at_ask place attribute arguments
+      by : (a b c : Bool) → IsAtOnce (if a then Refuses code.Syntax else (if b then Refuses (code.Stale s.version) else (if c then Refuses code.Mark
+          else obeyed rules s session (Ask place attribute arguments))))
+      by true b c = tt
+      by false true c = tt
+      by false false true = tt
+      by false false false = at_ask place attribute arguments
 
   at_shown : (o : Option Tree) → IsAtOnce (elim o as (λ _. Verdict) [ None ↦ Refuses code.Path | Some u ↦ Tells (Written (term_of rules.classes u)) ])
   at_shown None = tt

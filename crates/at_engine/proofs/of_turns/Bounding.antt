@@ -1,16 +1,17 @@
 -- How many turns an open question has been given: few, by the list of all instances.
-use Rattle.std.proofs.Common.{◌≡◌, ◌∙◌, ℕ, ◌+◌, ◌*◌, ◌≤◌, Bool, true, false, cond, if◌then◌else◌, nat_eq, List, [], ◌∷◌, ◌++◌, map, find, length, Option, Some, None, option_map, option_and_then, ap, arith, refl, sym, subst}
+use Rattle.std.proofs.Common.{◌≡◌, ◌∙◌, ℕ, ◌+◌, ◌*◌, ◌≤◌, Bool, true, false, not, cond, if◌then◌else◌, nat_eq, List, [], ◌∷◌, ◌++◌, map, find, length, Option, Some, None, option_map, option_and_then, ap, arith, refl, sym, subst}
 use Rattle.std.specs.List.{AllByRecursion, flat_map}
-use Rattle.at_model.specs.Instances.{all_nodes, argument_lists, below, instances, literals_of, others, text_in, text_of_value, tokens}
+use Rattle.at_model.specs.Instances.{all_nodes, argument_lists, below, instances, literals_of, most_parameters, others, text_in, text_of_value, tokens}
 use Rattle.at_model.specs.Edits.{max_nodes}
-use Rattle.at_model.specs.Lines.{Argument, Ask, Place, Ref, Text, Null}
+use Rattle.at_model.specs.Lines.{Argument, Ask, Int, Place, Ref, Text, Truth, Null}
 use Rattle.at_model.specs.Paths.{Node, tree_at}
+use Rattle.at_model.specs.Replies.{Code}
 use Rattle.at_model.specs.Replies as code
 use Rattle.at_model.specs.Rules.{Rules, attribute_named}
 use Rattle.at_model.specs.Run.{Instance, Value}
 use Rattle.at_model.specs.Run as run
 use Rattle.at_model.specs.Trees.{Tree, class_of}
-use Rattle.at_model.specs.Machine.{State, Posted as PostedOf, Verdict, Asks, Refuses, each, fit_parameters, line_of, node_named, obeyed, parameters_of, questioned, value_named}
+use Rattle.at_model.specs.Machine.{State, Posted as PostedOf, Verdict, Asks, Refuses, each, is_read, line_of, node_named, obeyed, questioned, suit, value_named}
 use Rattle.at_model.proofs.of_machines.WellAsked.{well_asked}
 use Rattle.at_store.specs.Shown.{Shown, path, tree}
 use Rattle.at_cache.specs.Kept.{Entries}
@@ -46,6 +47,8 @@ module _ (rules : Rules) (s : State) (session : ℕ) where
   pub texts_named : (as' : List Argument) (vs : List (Value Node)) → values as' ≡ Some vs → texts vs ≡ texts (texts_in as')
   texts_named [] vs e = ap texts (sym (same_some e))
   texts_named (Text bytes ∷ as') vs e = let (ws, is, same) = mapped_some (λ ws. run.Text bytes ∷ ws) (values as') vs e in ap texts (sym same) ∙ ap (λ l. bytes ∷ l) (texts_named as' ws is)
+  texts_named (Int n ∷ as') vs e = let (ws, is, same) = mapped_some (λ ws. run.Int n ∷ ws) (values as') vs e in ap texts (sym same) ∙ texts_named as' ws is
+  texts_named (Truth b ∷ as') vs e = let (ws, is, same) = mapped_some (λ ws. run.Truth b ∷ ws) (values as') vs e in ap texts (sym same) ∙ texts_named as' ws is
   texts_named (Ref place ∷ as') vs e = by_node (node_named rules.classes s session place) as' vs (texts_named as') e
   texts_named (Null ∷ as') vs e = let (ws, is, same) = mapped_some (λ ws. run.Ref None ∷ ws) (values as') vs e in ap texts (sym same) ∙ texts_named as' ws is
 
@@ -55,9 +58,9 @@ module _ (rules : Rules) (s : State) (session : ℕ) where
   by_fit false n a vs i e = absurd cc
 
   by_name : (o : Option ℕ) (n : Node) (vs : List (Value Node)) (i : Instance Node) →
-      elim o as (λ _. Verdict) [ None ↦ Refuses code.Attribute | Some a ↦ if fit_parameters rules.classes s.tree (parameters_of rules a) vs then Asks (record { node = n; attribute = a; arguments = vs }) else Refuses code.Arguments ] ≡ Asks i → vs ≡ i.arguments
+      elim o as (λ _. Verdict) [ None ↦ Refuses code.Attribute | Some a ↦ if suit rules s.tree a vs then Asks (record { node = n; attribute = a; arguments = vs }) else Refuses code.Arguments ] ≡ Asks i → vs ≡ i.arguments
   by_name None n vs i e = absurd cc
-  by_name (Some a) n vs i e = by_fit (fit_parameters rules.classes s.tree (parameters_of rules a) vs) n a vs i e
+  by_name (Some a) n vs i e = by_fit (suit rules s.tree a vs) n a vs i e
 
   by_values : (n : Node) (name : List ℕ) (o : Option (List (Value Node))) (i : Instance Node) → elim o as (λ _. Verdict) [ None ↦ Refuses code.Path | Some vs ↦ questioned rules s.tree n name vs ] ≡ Asks i → o ≡ Some i.arguments
   by_values n name None i e = absurd cc
@@ -75,13 +78,13 @@ module _ (rules : Rules) (s : State) (session : ℕ) where
 pub same_universe : (rules : Rules) (t : Tree) (vs ws : List (Value Node)) → flat_map text_of_value vs ≡ flat_map text_of_value ws → length (instances rules t vs) ≡ length (instances rules t ws)
 same_universe rules t vs ws e = ap (λ (ts : List (List ℕ)). length {A = Instance Node} (flat_map (λ n. flat_map
     (λ k. map (λ xs. record { node = n; attribute = k; arguments = xs })
-    (argument_lists (map (λ bytes. run.Text bytes) (flat_map text_in (tokens t) ++ (literals_of rules ++ ts))
+    (argument_lists (most_parameters 2 rules.attributes) (map (λ bytes. run.Text bytes) (flat_map text_in (tokens t) ++ (literals_of rules ++ ts))
     ++ ((run.Ref None ∷ map (λ n. run.Ref (Some n)) (all_nodes t)) ++ others rules))))
     (below (length rules.attributes))) (all_nodes t))) e
 
-by_marks : (b : Bool) (v : Verdict) (i : Instance Node) → (if b then Refuses code.Mark else v) ≡ Asks i → v ≡ Asks i
-by_marks true v i e = absurd cc
-by_marks false v i e = e
+by_refusal : (c : Code) (b : Bool) (v : Verdict) (i : Instance Node) → (if b then Refuses c else v) ≡ Asks i → v ≡ Asks i
+by_refusal c true v i e = absurd cc
+by_refusal c false v i e = e
 
 module _ (rules : Rules) (s : Shown) (basis : IsBasis rules s) (entries : Entries) (sound : AreSound rules s entries) where
   abbrev bare : PostedOf → State
@@ -94,7 +97,8 @@ module _ (rules : Rules) (s : Shown) (basis : IsBasis rules s) (entries : Entrie
       let (u, stands) = b.standing.levels sound in
       let formed = well_asked rules (bare v) (line_of v) b.named b.asks in
       let few = few_fresh rules s basis.idle basis.formed basis.sound (asked_by q) b.named b.like formed u stands.fresh in
-      let obeys = by_marks _ (obeyed rules (bare v) v.session (Ask v.place v.attribute v.arguments)) b.named b.asks in
+      let asks = by_refusal code.Syntax (not (is_read rules (Ask v.place v.attribute v.arguments))) _ b.named b.asks in
+      let obeys = by_refusal code.Mark _ (obeyed rules (bare v) v.session (Ask v.place v.attribute v.arguments)) b.named asks in
       let same = same_universe rules (tree s) b.named.arguments (texts_in v.arguments) (texts_asked rules (bare v) v.session v.place v.attribute v.arguments b.named obeys) in
       omega (arith, few, stands.few, same)
 

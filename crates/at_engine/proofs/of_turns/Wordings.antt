@@ -1,17 +1,17 @@
 -- What becomes of a question's words: it rests on the tree and on the marks that the question has.
-use Rattle.std.proofs.Common.{◌≡◌, ℕ, true, false, not, if◌then◌else◌, List, [], ◌∷◌, map, Option, Some, None, option_map, refl, sym, ap, ◌∙◌, subst}
+use Rattle.std.proofs.Common.{◌≡◌, ℕ, Bool, true, false, not, if◌then◌else◌, List, [], ◌∷◌, map, Option, Some, None, option_map, refl, sym, ap, ◌∙◌, subst}
 use Rattle.std.specs.List.{list_all}
 use Rattle.at_model.specs.Edits.{max_nodes}
 use Rattle.at_model.specs.Paths.{Node}
 use Rattle.at_model.specs.Run.{Instance, Value}
 use Rattle.at_model.specs.Run as run
-use Rattle.at_model.specs.Lines.{Place, From_root, From_mark, Argument, Text, Ref, Null, Ask}
+use Rattle.at_model.specs.Lines.{Place, From_root, From_mark, Argument, Text, Int, Truth, Ref, Null, Ask, Command}
 use Rattle.at_model.specs.Meaning.{Answer}
 use Rattle.at_model.specs.Replies.{Code, Refused}
 use Rattle.at_model.specs.Replies as code
 use Rattle.at_model.specs.Rules.{Rules}
 use Rattle.at_model.specs.Trees.{Tree}
-use Rattle.at_model.specs.Machine.{State, Marked, Posted, AnswersIn, AnswersPosted, Asks, Refuses, Says, Verdict, answer_form, each, is_marked, line_of, marks_used, node_named, obeyed, questioned, seen_by, value_named, verdict}
+use Rattle.at_model.specs.Machine.{State, Marked, Posted, AnswersIn, AnswersPosted, Asks, Refuses, Says, Verdict, answer_form, each, is_marked, is_read, line_of, marks_used, node_named, obeyed, questioned, seen_by, value_named, verdict}
 use Rattle.at_engine.specs.Holding.{words_verdict}
 
 -- two states with one tree and the same marks
@@ -29,6 +29,8 @@ module _ (rules : Rules) (t : Tree) (marks : List Marked) (limit larger version 
   value_same : (session : ℕ) (a : Argument) → value_named rules.classes here session a ≡ value_named rules.classes there session a
   value_same session (Text bytes) = refl
   value_same session (Ref place) = ap (option_map (λ (n : Node). run.Ref (Some n))) (node_same session place)
+  value_same session (Int n) = refl
+  value_same session (Truth b) = refl
   value_same session Null = refl
 
   mapped : (session : ℕ) (as' : List Argument) → map (value_named rules.classes here session) as' ≡ map (value_named rules.classes there session) as'
@@ -42,8 +44,21 @@ module _ (rules : Rules) (t : Tree) (marks : List Marked) (limit larger version 
 
 -- so it is of the words in any state
 module _ (rules : Rules) (s : State) (q : Posted) where
+  abbrev words : Command
+  words = Ask q.place q.attribute q.arguments
+
+  abbrev told : State
+  told = record { tree = s.tree; limit = max_nodes; version = 0; marks = q.marks; posts = 0; posted = [] }
+
+  abbrev by_marks : Bool → Verdict → Verdict
+  by_marks b v = if not b then Refuses code.Mark else v
+
+  abbrev by_reading : Bool → Verdict → Verdict
+  by_reading b v = if not b then Refuses code.Syntax else v
+
+  -- the verdict by what obeying the words leads to
   abbrev used : Verdict → Verdict
-  used v = if not (list_all (is_marked q.marks q.session) (marks_used (Ask q.place q.attribute q.arguments))) then Refuses code.Mark else v
+  used v = by_reading (is_read rules words) (by_marks (list_all (is_marked q.marks q.session) (marks_used words)) v)
 
   pub words_same : verdict rules (seen_by q s) (line_of q) ≡ words_verdict rules s.tree q
   words_same = ap used (obeyed_same rules s.tree q.marks s.limit max_nodes s.version 0 s.posts 0 s.posted [] q.session q.place q.attribute q.arguments)
@@ -55,11 +70,20 @@ module _ (rules : Rules) (s : State) (q : Posted) where
   pub answers_asked : (i : Instance Node) (a : Answer Node) → words_verdict rules s.tree q ≡ Asks i → AnswersIn rules s.tree i a → AnswersPosted rules s q (answer_form rules s.tree a)
   answers_asked i a e answers = subst (λ (v : Verdict). Says rules (seen_by q s) v (answer_form rules s.tree a)) (sym (words_same ∙ e)) (a, answers, refl)
 
-  -- the question has lost a mark that its words use, or has all of them
-  pub words_unmarked : list_all (is_marked q.marks q.session) (marks_used (Ask q.place q.attribute q.arguments)) ≡ false → words_verdict rules s.tree q ≡ Refuses code.Mark
-  words_unmarked e = ap (λ b. if not b then Refuses code.Mark else obeyed rules (record { tree = s.tree; limit = max_nodes; version = 0; marks = q.marks; posts = 0; posted = [] }) q.session (Ask q.place q.attribute q.arguments)) e
+  -- the question can't be read
+  pub words_unread : is_read rules words ≡ false → words_verdict rules s.tree q ≡ Refuses code.Syntax
+  words_unread e = ap (λ b. by_reading b (by_marks (list_all (is_marked q.marks q.session) (marks_used words)) (obeyed rules told q.session words))) e
 
-  pub words_obeyed : list_all (is_marked q.marks q.session) (marks_used (Ask q.place q.attribute q.arguments)) ≡ true → (v : Verdict) → obeyed rules (seen_by q s) q.session (Ask q.place q.attribute q.arguments) ≡ v → words_verdict rules s.tree q ≡ v
-  words_obeyed e v is =
-      ap (λ b. if not b then Refuses code.Mark else obeyed rules (record { tree = s.tree; limit = max_nodes; version = 0; marks = q.marks; posts = 0; posted = [] }) q.session (Ask q.place q.attribute q.arguments)) e
-      ∙ sym (obeyed_same rules s.tree q.marks s.limit max_nodes s.version 0 s.posts 0 s.posted [] q.session q.place q.attribute q.arguments) ∙ is
+  module _ (read : is_read rules words ≡ true) where
+    by_use : words_verdict rules s.tree q ≡ by_marks (list_all (is_marked q.marks q.session) (marks_used words)) (obeyed rules told q.session words)
+    by_use = ap (λ b. by_reading b (by_marks (list_all (is_marked q.marks q.session) (marks_used words)) (obeyed rules told q.session words))) read
+
+    -- the question has lost a mark that its words use, or has all of them
+    pub words_unmarked : list_all (is_marked q.marks q.session) (marks_used words) ≡ false → words_verdict rules s.tree q ≡ Refuses code.Mark
+    words_unmarked e = by_use ∙ ap (λ b. by_marks b (obeyed rules told q.session words)) e
+
+    pub words_obeyed : list_all (is_marked q.marks q.session) (marks_used words) ≡ true → (v : Verdict)
+        → obeyed rules (seen_by q s) q.session words ≡ v → words_verdict rules s.tree q ≡ v
+    words_obeyed e v is =
+        by_use ∙ ap (λ b. by_marks b (obeyed rules told q.session words)) e
+        ∙ sym (obeyed_same rules s.tree q.marks s.limit max_nodes s.version 0 s.posts 0 s.posted [] q.session q.place q.attribute q.arguments) ∙ is

@@ -1,7 +1,9 @@
 //! Questions for the attributes of nodes.
 
-ghost use Rattle.std.specs.Prelude.{◌≡◌};
-ghost use Rattle.at_engine.specs.Fitting.{is_text};
+ghost use Rattle.std.specs.Prelude.{◌≡◌, ℕ};
+ghost use Rattle.at_model.specs.Bodies.{may_pass};
+ghost use Rattle.at_model.specs.Run.{Int};
+ghost use Rattle.at_engine.specs.Fitting.{is_near_int, is_text, is_truth};
 ghost use Rattle.at_body.specs.Values.{value_view};
 
 use super::Engine;
@@ -21,6 +23,46 @@ use std::alloc::AllocError;
 pub enum Asked {
     Instance(Inst),
     Refused(Refusal),
+}
+
+/// An int that is passed is no farther from 0: this one is the greatest, and one below its negative the least.
+const MAX_PASSED: i32 = 1_048_576;
+
+/// Whether an int may be passed.
+fn may_pass(number: i32) -> bool
+    ensures { result ≡ may_pass {N = ℕ} (Int number) }
+{
+    if number > MAX_PASSED {
+        return false;
+    }
+    number >= -MAX_PASSED - 1
+}
+
+/// The value of an int.
+fn int_value(number: &i32) -> Value
+    ensures { value_view result ≡ Int number.now }
+{
+    Value::Int(*number)
+}
+
+/// Whether the value is an int that may be passed.
+fn is_near_int(value: &Value) -> bool
+    ensures { result ≡ is_near_int (value_view value.now) }
+{
+    match value {
+        Value::Int(number) => may_pass(*number),
+        Value::Bool(_) | Value::Text(_) | Value::Ref(_) => false,
+    }
+}
+
+/// Whether the value is a boolean.
+fn is_truth(value: &Value) -> bool
+    ensures { result ≡ is_truth (value_view value.now) }
+{
+    match value {
+        Value::Bool(_) => true,
+        Value::Int(_) | Value::Text(_) | Value::Ref(_) => false,
+    }
 }
 
 /// Whether the value is a text.
@@ -193,6 +235,8 @@ impl<'e, M: Lookup> View<'e, M> {
                 let value = Value::of_text(text)?;
                 Ok(Some(value))
             }
+            Argument::Int(number) => Ok(Some(int_value(number))),
+            Argument::Bool(truth) => Ok(Some(Value::Bool(*truth))),
             Argument::Node(place) => match self.node_named(session, place) {
                 Some(node) => Ok(Some(Value::Ref(Some(node)))),
                 None => Ok(None),
@@ -221,14 +265,15 @@ impl<'e, M: Lookup> View<'e, M> {
         rest.is_empty()
     }
 
-    /// Null and the nodes of the class or below it fit a class, texts fit a text.
+    /// Null and the nodes of the class or below it fit a class, texts fit a text, booleans and ints that may be passed their kinds.
     fn fits_parameter(&self, kind: Kind, value: &Value) -> bool
         ensures { result ≡ fits_number self.now.rules.now.classes (contents self.now.store.now) (kind_view kind) (value_view value.now) }
     {
         match kind {
             Kind::Text => is_text(value),
             Kind::Class(class) => self.is_of_class(class, value),
-            Kind::Int | Kind::Bool => false,
+            Kind::Int => is_near_int(value),
+            Kind::Bool => is_truth(value),
         }
     }
 

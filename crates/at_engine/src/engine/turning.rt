@@ -196,6 +196,9 @@ impl<K: Keeper> Engine<K> {
     {
         let posted = self.posts.at(position);
         let arguments = posted.arguments.as_slice();
+        if !self.reads(arguments) {
+            return Ok(Begun::Refused(Refusal::Syntax));
+        }
         if !has_asked(&posted.marks, posted.session, &posted.place, arguments) {
             return Ok(Begun::Refused(Refusal::Mark));
         }

@@ -86,6 +86,8 @@ fn has_in_argument<M: Lookup>(marks: &M, session: u16, argument: &Argument<'_>) 
     match argument {
         Argument::Node(place) => has_in(marks, session, place),
         Argument::Text(_) => true,
+        Argument::Int(_) => true,
+        Argument::Bool(_) => true,
         Argument::Null => true,
     }
 }
@@ -136,6 +138,8 @@ impl Marks {
         match argument {
             Argument::Node(place) => self.copy_in(alloc, session, place, copies),
             Argument::Text(_) => Ok(()),
+            Argument::Int(_) => Ok(()),
+            Argument::Bool(_) => Ok(()),
             Argument::Null => Ok(()),
         }
     }

@@ -19,7 +19,7 @@ use Rattle.at_model.specs.Shaping.{shaped, names_classes}
 use Rattle.at_model.specs.Lines.{Line, Place, Argument, Command, Ask, Set, Put, Drop, Insert, Token, Move, Show, Mark, Unmark, Where, Version, Post, Wait, last_version}
 use Rattle.at_model.specs.Replies.{Reply, Form, Done, Opened, Code}
 use Rattle.at_model.specs.Replies as code
-use Rattle.at_model.specs.Machine.{State, Marked, Posted, Verdict, Refuses, Leaves, Edits, Asks, Says, Step, after, verdict, obeyed, changed, with_component, with_tree, with_mark, code_of, is_edit, is_mark, is_marked, marked, max_marks, node_named, each, value_named, questioned, fit_parameters, parameters_of, carried_marks, carried_posted, is_posted}
+use Rattle.at_model.specs.Machine.{State, Marked, Posted, Verdict, Refuses, Leaves, Edits, Asks, Says, Step, after, verdict, obeyed, changed, with_component, with_tree, with_mark, code_of, is_edit, is_mark, is_marked, marked, max_marks, node_named, each, value_named, questioned, suit, carried_marks, carried_posted, is_posted}
 use Rattle.at_model.specs.Effects.{IsEditOf, set, put, drop, insert, token, move, component_named, changes_mark, is_about_mark, is_marking, is_question, is_post}
 use Rattle.at_model.proofs.of_edits.Changes.{if_both, at_option, node_all, post_all, new_post, whole}
 use Rattle.at_model.proofs.of_edits.Larger.{within_edited}
@@ -182,7 +182,7 @@ module _ (rules : Rules) (s : State) (session : ℕ) where
   question_spares : (c : Command) (n : Node) (name : List ℕ) (vs : List (Value Node)) → Spares (about c) (questioned rules s.tree n name vs)
   question_spares c n name vs = at_option (Spares (about c)) (unchanged c)
       (option_and_then (λ u. attribute_named rules (class_of u) name) (tree_at s.tree n)) code.Attribute
-      _ (λ a. if_both (Spares (about c)) (fit_parameters rules.classes s.tree (parameters_of rules a) vs)
+      _ (λ a. if_both (Spares (about c)) (suit rules s.tree a vs)
       _ _ (λ other name e. refl) (unchanged c code.Arguments))
 
   one_more : (name : List ℕ) (place : Place) (n : Node) → Spares (about (Mark name place)) (Leaves (s.marks ++ record { session = session; name = name; node = n } ∷ []))
@@ -246,7 +246,7 @@ module _ (rules : Rules) (s : State) (session : ℕ) where
   same (Ask place attribute arguments) e f g = node_all Same stays rules.classes s session place _ (λ n.
       at_option Same stays (each (map (value_named rules.classes s session) arguments)) code.Path _ (λ vs. at_option
       Same stays (option_and_then (λ u. attribute_named rules (class_of u) attribute) (tree_at s.tree n)) code.Attribute
-      _ (λ a. if_both Same (fit_parameters rules.classes s.tree (parameters_of rules a) vs) _ _ refl refl)))
+      _ (λ a. if_both Same (suit rules s.tree a vs) _ _ refl refl)))
   same (Set place t) e f g = absurd cc
   same (Put place part t) e f g = absurd cc
   same (Drop place) e f g = absurd cc

@@ -6,12 +6,12 @@ use Rattle.at_model.specs.Trees.{Tree}
 use Rattle.at_model.specs.Paths.{Node}
 use Rattle.at_model.specs.Run.{Value}
 use Rattle.at_model.specs.Run as run
-use Rattle.at_model.specs.Lines.{Place, From_root, From_mark, Argument, Text, Ref, Null, Ask}
+use Rattle.at_model.specs.Lines.{Place, From_root, From_mark, Argument, Text, Int, Truth, Ref, Null, Ask}
 use Rattle.at_model.specs.Replies as code
 use Rattle.at_model.specs.Rules.{Rules}
 use Rattle.at_model.specs.Replies.{Form, Reply}
 use Rattle.at_model.specs.Waited.{IsWaited}
-use Rattle.at_model.specs.Machine.{State, Posted, carried_posted, Turns, stays, answers, runs_out, Answered, last, more, Given, spent, none_open, silent, telling, first_of, numbered, counted, given_one, done_reply, AnswersPosted, Says, Verdict, Refuses, Tells, Leaves, Edits, Asks, Posts, Waits, each, is_marked, marks_used, node_named, value_named, questioned, obeyed, verdict, seen_by, line_of}
+use Rattle.at_model.specs.Machine.{State, Posted, carried_posted, Turns, stays, answers, runs_out, Answered, last, more, Given, spent, none_open, silent, telling, first_of, numbered, counted, given_one, done_reply, AnswersPosted, Says, Verdict, Refuses, Tells, Leaves, Edits, Asks, Posts, Waits, each, is_marked, marks_used, node_named, value_named, questioned, obeyed, verdict, seen_by, line_of, is_read}
 
 pub counts_gone : (e : Edit) (qs : List Posted) → AllByRecursion (λ q. q.turns ≡ 0) (map (carried_posted e) qs)
 counts_gone e [] = tt
@@ -62,6 +62,8 @@ module _ (rules : Rules) (s : State) (limit version posts : ℕ) (ps : List Post
 
   value_same : (session : ℕ) (a : Argument) → value_named rules.classes there session a ≡ value_named rules.classes s session a
   value_same session (Text bytes) = refl
+  value_same session (Int n) = refl
+  value_same session (Truth b) = refl
   value_same session (Ref place) = ap (option_map (λ (n : Node). run.Ref (Some n))) (node_same session place)
   value_same session Null = refl
 
@@ -84,8 +86,9 @@ module _ (rules : Rules) (s : State) (limit version posts : ℕ) (ps : List Post
 words_same : (rules : Rules) (s : State) (limit version posts : ℕ) (ps : List Posted) (q : Posted) →
     verdict rules (seen_by q (record s { limit = limit; version = version; posts = posts; posted = ps })) (line_of q) ≡ verdict rules (seen_by q s) (line_of q)
 words_same rules s limit version posts ps q =
-    let used = list_all (is_marked q.marks q.session) (marks_used (Ask q.place q.attribute q.arguments)) in
-    ap (λ v. if not used then Refuses code.Mark else v) (obeyed_same rules (seen_by q s) limit version posts ps q.session q.place q.attribute q.arguments)
+    let asks = Ask q.place q.attribute q.arguments in
+    let used = list_all (is_marked q.marks q.session) (marks_used asks) in
+    ap (λ v. if not (is_read rules asks) then Refuses code.Syntax else (if not used then Refuses code.Mark else v)) (obeyed_same rules (seen_by q s) limit version posts ps q.session q.place q.attribute q.arguments)
 
 pub words_judged : (rules : Rules) (s t : State) (q : Posted) → t.tree ≡ s.tree → verdict rules (seen_by q t) (line_of q) ≡ verdict rules (seen_by q s) (line_of q)
 words_judged rules s t q e =

@@ -16,7 +16,7 @@ use Rattle.at_model.specs.Edits as edit
 use Rattle.at_model.specs.Lines.{Line, Place, Argument, Command, Ask, Set, Put, Drop, Insert, Token, Move, Show, Mark, Unmark, Where, Version, Post, Wait, last_version, last_post}
 use Rattle.at_model.specs.Replies.{Reply, Code}
 use Rattle.at_model.specs.Replies as code
-use Rattle.at_model.specs.Machine.{State, Marked, Posted, Verdict, Refuses, Leaves, Edits, Posts, Waits, Handles, obeys, waits, refuses, Serves, handles, runs_out, Turns, stays as turn_stays, answers, Given, spent, none_open, silent, telling, counted, numbered as numbered_of, without, Answered, after, verdict, obeyed, carried_posted, is_posted, max_posted, changed, code_of, carried_marks, is_mark, is_marked, marked, max_marks, each, value_named, questioned, fit_parameters, parameters_of}
+use Rattle.at_model.specs.Machine.{State, Marked, Posted, Verdict, Refuses, Leaves, Edits, Posts, Waits, Handles, obeys, waits, refuses, Serves, handles, runs_out, Turns, stays as turn_stays, answers, Given, spent, none_open, silent, telling, counted, numbered as numbered_of, without, Answered, after, verdict, obeyed, carried_posted, is_posted, max_posted, changed, code_of, carried_marks, is_mark, is_marked, marked, max_marks, each, value_named, questioned, suit}
 use Rattle.at_model.specs.Enduring.{key, AreNumbered, IsOrderly}
 use Rattle.at_model.proofs.Options.{and_true}
 use Rattle.at_model.proofs.of_edits.Changes.{if_both, at_option, node_all, component_all, tree_all, new_post, whole, open_for}
@@ -258,7 +258,7 @@ module _ (rules : Rules) (s : State) (orderly : IsOrderly s) where
   by_edit e = by_result e (edited_within s.limit rules.classes s.tree e)
 
   by_question : (n : Node) (name : List ℕ) (vs : List (Value Node)) → Leads (questioned rules s.tree n name vs)
-  by_question n name vs = at_option Leads stays _ code.Attribute _ (λ a. if_both Leads (fit_parameters rules.classes s.tree (parameters_of rules a) vs) _ _ (ends _ orderly) (ends _ orderly))
+  by_question n name vs = at_option Leads stays _ code.Attribute _ (λ a. if_both Leads (suit rules s.tree a vs) _ _ (ends _ orderly) (ends _ orderly))
 
   by_mark : (session : ℕ) (name : List ℕ) (n : Node) (b c : Bool) → is_marked s.marks session name ≡ b → nat_le max_marks (count_by (λ m. nat_eq session m.session) s.marks) ≡ c →
       Leads (if b then Refuses code.Taken else (if c then Refuses code.Limit else Leaves (s.marks ++ record { session = session; name = name; node = n } ∷ [])))

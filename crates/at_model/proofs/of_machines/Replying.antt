@@ -10,7 +10,7 @@ use Rattle.at_model.specs.Meaning.{Answer}
 use Rattle.at_model.specs.Lines.{Line, Place, Argument, Ask, Spells, BeginsWith, IsSpaceOrEnd, IsSessionOf, max_sessions}
 use Rattle.at_model.specs.Replies.{Reply, Form, Code, Shows, Done, Opened, Refused, Memory}
 use Rattle.at_model.specs.Replies as code
-use Rattle.at_model.specs.Machine.{State, Posted, Verdict, Refuses, Tells, Leaves, Edits, Asks, Posts, Waits, AnswersIn, AnswersPosted, Says, Handles, obeys, waits, refuses, Serves, runs_out, Turns, answers, last, numbered, without, done_reply, seen_by, line_of, after, verdict, obeyed, answer_form, each, value_named, fit_parameters, parameters_of}
+use Rattle.at_model.specs.Machine.{State, Posted, Verdict, Refuses, Tells, Leaves, Edits, Asks, Posts, Waits, AnswersIn, AnswersPosted, Says, Handles, obeys, waits, refuses, Serves, runs_out, Turns, answers, last, numbered, without, done_reply, seen_by, line_of, after, verdict, obeyed, answer_form, each, value_named, suit}
 use Rattle.at_model.proofs.of_edits.Changes.{if_both, at_option, node_all, whole, waited_for}
 
 -- what stands behind the front
@@ -114,7 +114,7 @@ asking_waits_not rules s session place attribute arguments number =
     let refused : (c : Code) → P (Refuses c) = λ c e. cc in
     node_all P refused rules.classes s session place _ (λ n. at_option P refused (each (map (value_named rules.classes s session) arguments)) code.Path _ (λ vs.
     at_option P refused (option_and_then (λ u. attribute_named rules (class_of u) attribute) (tree_at s.tree n)) code.Attribute _ (λ a.
-    if_both P (fit_parameters rules.classes s.tree (parameters_of rules a) vs) _ _ (λ e. cc) (refused code.Arguments))))
+    if_both P (suit rules s.tree a vs) _ _ (λ e. cc) (refused code.Arguments))))
 
 -- what the open question asks has an answer
 abbrev pub IsPostedAnswered : Rules → State → Posted → Type 0

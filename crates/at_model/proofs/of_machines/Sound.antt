@@ -11,7 +11,7 @@ use Rattle.at_model.specs.Edits.{Edit, carried, edited, edited_within}
 use Rattle.at_model.specs.Lines.{Line, Place, From_root, From_mark, Command, Ask, Set, Put, Drop, Insert, Token, Move, Show, Mark, Unmark, Where, Version, Post, Wait}
 use Rattle.at_model.specs.Replies.{Reply, Code, Shown}
 use Rattle.at_model.specs.Replies as code
-use Rattle.at_model.specs.Machine.{State, Marked, Posted, Verdict, Refuses, Tells, Leaves, Edits, Asks, Posts, Waits, Handles, obeys, waits, refuses, Serves, handles, runs_out, Turns, stays, answers, Given, spent, none_open, silent, telling, counted, without, after, verdict, obeyed, carried_marks, carried_posted, marks_named, marks_used, is_posted, is_mark, is_marked, marked, max_marks, node_named, node_below, each, value_named, questioned, fit_parameters, parameters_of, with_mark, IsSound}
+use Rattle.at_model.specs.Machine.{State, Marked, Posted, Verdict, Refuses, Tells, Leaves, Edits, Asks, Posts, Waits, Handles, obeys, waits, refuses, Serves, handles, runs_out, Turns, stays, answers, Given, spent, none_open, silent, telling, counted, without, after, verdict, obeyed, carried_marks, carried_posted, marks_named, marks_used, is_posted, is_mark, is_marked, marked, max_marks, node_named, node_below, each, value_named, questioned, suit, with_mark, IsSound}
 use Rattle.at_model.proofs.Options.{led, mapped}
 use Rattle.at_model.proofs.of_edits.Untouched.{tree_at-append}
 use Rattle.at_model.proofs.of_edits.Edited.{accepted_conforms, carried_there}
@@ -142,7 +142,7 @@ module _ (rules : Rules) (s : State) (sound : IsSound rules.classes s) where
   safe_question : (n : Node) (name : List ℕ) (vs : List (Value Node)) → Safe rules.classes s (questioned rules s.tree n name vs)
   safe_question n name vs = at_option (Safe rules.classes s) refused (option_and_then (λ u.
       attribute_named rules (class_of u) name) (tree_at s.tree n)) code.Attribute _ (λ a. if_both (Safe rules.classes s)
-      (fit_parameters rules.classes s.tree (parameters_of rules a) vs) _ _ (asked _) (refused code.Arguments))
+      (suit rules s.tree a vs) _ _ (asked _) (refused code.Arguments))
 
   safe_mark : (session : ℕ) (name : List ℕ) (place : Place) (o : Option Node) → node_named rules.classes s session place
       ≡ o → Safe rules.classes s (elim o [ None ↦ Refuses code.Path | Some n ↦ with_mark s session name n ])

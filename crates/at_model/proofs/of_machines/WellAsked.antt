@@ -1,7 +1,7 @@
 -- What a line asks is well formed, and all nodes in it are there.
 use Rattle.std.proofs.Common.{◌≡◌, ℕ, zero, suc, ◌<◌, Bool, true, false, ◌&&◌, if◌then◌else◌, List, [], ◌∷◌, length, get_or, Option, Some, None, refl, ap, subst, arith, option_and_then, map}
 use Rattle.std.specs.Prelude.{position}
-use Rattle.std.specs.List.{slice_get, AllByRecursion}
+use Rattle.std.specs.List.{slice_get, list_all, AllByRecursion}
 use Rattle.std.specs.Str.{bytes_eq}
 use Rattle.std.proofs.lemmas.List.Quantifiers.{position-Some}
 use Rattle.at_model.specs.Classes.{Classes, is_sub}
@@ -14,7 +14,7 @@ use Rattle.at_model.specs.Rules as kind
 use Rattle.at_model.specs.Lines.{Line, Command, Ask}
 use Rattle.at_model.specs.Replies.{Code}
 use Rattle.at_model.specs.Replies as code
-use Rattle.at_model.specs.Machine.{State, Verdict, Refuses, Asks, verdict, obeyed, each, value_named, fits_parameter, fit_parameters, parameters_of}
+use Rattle.at_model.specs.Machine.{State, Verdict, Refuses, Asks, verdict, obeyed, each, value_named, fits_parameter, fit_parameters, is_near, parameters_of, suit}
 use Rattle.at_model.specs.Support.{IsThere, IsValueThere, IsInstanceThere}
 use Rattle.at_model.specs.Effects.{is_question}
 use Rattle.at_model.specs.Asking.{IsWellFormed}
@@ -45,18 +45,19 @@ module _ (rules : Rules) (s : State) where
 
   well_formed : (n : Node) (name : List ℕ) (vs : List (Value Node)) (attribute : ℕ)
       → option_and_then (λ u. attribute_named rules (class_of u) name) (tree_at s.tree n) ≡ Some attribute
-      → fit_parameters rules.classes s.tree (parameters_of rules attribute) vs ≡ true →
+      → suit rules s.tree attribute vs ≡ true →
       IsWellFormed rules s.tree (record { node = n; attribute = attribute; arguments = vs })
   well_formed n name vs attribute named fit =
       let (u, found, is) = led (λ u. attribute_named rules (class_of u) name) (tree_at s.tree n) attribute named in
       let (a, at, passes) = element_at (λ a. bytes_eq a.name name && is_sub rules.classes (class_of u) a.class) rules.attributes attribute is in
       let (same, below) = both (bytes_eq a.name name) (is_sub rules.classes (class_of u) a.class) passes in
+      let (fits, near) = both (fit_parameters rules.classes s.tree (parameters_of rules attribute) vs) (list_all is_near vs) fit in
       let parameters : parameters_of rules attribute ≡ a.parameters = ap (λ (o : Option Attribute). elim o as (λ _. List Kind) [ None ↦ [] | Some b ↦ b.parameters ]) at in
-      record { node = u; there = found; declared = a; attribute = at; has = below; fit = subst (λ ks. fit_parameters rules.classes s.tree ks vs ≡ true) parameters fit }
+      record { node = u; there = found; declared = a; attribute = at; has = below; fit = subst (λ ks. fit_parameters rules.classes s.tree ks vs ≡ true) parameters fits }
 
   by_fit : (n : Node) (name : List ℕ) (vs : List (Value Node)) (attribute : ℕ) (b : Bool)
       → option_and_then (λ u. attribute_named rules (class_of u) name) (tree_at s.tree n) ≡ Some attribute
-      → fit_parameters rules.classes s.tree (parameters_of rules attribute) vs ≡ b →
+      → suit rules s.tree attribute vs ≡ b →
       AsksWell (if b then Asks (record { node = n; attribute = attribute; arguments = vs }) else Refuses code.Arguments)
   by_fit n name vs attribute true named fit q e =
       let same : record { node = n; attribute = attribute; arguments = vs } ≡ q = cc in
@@ -66,10 +67,10 @@ module _ (rules : Rules) (s : State) where
   by_name : (n : Node) (name : List ℕ) (vs : List (Value Node)) (o : Option ℕ) → option_and_then (λ u. attribute_named rules (class_of u) name) (tree_at s.tree n) ≡ o →
       AsksWell (elim o [
         | None ↦ Refuses code.Attribute
-        | Some attribute ↦ if fit_parameters rules.classes s.tree (parameters_of rules attribute) vs then Asks (record { node = n; attribute = attribute; arguments = vs }) else Refuses code.Arguments
+        | Some attribute ↦ if suit rules s.tree attribute vs then Asks (record { node = n; attribute = attribute; arguments = vs }) else Refuses code.Arguments
       ])
   by_name n name vs None named = none_asked code.Attribute
-  by_name n name vs (Some attribute) named = by_fit n name vs attribute (fit_parameters rules.classes s.tree (parameters_of rules attribute) vs) named refl
+  by_name n name vs (Some attribute) named = by_fit n name vs attribute (suit rules s.tree attribute vs) named refl
 
   asks_well : (session : ℕ) (c : Command) (b : Bool) → is_question c ≡ b → AsksWell (obeyed rules s session c)
   asks_well session (Ask place attribute arguments) b is =

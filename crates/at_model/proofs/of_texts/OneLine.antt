@@ -1,17 +1,18 @@
 -- A text is that of at most one line.
-use Rattle.std.proofs.Common.{◌≡◌, ℕ, ◌+◌, ◌*◌, Bool, true, false, not, ◌&&◌, nat_eq, List, [], ◌∷◌, ◌++◌, map, drop, Option, Some, None, refl, sym, ap, ◌∙◌, arith, append_assoc}
+use Rattle.std.proofs.Common.{◌≡◌, ℕ, ℤ, ◌+◌, ◌*◌, Bool, true, false, not, ◌&&◌, nat_eq, List, [], ◌∷◌, ◌++◌, map, drop, Option, Some, None, refl, sym, ap, ◌∙◌, arith, append_assoc}
 use Rattle.std.specs.Prelude.{IsUtf8, chars}
 use Rattle.std.specs.List.{flat_map, join_with_byte, AllByRecursion}
 use Rattle.std.specs.Fmt.{decimal}
 use Rattle.std.proofs.lemmas.Str.{chars-nil}
 use lib.Chars.{codes}
 use Rattle.at_model.specs.Names.{is_name, is_word, is_reserved}
-use Rattle.at_model.specs.Terms.{max_depth, with_commas}
+use Rattle.at_model.specs.Trees as tree
+use Rattle.at_model.specs.Terms.{max_depth, with_commas, token_text, IsToken}
 use Rattle.at_model.specs.Paths.{Path, Step, path_text, step_text, index_text, IsPath, IsIndex}
-use Rattle.at_model.specs.Lines.{Place, From_root, From_mark, Argument, Text, Ref, Null, Command, Ask, Set, Put, Drop, Insert, Token, Move, Show, Mark, Unmark, Where, Version, Post, Wait, Line, place_text, argument_text, call_text, command_words, expected_words, line_text, IsPlace, IsArgument, IsCommand, IsVersion, IsLine}
+use Rattle.at_model.specs.Lines.{Place, From_root, From_mark, Argument, Text, Int, Truth, Ref, Null, Command, Ask, Set, Put, Drop, Insert, Token, Move, Show, Mark, Unmark, Where, Version, Post, Wait, Line, place_text, argument_text, call_text, command_words, expected_words, line_text, IsPlace, IsArgument, IsCommand, IsVersion, IsLine}
 use Rattle.at_model.proofs.of_texts.Words.{apart, apart_bytes, Ends, Stops, same_word, stops, ends_not, ends_wordless, name_inner}
 use Rattle.at_model.proofs.of_texts.QuotedTexts.{same_quoted}
-use Rattle.at_model.proofs.of_texts.OneTerm.{tail, same_decimal, same_token, same_term}
+use Rattle.at_model.proofs.of_texts.OneTerm.{tail, same_decimal, same_token, same_term, token_no_end, token_headless, token_no_null}
 
 -- steps
 pub behind_step : (ps : Path) (r : List ℕ) → Ends r → Stops (flat_map step_text ps ++ r) × ((y : List ℕ) → flat_map step_text ps ++ r ≡ 58 ∷ y → ⊥)
@@ -85,8 +86,37 @@ same_place (From_mark a ps) (From_mark b qs) r s hp hq hr hs e =
     (λ i. From_mark (names.0 i) (steps.0 i), steps.1)
 
 -- arguments
+place_no_token : (p : Place) (v : tree.Token) (r s : List ℕ) → IsToken v → Ends s → place_text p ++ r ≡ token_text v ++ s → ⊥
+place_no_token (From_root []) v r s hv hs e = token_headless v s _ 47 refl refl refl refl hv hs (sym e)
+place_no_token (From_root (p ∷ ps)) v r s hv hs e = token_headless v s _ 47 refl refl refl refl hv hs (sym e)
+place_no_token (From_mark name steps) v r s hv hs e = token_headless v s _ 36 refl refl refl refl hv hs (sym e)
+
+abbrev int_of : ℤ → tree.Token → ℤ
+int_of n (tree.Int m) = m
+int_of n v = n
+
+abbrev truth_of : Bool → tree.Token → Bool
+truth_of b (tree.Truth c) = c
+truth_of b v = b
+
 pub same_argument : (a b : Argument) (r s : List ℕ) → IsArgument a → IsArgument b → Ends r → Ends s → argument_text a ++ r ≡ argument_text b ++ s → (a ≡ b) × (r ≡ s)
 same_argument (Text x) (Text y) r s ha hb hr hs e = let both = same_quoted x y r s e in (ap Text both.0, both.1)
+same_argument (Text x) (Int n) r s ha hb hr hs e = let both = same_token (tree.Text x) (tree.Int n) r s ha hb hr hs e in absurd (let f = both.0 in cc)
+same_argument (Text x) (Truth b) r s ha hb hr hs e = let both = same_token (tree.Text x) (tree.Truth b) r s ha tt hr hs e in absurd (let f = both.0 in cc)
+same_argument (Int m) (Text y) r s ha hb hr hs e = let both = same_token (tree.Int m) (tree.Text y) r s ha hb hr hs e in absurd (let f = both.0 in cc)
+same_argument (Int m) (Int n) r s ha hb hr hs e = let both = same_token (tree.Int m) (tree.Int n) r s ha hb hr hs e in (ap (λ v. Int (int_of m v)) both.0, both.1)
+same_argument (Int m) (Truth b) r s ha hb hr hs e = let both = same_token (tree.Int m) (tree.Truth b) r s ha tt hr hs e in absurd (let f = both.0 in cc)
+same_argument (Int m) (Ref q) r s ha hb hr hs e = absurd (place_no_token q (tree.Int m) s r ha hr (sym e))
+same_argument (Int m) Null r s ha hb hr hs e = absurd (token_no_null (tree.Int m) r s ha hr hs e)
+same_argument (Truth b) (Text y) r s ha hb hr hs e = let both = same_token (tree.Truth b) (tree.Text y) r s tt hb hr hs e in absurd (let f = both.0 in cc)
+same_argument (Truth b) (Int n) r s ha hb hr hs e = let both = same_token (tree.Truth b) (tree.Int n) r s tt hb hr hs e in absurd (let f = both.0 in cc)
+same_argument (Truth b) (Truth c) r s ha hb hr hs e = let both = same_token (tree.Truth b) (tree.Truth c) r s tt tt hr hs e in (ap (λ v. Truth (truth_of b v)) both.0, both.1)
+same_argument (Truth b) (Ref q) r s ha hb hr hs e = absurd (place_no_token q (tree.Truth b) s r tt hr (sym e))
+same_argument (Truth b) Null r s ha hb hr hs e = absurd (token_no_null (tree.Truth b) r s tt hr hs e)
+same_argument (Ref p) (Int n) r s ha hb hr hs e = absurd (place_no_token p (tree.Int n) r s hb hs e)
+same_argument (Ref p) (Truth b) r s ha hb hr hs e = absurd (place_no_token p (tree.Truth b) r s tt hs e)
+same_argument Null (Int n) r s ha hb hr hs e = absurd (token_no_null (tree.Int n) s r hb hs hr (sym e))
+same_argument Null (Truth b) r s ha hb hr hs e = absurd (token_no_null (tree.Truth b) s r tt hs hr (sym e))
 same_argument (Text x) (Ref q) r s ha hb hr hs e = absurd (place_head q s _ 34 refl refl (sym e))
 same_argument (Text x) Null r s ha hb hr hs e = absurd (apart 34 110 _ _ refl e)
 same_argument (Ref p) (Text y) r s ha hb hr hs e = absurd (place_head p r _ 34 refl refl e)
@@ -96,10 +126,12 @@ same_argument Null (Text y) r s ha hb hr hs e = absurd (apart 110 34 _ _ refl e)
 same_argument Null (Ref q) r s ha hb hr hs e = absurd (place_head q s _ 110 refl refl (sym e))
 same_argument Null Null r s ha hb hr hs e = (refl, ap (drop 4) e)
 
-pub argument_head : (a : Argument) (r y : List ℕ) → argument_text a ++ r ≡ 41 ∷ y → ⊥
-argument_head (Text x) r y e = apart 34 41 _ y refl e
-argument_head (Ref p) r y e = place_head p r y 41 refl refl e
-argument_head Null r y e = apart 110 41 _ y refl e
+pub argument_head : (a : Argument) (r y : List ℕ) → IsArgument a → Ends r → argument_text a ++ r ≡ 41 ∷ y → ⊥
+argument_head (Text x) r y ha hr e = apart 34 41 _ y refl e
+argument_head (Int n) r y ha hr e = token_no_end (tree.Int n) r y 41 ha refl e
+argument_head (Truth b) r y ha hr e = token_no_end (tree.Truth b) r y 41 tt refl e
+argument_head (Ref p) r y ha hr e = place_head p r y 41 refl refl e
+argument_head Null r y ha hr e = apart 110 41 _ y refl e
 
 commas : List Argument → List ℕ
 commas [] = []
@@ -127,8 +159,8 @@ same_arguments : (as' bs : List Argument) (r s : List ℕ) → AllByRecursion Is
     → with_commas (map argument_text as') ++ 41 ∷ r ≡ with_commas (map argument_text bs) ++ 41 ∷ s
     → (as' ≡ bs) × (r ≡ s)
 same_arguments [] [] r s ha hb e = (refl, ap tail e)
-same_arguments [] (b ∷ bs) r s ha hb e = absurd (argument_head b _ r (sym (e ∙ unfold_commas b bs (41 ∷ s))))
-same_arguments (a ∷ as') [] r s ha hb e = absurd (argument_head a _ s (sym (unfold_commas a as' (41 ∷ r)) ∙ e))
+same_arguments [] (b ∷ bs) r s ha hb e = absurd (argument_head b _ r hb.0 (commas_end bs s) (sym (e ∙ unfold_commas b bs (41 ∷ s))))
+same_arguments (a ∷ as') [] r s ha hb e = absurd (argument_head a _ s ha.0 (commas_end as' r) (sym (unfold_commas a as' (41 ∷ r)) ∙ e))
 same_arguments (a ∷ as') (b ∷ bs) r s ha hb e =
     let flat = sym (unfold_commas a as' (41 ∷ r)) ∙ e ∙ unfold_commas b bs (41 ∷ s) in
     let first = same_argument a b _ _ ha.0 hb.0 (commas_end as' r) (commas_end bs s) flat in

@@ -110,8 +110,31 @@ unfolding commas
 commas_end [] d z h = h
 commas_end (x ∷ xs) d z h = refl
 
+-- a token does not begin with a byte that delimits, but for a quote and a minus
+pub token_headless : (v : Token) (r y : List ℕ) (d : ℕ) → delimits d ≡ true → list_any (nat_eq d) ends ≡ false → nat_eq 34 d ≡ false → nat_eq 45 d ≡ false
+    → IsToken v → Ends r → token_text v ++ r ≡ d ∷ y → ⊥
+token_headless (Text a) r y d hd he hq hm hv hr e = apart 34 d _ y hq e
+token_headless (Int (pos n)) r y d hd he hq hm hv hr e = decimal_headless n r y d (wide n hv) hd he hr e
+token_headless (Int (negsuc n)) r y d hd he hq hm hv hr e = apart 45 d _ y hm e
+token_headless (Truth b) r y d hd he hq hm hv hr e = truth_headless b r y d hd he hr e
+
+abbrev null_inner : IsInner (codes "null")
+null_inner = (refl, (refl, (refl, (refl, tt))))
+
+-- nor is one `null`
+no_null : (n : ℕ) → n < 2 ^ 64 → decimal n ≡ codes "null" → ⊥
+no_null n h e = let f = subst (AllDigits 10) e (decimal_is_IsNumeral n h).0.1 in let g : 23 < 10 = f.0 in omega arith
+
+pub token_no_null : (v : Token) (r s : List ℕ) → IsToken v → Ends r → Ends s → token_text v ++ r ≡ codes "null" ++ s → ⊥
+token_no_null (Text a) r s hv hr hs e = apart 34 110 _ _ refl e
+token_no_null (Int (pos n)) r s hv hr hs e =
+    no_null n (wide n hv) (same_word (decimal n) (codes "null") r s (decimal_inner n (wide n hv)) null_inner (stops r hr) (stops s hs) e).0
+token_no_null (Int (negsuc n)) r s hv hr hs e = apart 45 110 _ _ refl e
+token_no_null (Truth true) r s hv hr hs e = apart 116 110 _ _ refl e
+token_no_null (Truth false) r s hv hr hs e = apart 102 110 _ _ refl e
+
 -- a token does not begin with what may stand behind one
-token_no_end : (v : Token) (z y : List ℕ) (d : ℕ) → IsToken v → list_any (nat_eq d) ends ≡ true → token_text v ++ z ≡ d ∷ y → ⊥
+pub token_no_end : (v : Token) (z y : List ℕ) (d : ℕ) → IsToken v → list_any (nat_eq d) ends ≡ true → token_text v ++ z ≡ d ∷ y → ⊥
 token_no_end (Text a) z y d hv hd e = apart_from_end 34 d _ y refl hd e
 token_no_end (Int (pos n)) z y d hv hd e = ends_no_decimal n (d ∷ y) z (wide n hv) hd (sym e)
 token_no_end (Int (negsuc n)) z y d hv hd e = apart_from_end 45 d _ y refl hd e

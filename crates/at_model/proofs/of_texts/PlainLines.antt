@@ -10,7 +10,7 @@ use Rattle.at_model.specs.Names.{starts_name, continues_name, is_word, is_reserv
 use Rattle.at_model.specs.Trees as tree
 use Rattle.at_model.specs.Terms.{Term, Cells, Cell, Terms, Node, no_cells, cell, One, Many, Empty, Holds, no_terms, term, IsInt32, IsToken, IsTermWithin, AreCellsWithin, IsCellWithin, AreTermsWithin, max_depth}
 use Rattle.at_model.specs.Paths.{Path, Step, IsIndex, IsStep, IsPath}
-use Rattle.at_model.specs.Lines.{Place, From_root, From_mark, Argument, Text, Ref, Null, Command, Ask, Set, Put, Drop, Insert, Token, Move, Show, Mark, Unmark, Where, Version, Post, Wait, Line, line_text, IsPlace, IsArgument, IsCommand, IsVersion, Spells, last_version, last_post, max_sessions, max_line}
+use Rattle.at_model.specs.Lines.{Place, From_root, From_mark, Argument, Text, Int, Truth, Ref, Null, Command, Ask, Set, Put, Drop, Insert, Token, Move, Show, Mark, Unmark, Where, Version, Post, Wait, Line, line_text, IsPlace, IsArgument, IsCommand, IsVersion, Spells, last_version, last_post, max_sessions, max_line}
 use Rattle.at_model.proofs.Options.{and_true}
 use Rattle.at_model.proofs.of_texts.Words.{all_and}
 
@@ -99,17 +99,6 @@ place : (p : Place) → is_plain_place p ≡ true → IsPlace p
 place (From_root p) h = path p h
 place (From_mark name steps) h = let g = all_and (is_plain_name name) (list_all is_plain_step steps) h in (named name g.0, path steps g.1)
 
-abbrev pub is_plain_argument : Argument → Bool
-is_plain_argument (Text bytes) = list_all is_low bytes
-is_plain_argument (Ref p) = is_plain_place p
-is_plain_argument Null = true
-
-argument : (a : Argument) → is_plain_argument a ≡ true → IsArgument a
-argument (Text bytes) h = low_utf8 bytes h
-argument (Ref p) h = place p h
-argument Null h = tt
-
--- terms
 abbrev pub is_int : ℤ → Bool
 is_int (pos n) = nat_lt n 2147483648
 is_int (negsuc n) = nat_lt n 2147483648
@@ -118,6 +107,21 @@ int : (n : ℤ) → is_int n ≡ true → IsInt32 n
 int (pos n) h = below n 2147483648 h
 int (negsuc n) h = below n 2147483648 h
 
+abbrev pub is_plain_argument : Argument → Bool
+is_plain_argument (Text bytes) = list_all is_low bytes
+is_plain_argument (Int n) = is_int n
+is_plain_argument (Truth b) = true
+is_plain_argument (Ref p) = is_plain_place p
+is_plain_argument Null = true
+
+argument : (a : Argument) → is_plain_argument a ≡ true → IsArgument a
+argument (Text bytes) h = low_utf8 bytes h
+argument (Int n) h = int n h
+argument (Truth b) h = tt
+argument (Ref p) h = place p h
+argument Null h = tt
+
+-- terms
 abbrev pub is_plain_token : tree.Token → Bool
 is_plain_token (tree.Text bytes) = list_all is_low bytes
 is_plain_token (tree.Int n) = is_int n

@@ -4,11 +4,12 @@ ghost use Rattle.at_text.specs.declared.fault.Failure.TheVariants.{For};
 ghost use Rattle.at_protocol.specs.declared.line.words.Misfit.TheVariants.{Form};
 ghost use Rattle.at_protocol.specs.LineView.{argument_view, arguments_view};
 ghost use Rattle.at_protocol.specs.Words.{Answers, HasNo};
-ghost use Rattle.at_protocol.specs.Calls.{IsCallText, AreArguments, IsNextArgument, IsBareArgument, IsQuotedFirst, next_view};
+ghost use Rattle.at_protocol.specs.Calls.{IsCallText, AreArguments, IsNextArgument, IsBareArgument, IsPlainArgument, IsQuotedFirst, next_view};
 
 use super::Argument;
 use super::places::read_place;
 use super::words::{Misfit, Unread, cut_at, read_name};
+use at_text::decimal::read_int;
 use at_text::quoted::{QuoteFault, read_quoted};
 use std::alloc::Global;
 
@@ -100,12 +101,31 @@ fn text_first(alloc: Global, text: &str) -> Result<(String, &str), Unread>
     }
 }
 
-/// The argument that the word spells: `null` or a place.
+/// The argument that the word spells: a place, `null`, a boolean or an int.
 fn read_bare<'a>(alloc: Global, word: &'a str) -> Result<Argument<'a>, Unread>
     ensures { Answers argument_view (IsBareArgument word.now) result }
+{
+    if word.starts_with('/') || word.starts_with('$') {
+        return Ok(Argument::Node(read_place(alloc, word)?));
+    }
+    read_plain(word)
+}
+
+/// The argument that the word spells, where it is no place: `null`, a boolean, or a decimal within 32 bits.
+fn read_plain<'a>(word: &str) -> Result<Argument<'a>, Unread>
+    ensures { Answers argument_view (IsPlainArgument word.now) result }
 {
     if word == "null" {
         return Ok(Argument::Null);
     }
-    Ok(Argument::Node(read_place(alloc, word)?))
+    if word == "true" {
+        return Ok(Argument::Bool(true));
+    }
+    if word == "false" {
+        return Ok(Argument::Bool(false));
+    }
+    match read_int(word) {
+        Some(number) => Ok(Argument::Int(number)),
+        None => Err(Unread::For(Misfit::Form)),
+    }
 }

@@ -29,6 +29,8 @@ impl<'a> Argument<'a> {
     {
         match self {
             Argument::Text(text) => Ok(Argument::Text(String::from_str(alloc, text.as_str())?)),
+            Argument::Int(number) => Ok(Argument::Int(*number)),
+            Argument::Bool(truth) => Ok(Argument::Bool(*truth)),
             Argument::Node(place) => Ok(Argument::Node(place.copied(alloc)?)),
             Argument::Null => Ok(Argument::Null),
         }

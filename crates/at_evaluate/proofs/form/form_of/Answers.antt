@@ -31,6 +31,9 @@ returns-in-Has-clause-means c = λ classes p. rw (c.in-Has.is, ← c.deref-in-Ha
 pub returns-in-TokenOf-clause-means : goal.returns-in-TokenOf-clause-means
 returns-in-TokenOf-clause-means c = λ classes p. rw (c.in-TokenOf.is, ← c.deref-in-TokenOf.ensures) refl
 
+pub returns-in-Passed-clause-means : goal.returns-in-Passed-clause-means
+returns-in-Passed-clause-means c = λ classes p. rw (c.in-Passed.is, ← c.deref-in-Passed.ensures) refl
+
 pub returns-in-Arithmetic-clause-means : goal.returns-in-Arithmetic-clause-means
 returns-in-Arithmetic-clause-means c = λ classes p. rw (c.in-Arithmetic.is, ← c.deref-in-Arithmetic.ensures, ← c.deref-in-Arithmetic-2.ensures) refl
 

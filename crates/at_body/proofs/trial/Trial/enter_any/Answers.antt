@@ -9,11 +9,11 @@ use Rattle.at_body.specs.Size.{size}
 use Rattle.at_rules.specs.Bodies.{body_view}
 use Rattle.at_body.proofs.Entering.{bounded, brought, entered}
 use Rattle.at_body.proofs.Uses.{followed, kept}
-use Rattle.at_model.specs.Bodies.{Negate, Not, InstanceOf, CastTo, Child, Count, Has, Compare, Join, JoinInt, Same, Differ, Equals, Element, Exists, First, Sum}
+use Rattle.at_model.specs.Bodies.{Negate, Not, InstanceOf, CastTo, Child, Count, Has, Passed, Compare, Join, JoinInt, Same, Differ, Equals, Element, Exists, First, Sum}
 use Rattle.at_model.specs.Bodies as model
 use Rattle.at_rules.specs.Bodies.{order_view}
 use Rattle.at_body.specs.Typed.{class_shown}
-use Rattle.at_body.proofs.TypedParts.{part_enters, put_typed, negates, opposes, tests, casts, asks_child, asks_count, asks_has, compares, joins, joins_int, same, differs, equals, asks_element, conjoins, disjoins, chooses, exists, first, sums}
+use Rattle.at_body.proofs.TypedParts.{part_enters, put_typed, negates, opposes, tests, casts, asks_child, asks_count, asks_has, passes, compares, joins, joins_int, same, differs, equals, asks_element, conjoins, disjoins, chooses, exists, first, sums}
 use Rattle.at_body.proofs.TypedAnswers.{at_hand_takes}
 use Rattle.at_body.proofs.TypedSteps.{entered_same, entered_told, index_there, name_there}
 use Rattle.at_body.proofs.trial.Trial.enter_any.Goals as goal
@@ -72,6 +72,9 @@ returns-in-Count-clause-same c = brought c.args.rules.now.classes _ _ c.args.sel
 pub returns-in-Has-clause-same : goal.returns-in-Has-clause-same
 returns-in-Has-clause-same c = brought c.args.rules.now.classes _ _ c.args.self.now _ (body_view c.args.body.now) (body_view c.deref-in-Has.result.now) (Use (unary.Has c.in-Has.part)) c.operand-in-Has.ensures.same refl (rw (c.in-Has.is, ← c.deref-in-Has.ensures) refl)
 
+pub returns-in-Passed-clause-same : goal.returns-in-Passed-clause-same
+returns-in-Passed-clause-same c = brought c.args.rules.now.classes _ _ c.args.self.now _ (body_view c.args.body.now) (body_view c.deref-in-Passed.result.now) (Use unary.Passed) c.operand-in-Passed.ensures.same refl (rw (c.in-Passed.is, ← c.deref-in-Passed.ensures) refl)
+
 pub returns-in-Exists-clause-same : goal.returns-in-Exists-clause-same
 returns-in-Exists-clause-same c = entered c.args.rules.now.classes _ _ c.args.self.now _ (body_view c.args.body.now) c.deref-in-Exists.result (Elements fold.Exists c.in-Exists.part c.deref-in-Exists-2.result) c.over.ensures refl (rw (c.in-Exists.is, ← c.deref-in-Exists.ensures, ← c.deref-in-Exists-2.ensures) refl)
 
@@ -125,6 +128,9 @@ returns-in-Count-clause-less c = bounded _ _ (load c.args.self.now.todo) (size (
 
 pub returns-in-Has-clause-less : goal.returns-in-Has-clause-less
 returns-in-Has-clause-less c = bounded _ _ (load c.args.self.now.todo) (size (body_view c.deref-in-Has.result.now) + 2) (size (body_view c.args.body.now)) c.operand-in-Has.ensures.less (rw (c.in-Has.is, ← c.deref-in-Has.ensures) refl)
+
+pub returns-in-Passed-clause-less : goal.returns-in-Passed-clause-less
+returns-in-Passed-clause-less c = bounded _ _ (load c.args.self.now.todo) (size (body_view c.deref-in-Passed.result.now) + 2) (size (body_view c.args.body.now)) c.operand-in-Passed.ensures.less (rw (c.in-Passed.is, ← c.deref-in-Passed.ensures) refl)
 
 pub operand-requires-clause-typed : goal.operand-requires-clause-typed
 operand-requires-clause-typed c = part_enters c.args.rules.now (class_shown c.args.store.now) c.args.self.now c.args.body.now c.deref.result.now (Use unary.Negate) (Negate (body_view c.deref.result.now)) (rw (c.in-Negate.is, ← c.deref.ensures) refl) (λ s k x h. negates c.args.rules.now (class_shown c.args.store.now) s (body_view c.deref.result.now) k c.args.self.now.todo x h) c.requires.typed
@@ -197,6 +203,9 @@ operand-requires-in-Count-clause-typed c = part_enters c.args.rules.now (class_s
 
 pub operand-requires-in-Has-clause-typed : goal.operand-requires-in-Has-clause-typed
 operand-requires-in-Has-clause-typed c = part_enters c.args.rules.now (class_shown c.args.store.now) c.args.self.now c.args.body.now c.deref-in-Has.result.now (Use (unary.Has c.in-Has.part)) (Has (body_view c.deref-in-Has.result.now) c.in-Has.part) (rw (c.in-Has.is, ← c.deref-in-Has.ensures) refl) (λ s k x h. asks_has c.args.rules.now (class_shown c.args.store.now) s (body_view c.deref-in-Has.result.now) c.in-Has.part k c.args.self.now.todo x h) c.requires.typed
+
+pub operand-requires-in-Passed-clause-typed : goal.operand-requires-in-Passed-clause-typed
+operand-requires-in-Passed-clause-typed c = part_enters c.args.rules.now (class_shown c.args.store.now) c.args.self.now c.args.body.now c.deref-in-Passed.result.now (Use unary.Passed) (Passed (body_view c.deref-in-Passed.result.now)) (rw (c.in-Passed.is, ← c.deref-in-Passed.ensures) refl) (λ s k x h. passes c.args.rules.now (class_shown c.args.store.now) s (body_view c.deref-in-Passed.result.now) k c.args.self.now.todo x h) c.requires.typed
 
 pub returns-in-Exists-clause-typed : goal.returns-in-Exists-clause-typed
 returns-in-Exists-clause-typed c = put_typed c.args.rules.now (class_shown c.args.store.now) _ c.args.self.now _ c.deref-in-Exists.result (Elements fold.Exists c.in-Exists.part c.deref-in-Exists-2.result) c.over.ensures (part_enters c.args.rules.now (class_shown c.args.store.now) c.args.self.now c.args.body.now c.deref-in-Exists.result.now (Elements fold.Exists c.in-Exists.part c.deref-in-Exists-2.result) (Exists (body_view c.deref-in-Exists.result.now) c.in-Exists.part (body_view c.deref-in-Exists-2.result.now)) (rw (c.in-Exists.is, ← c.deref-in-Exists.ensures, ← c.deref-in-Exists-2.ensures) refl) (λ s k x h. exists c.args.rules.now (class_shown c.args.store.now) s (body_view c.deref-in-Exists.result.now) c.in-Exists.part c.deref-in-Exists-2.result k c.args.self.now.todo x h) c.requires.typed)

@@ -2,7 +2,7 @@ use Rattle.std.proofs.Common.{◌≡◌, List, [], None, Result, Ok, Err, ap, re
 use Rattle.std.specs.Allocator.{alloc_error}
 use Rattle.std.specs.declared.alloc.AllocError.{AllocError}
 use Rattle.at_model.specs.Lines.{Ask, Command as CommandOf, From_root, IsCommand, Line, Spells}
-use Rattle.at_model.specs.Machine.{verdict}
+use Rattle.at_model.specs.Machine.{Verdict, verdict}
 use Rattle.at_protocol.specs.Again.{bare_question}
 use Rattle.at_protocol.specs.Faults.{Refuses}
 use Rattle.at_protocol.specs.LineView.{arguments_view, command_view, line_view, line_with, place_view, request_view}
@@ -26,6 +26,7 @@ use Rattle.at_engine.proofs.of_keeping.GoneOn.{went_as, went_same}
 use Rattle.at_engine.proofs.of_keeping.KeepingLemmas.{at_once_spares, form_spares, line_spares, unknown_spares, unread_spares}
 use Rattle.at_engine.proofs.TellingLemmas.{step_unread, told_unread}
 use Rattle.at_engine.proofs.of_turns.Awaiting.{asked_at_once}
+use Rattle.at_engine.proofs.Verdicts.{bare_obeyed}
 use Rattle.at_engine.proofs.engine.Engine.outcome.Goals as goal
 
 -- the line with this command in the place of its own
@@ -44,7 +45,9 @@ returns-in-Some-clause-gets g c =
     let (steps, spelled, number) = c.in-Some.ensures c.requires.sound.known in
     let new = c.ask_of-form.new.self in
     let l = bare_question e.last.session steps c.in-Some.attribute.now in
-    let done = c.ask_of-form.ensures (From_root steps) number in
+    let Done : Verdict → Type 0 = λ v. Fulfils g.K.Keeper.contents g.K.Keeper.memories c.args.self.now v c.ask_of-form.result c.ask_of-form.new.self in
+    let done = subst Done (sym (bare_obeyed (rules_of c.args.self.now) (state_of c.args.self.now) c.args.self.now.last.session steps c.in-Some.attribute.now))
+    (c.ask_of-form.ensures (From_root steps) number) in
     let told = c.at_once.result in
     let soon = asked_at_once (rules_of e) (state_of e) e.last.session None (From_root steps) c.in-Some.attribute.now [] in
     let hears = heard_at_once k g.K.Keeper.memories e new l told c.ask_of-form.result
@@ -58,7 +61,9 @@ returns-in-Some-clause-spares g c spare =
     let (steps, spelled, number) = c.in-Some.ensures c.requires.sound.known in
     let new = c.ask_of-form.new.self in
     let l = bare_question e.last.session steps c.in-Some.attribute.now in
-    let done = c.ask_of-form.ensures (From_root steps) number in
+    let Done : Verdict → Type 0 = λ v. Fulfils g.K.Keeper.contents g.K.Keeper.memories c.args.self.now v c.ask_of-form.result c.ask_of-form.new.self in
+    let done = subst Done (sym (bare_obeyed (rules_of c.args.self.now) (state_of c.args.self.now) c.args.self.now.last.session steps c.in-Some.attribute.now))
+    (c.ask_of-form.ensures (From_root steps) number) in
     let told = c.at_once.result in
     let soon = asked_at_once (rules_of e) (state_of e) e.last.session None (From_root steps) c.in-Some.attribute.now [] in
     let hears = heard_at_once k g.K.Keeper.memories e new l told c.ask_of-form.result
@@ -165,7 +170,9 @@ returns-in-Err-Memory-clause-spares g c spare =
 pub returns-in-Some-clause-went : goal.returns-in-Some-clause-went
 returns-in-Some-clause-went g c =
     let (steps, spelled, number) = c.in-Some.ensures c.requires.sound.known in
-    let done = c.ask_of-form.ensures (From_root steps) number in
+    let Done : Verdict → Type 0 = λ v. Fulfils g.K.Keeper.contents g.K.Keeper.memories c.args.self.now v c.ask_of-form.result c.ask_of-form.new.self in
+    let done = subst Done (sym (bare_obeyed (rules_of c.args.self.now) (state_of c.args.self.now) c.args.self.now.last.session steps c.in-Some.attribute.now))
+    (c.ask_of-form.ensures (From_root steps) number) in
     let l = bare_question c.args.self.now.last.session steps c.in-Some.attribute.now in
     went_as g.K.Keeper.contents g.K.Keeper.memories _ _ c.args.self.now c.ask_of-form.new.self (λ w is. obeys l spelled (sym is)) done.went
 

@@ -22,7 +22,7 @@ pub returns-in-Some : goal.returns-in-Some
 returns-in-Some g c =
     let e = c.args.self.now in
     let l : Line = record { session = c.args.session; expected = c.args.expected; command = Ask (place_view c.args.place.now) c.args.attribute.now (arguments_view c.args.arguments.now) } in
-    refused_so g.K.Keeper.contents g.K.Keeper.memories e c.requires.can_ask.sound.held (verdict (rules_of e) (state_of e) l) c.in-Some.refusal (c.in-Some.ensures l refl (sym c.has_asked-is_marked.ensures))
+    refused_so g.K.Keeper.contents g.K.Keeper.memories e c.requires.can_ask.sound.held (verdict (rules_of e) (state_of e) l) c.in-Some.refusal (c.in-Some.ensures l (sym c.reads-is_readable.ensures) refl (sym c.has_asked-is_marked.ensures))
 
 pub returns-in_default-node_named : goal.returns-in_default-node_named
 returns-in_default-node_named g c =
@@ -33,7 +33,7 @@ returns-in_default-node_named g c =
     let view = c.view.ensures in
     let nowhere = along Numbered view.rules view.store (ap (λ (m : Marks). listed m.items.entries) view.marks) c.in_default-node_named.ensures in
     let v = verdict (rules_of e) (state_of e) l in
-    let is = c.in_default.ensures l refl (sym c.has_asked-is_marked.ensures) ∙ asked_nowhere (rules_of e) (state_of e) c.args.session place c.args.attribute.now (arguments_view c.args.arguments.now) nowhere in
+    let is = c.in_default.ensures l (sym c.reads-is_readable.ensures) refl (sym c.has_asked-is_marked.ensures) ∙ asked_nowhere (rules_of e) (state_of e) c.args.session place c.args.attribute.now (arguments_view c.args.arguments.now) nowhere in
     refused_so g.K.Keeper.contents g.K.Keeper.memories e c.requires.can_ask.sound.held v refusal.Path (refuses (rules_of e) (state_of e) v refusal.Path is)
 
 pub ask_of-requires : goal.ask_of-requires
@@ -72,5 +72,5 @@ returns g c =
     let still = subst Named (sym rest) number in
     let l : Line = record { session = c.args.session; expected = c.args.expected; command = Ask (place_view c.args.place.now) c.args.attribute.now (arguments_view c.args.arguments.now) } in
     let v = verdict (rules_of e) (state_of e) l in
-    let is = c.in_default.ensures l refl (sym c.has_asked-is_marked.ensures) ∙ ap (λ (x : Engine g.row.K.Denot). obeyed (rules_of x) (state_of x) l.session l.command) (sym rest) in
+    let is = c.in_default.ensures l (sym c.reads-is_readable.ensures) refl (sym c.has_asked-is_marked.ensures) ∙ ap (λ (x : Engine g.row.K.Denot). obeyed (rules_of x) (state_of x) l.session l.command) (sym rest) in
     noted_so k g.K.Keeper.memories e m rest known v c.ask_of.result c.ask_of.new.self (turned_so k g.K.Keeper.memories m c.ask_of.new.self v (obeyed (rules_of m) (state_of m) l.session l.command) c.ask_of.result is (c.ask_of.ensures place still))
