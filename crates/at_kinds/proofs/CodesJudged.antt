@@ -13,6 +13,7 @@ use Rattle.at_kinds.specs.Kinds.{known, of_written, is_int, is_truth, is_text, i
 use Rattle.at_kinds.specs.Judging.{Kinded, Judgement, Judged, Is, Wrong, and_then, kind_if, of_kind, Scope, bound_to, index_eq, within, index_named, named_by, this_node, negation, opposite, computed, text_joined, joined, of_wider, chosen, beside, cast, tested, only, where_fit, one_argument, equal, alone, accessed, misfit, bodies_or, fitted, demanded_of, demanded, asked_by, asked_of, called, Listed, nodes_of, no_list, list_named, without, list_by, list_called, list_or, folded_over, folded_in, folded, placed, judged, judged_all, judged_list, fitting, body_of}
 use Rattle.at_kinds.specs.declared.accessors.Accessor.{Accessor}
 use Rattle.at_kinds.specs.declared.accessors.Accessor.TheVariants as accessor
+use Rattle.at_kinds.specs.declared.arguments.Arguments.{Arguments}
 use Rattle.at_kinds.specs.declared.code.RuleCode.{RuleCode}
 use Rattle.at_kinds.specs.declared.code.RuleCode.TheVariants as code
 use Rattle.at_kinds.specs.declared.signatures.WrittenKind.{WrittenKind}
@@ -120,26 +121,30 @@ accessed_tells at (accessor.Has part) e ks = alone_tells at ks (of_kind at Truth
 accessed_tells at (accessor.Count part) e ks = alone_tells at ks (of_kind at Int (body.Count e part)) tt
 accessed_tells at (accessor.List part) e ks = alone_tells at ks (Wrong code.Kind at) tt
 
-bodies_tell : (ks : List Kinded) (o : Option Place) → TellsOne (bodies_or ks o)
-bodies_tell ks None = tt
-bodies_tell ks (Some at) = tt
+bodies_tell : (allowed : Arguments) (ks : List Kinded) (o : Option Place) → TellsOne (bodies_or allowed ks o)
+bodies_tell allowed ks None = tt
+bodies_tell allowed ks (Some at) = tt
 
-fitted_tells : (classes : Classes) (at : Place) (ks : List Kinded) (ps : List WrittenKind) → TellsOne (fitted classes at ks ps)
-fitted_tells classes at ks ps = by (nat_eq (length ks) (length ps))
+fitted_tells : (allowed : Arguments) (classes : Classes) (at : Place) (ks : List Kinded) (ps : List WrittenKind)
+    → TellsOne (fitted allowed classes at ks ps)
+fitted_tells allowed classes at ks ps = by (nat_eq (length ks) (length ps))
   where
-    by : (b : Bool) → TellsOne (if b then bodies_or ks (misfit classes ks ps) else Wrong code.Argument at)
-    by true = bodies_tell ks (misfit classes ks ps)
+    by : (b : Bool)
+        → TellsOne (if b then bodies_or allowed ks (misfit allowed classes ks ps) else Wrong code.Argument at)
+    by true = bodies_tell allowed ks (misfit allowed classes ks ps)
     by false = tt
 
-demanded_of_tells : (classes : Classes) (at : Place) (a : ℕ) (o : Option Declared) (e : body.Expr) (ks : List Kinded) → TellsOne (demanded_of classes at a o e ks)
-demanded_of_tells classes at a None e ks = tt
-demanded_of_tells classes at a (Some d) e ks =
-    then_tells (λ es. of_kind at (of_written d.result) (body.Call e a es)) (fitted classes at ks d.parameters) (fitted_tells classes at ks d.parameters) (λ es. tt)
+demanded_of_tells : (allowed : Arguments) (classes : Classes) (at : Place) (a : ℕ) (o : Option Declared) (e : body.Expr)
+    (ks : List Kinded) → TellsOne (demanded_of allowed classes at a o e ks)
+demanded_of_tells allowed classes at a None e ks = tt
+demanded_of_tells allowed classes at a (Some d) e ks =
+    then_tells (λ es. of_kind at (of_written d.result) (body.Call e a es)) (fitted allowed classes at ks d.parameters)
+    (fitted_tells allowed classes at ks d.parameters) (λ es. tt)
 
 module _ (s : Scope) (at : Place) (name : List ℕ) (ks : List Kinded) where
   demanded_tells : (o : Option ℕ) (e : body.Expr) → TellsOne (demanded s at o e ks)
   demanded_tells None e = tt
-  demanded_tells (Some a) e = demanded_of_tells s.classes at a (slice_get s.declared a) e ks
+  demanded_tells (Some a) e = demanded_of_tells s.arguments s.classes at a (slice_get s.declared a) e ks
 
   asked_tells : (c : ℕ) (o : Option Accessor) (e : body.Expr) → TellsOne (asked_by s at (declared_named s.classes s.declared c name) o e ks)
   asked_tells c (Some a) e = accessed_tells at a e ks

@@ -12,10 +12,12 @@ use Rattle.at_jrag.specs.Syntax as written
 use Rattle.at_kinds.specs.Signatures.{Declared, declared_named}
 use Rattle.at_kinds.specs.Accessors.{accessor_named, listed}
 use Rattle.at_kinds.specs.Kinds.{known, of_written, is_int, is_truth, is_text, is_node, common_word, is_of_word, fits, only_if, wider_strange, wider, are_ints, are_truths, are_alike}
-use Rattle.at_kinds.specs.Judging.{Kinded, Judged, Is, Wrong, and_then, of_kind, kind_if, Scope, bound_to, index_eq, within, index_named, named_by, named, this_node, negation, opposite, computed, text_joined, joined, of_wider, chosen, beside, class_beside, cast, tested, where_fit, one_argument, equal, alone, accessed, is_given_text, is_text_word, is_argument, misfit, bodies_or, fitted, demanded_of, demanded, asked_by, asked_of, called, Listed, list_named, without, list_by, list_called, list_or, nodes_of, no_list, folded, folded_in, folded_over, placed, judged, judged_all, judged_list}
+use Rattle.at_kinds.specs.Judging.{Kinded, Judged, Is, Wrong, and_then, of_kind, kind_if, Scope, bound_to, index_eq, within, index_named, named_by, named, this_node, negation, opposite, computed, text_joined, joined, of_wider, chosen, beside, class_beside, cast, tested, where_fit, one_argument, equal, alone, accessed, is_given_text, is_text_word, is_allowed, is_argument, misfit, bodies_or, fitted, demanded_of, demanded, asked_by, asked_of, called, Listed, list_named, without, list_by, list_called, list_or, nodes_of, no_list, folded, folded_in, folded_over, placed, judged, judged_all, judged_list}
 use Rattle.at_kinds.specs.KindTable.{IsNode, AreAlike, Wider, Fits, Computes, Orders, Compares, Decides, Gives, Answers, AreArguments, IsGiven, IsList}
 use Rattle.at_kinds.specs.KindTable as table
 use Rattle.at_kinds.specs.declared.code.RuleCode.TheVariants as code
+use Rattle.at_kinds.specs.declared.arguments.Arguments.{Arguments}
+use Rattle.at_kinds.specs.declared.arguments.Arguments.TheVariants.{Given, Computed}
 use Rattle.at_rules.specs.declared.body.Kind.{Kind}
 use Rattle.at_rules.specs.declared.body.Kind.TheVariants as kind
 use Rattle.at_kinds.specs.declared.signatures.WrittenKind.{WrittenKind}
@@ -313,33 +315,48 @@ no_args n e = grind (arith, nat_tests)
 args_no : (n : ℕ) → nat_eq (suc n) 0 ≡ true → ⊥
 args_no n e = grind (arith, nat_tests)
 
-argument_is : (classes : Classes) (k : Kinded) (p : WrittenKind) → is_argument classes k p ≡ true → Fits classes k.kind p × (p ≡ Known kind.Text → is_given_text k.body ≡ true)
-argument_is classes k p e =
-    let (f, g) = both (fits classes k.kind p) (if is_text_word p then is_given_text k.body else true) e in
-    (fits_is classes k.kind p f, λ is. subst (λ z. (if is_text_word z then is_given_text k.body else true) ≡ true) is g)
+argument_is : (allowed : Arguments) (classes : Classes) (k : Kinded) (p : WrittenKind)
+    → is_argument allowed classes k p ≡ true
+    → Fits classes k.kind p × (allowed ≡ Given → p ≡ Known kind.Text → is_given_text k.body ≡ true)
+argument_is allowed classes k p e =
+    let (f, g) = both (fits classes k.kind p) (is_allowed allowed p k.body) e in (
+      fits_is classes k.kind p f,
+      λ alone is. subst (λ z. (if is_text_word z then is_given_text k.body else true) ≡ true) is
+          (subst (λ a. is_allowed a p k.body ≡ true) alone g),
+    )
 
-fitting : (s : Scope) (es : written.Exprs) (ks : List Kinded) (ps : List WrittenKind) → Each s es ks → nat_eq (length ks) (length ps) ≡ true → misfit s.classes ks ps ≡ None → AreArguments s es ps
+fitting : (s : Scope) (es : written.Exprs) (ks : List Kinded) (ps : List WrittenKind) → Each s es ks
+    → nat_eq (length ks) (length ps) ≡ true → misfit s.arguments s.classes ks ps ≡ None → AreArguments s es ps
 fitting s _ _ [] no_more e f = table.none
 fitting s _ _ (p ∷ ps) no_more e f = absurd (no_args (length ps) e)
 fitting s _ _ [] (more {ks = ks} k g t rest) e f = absurd (args_no (length ks) e)
-fitting s _ _ (p ∷ ps) (more {e = x} {es = es} {ks = ks} k g t rest) e f = by_test (is_argument s.classes k p) refl f (fitting s es ks ps rest (less_args (length ks) (length ps) e))
+fitting s _ _ (p ∷ ps) (more {e = x} {es = es} {ks = ks} k g t rest) e f =
+    by_test (is_argument s.arguments s.classes k p) refl f (fitting s es ks ps rest
+    (less_args (length ks) (length ps) e))
   where
-    by_test : (b : Bool) → is_argument s.classes k p ≡ b → (if b then misfit s.classes ks ps else Some k.at) ≡ None
-        → (misfit s.classes ks ps ≡ None → AreArguments s es ps) → AreArguments s (written.expr x es) (p ∷ ps)
-    by_test true h i go = let (w, is) = argument_is s.classes k p h in table.argument g w (λ y. t (is y)) (go i)
+    by_test : (b : Bool) → is_argument s.arguments s.classes k p ≡ b
+        → (if b then misfit s.arguments s.classes ks ps else Some k.at) ≡ None
+        → (misfit s.arguments s.classes ks ps ≡ None → AreArguments s es ps)
+        → AreArguments s (written.expr x es) (p ∷ ps)
+    by_test true h i go = let (w, is) = argument_is s.arguments s.classes k p h in
+        table.argument g w (λ alone y. t (is alone y)) (go i)
     by_test false h i go = absurd cc
 
-bodies_are : (ks : List Kinded) (o : Option Place) (b : body.Exprs) → bodies_or ks o ≡ Is b → o ≡ None
-bodies_are ks None b e = refl
-bodies_are ks (Some at) b e = absurd cc
+bodies_are : (allowed : Arguments) (ks : List Kinded) (o : Option Place) (b : body.Exprs)
+    → bodies_or allowed ks o ≡ Is b → o ≡ None
+bodies_are allowed ks None b e = refl
+bodies_are allowed ks (Some at) b e = absurd cc
 
-fitted_are : (classes : Classes) (at : Place) (ks : List Kinded) (ps : List WrittenKind) (b : body.Exprs)
-    → fitted classes at ks ps ≡ Is b → (nat_eq (length ks) (length ps) ≡ true) × (misfit classes ks ps ≡ None)
-fitted_are classes at ks ps b e = by_test (nat_eq (length ks) (length ps)) refl e
+fitted_are : (allowed : Arguments) (classes : Classes) (at : Place) (ks : List Kinded) (ps : List WrittenKind)
+    (b : body.Exprs)
+    → fitted allowed classes at ks ps ≡ Is b → (nat_eq (length ks) (length ps) ≡ true)
+    × (misfit allowed classes ks ps ≡ None)
+fitted_are allowed classes at ks ps b e = by_test (nat_eq (length ks) (length ps)) refl e
   where
-    by_test : (t : Bool) → nat_eq (length ks) (length ps) ≡ t → (if t then bodies_or ks (misfit classes ks ps) else
-        Wrong code.Argument at) ≡ Is b → (nat_eq (length ks) (length ps) ≡ true) × (misfit classes ks ps ≡ None)
-    by_test true f g = (f, bodies_are ks (misfit classes ks ps) b g)
+    by_test : (t : Bool) → nat_eq (length ks) (length ps) ≡ t
+        → (if t then bodies_or allowed ks (misfit allowed classes ks ps) else
+        Wrong code.Argument at) ≡ Is b → (nat_eq (length ks) (length ps) ≡ true) × (misfit allowed classes ks ps ≡ None)
+    by_test true f g = (f, bodies_are allowed ks (misfit allowed classes ks ps) b g)
     by_test false f g = absurd cc
 
 module _ (s : Scope) (at : Place) (name : List ℕ) (es : written.Exprs) (ks : List Kinded) (m : Kinded) (each : Each s es ks) where
@@ -373,11 +390,12 @@ module _ (s : Scope) (at : Place) (name : List ℕ) (es : written.Exprs) (ks : L
 
   of_declared : (c a : ℕ) (e : body.Expr) → bytes_eq name (codes "equals") ≡ false → accessor_named s.classes c name
       ≡ None → declared_named s.classes s.declared c name ≡ Some a → (o : Option Declared) → slice_get s.declared a ≡ o
-      → demanded_of s.classes at a o e ks ≡ Is m → Answers s (Class c) name es m.kind
+      → demanded_of s.arguments s.classes at a o e ks ≡ Is m → Answers s (Class c) name es m.kind
   of_declared c a e n none named None f is = absurd cc
   of_declared c a e n none named (Some d) f is =
-      let (b, g, h) = made (λ es. of_kind at (of_written d.result) (body.Call e a es)) (fitted s.classes at ks d.parameters) m is in
-      let (count, fit) = fitted_are s.classes at ks d.parameters b g in
+      let (b, g, h) = made (λ es. of_kind at (of_written d.result) (body.Call e a es))
+      (fitted s.arguments s.classes at ks d.parameters) m is in
+      let (count, fit) = fitted_are s.arguments s.classes at ks d.parameters b g in
       subst (Answers s (Class c) name es) (kind_of at (of_written d.result) (body.Call e a b) m h) (table.attribute a d n none named f (fitting s es ks d.parameters each count fit))
 
   of_attribute : (c : ℕ) (e : body.Expr) → bytes_eq name (codes "equals") ≡ false
@@ -434,10 +452,12 @@ module _ (s : Scope) (at : Place) (name : List ℕ) (ks : List Kinded) (m : Kind
       is in not_given (body.Count e part) m (body_of at Int (body.Count e part) m g) refl t
   token_by c e n (accessor.List part) f is = let (none, g) = none_there at ks (Wrong code.Kind at) m is in absurd cc
 
-  token_demanded : (c a : ℕ) (e : body.Expr) (o : Option Declared) → demanded_of s.classes at a o e ks ≡ Is m → IsToken s name (Class c)
+  token_demanded : (c a : ℕ) (e : body.Expr) (o : Option Declared)
+      → demanded_of s.arguments s.classes at a o e ks ≡ Is m → IsToken s name (Class c)
   token_demanded c a e None is = absurd cc
   token_demanded c a e (Some d) is = let (b, g, h) =
-      made (λ es. of_kind at (of_written d.result) (body.Call e a es)) (fitted s.classes at ks d.parameters) m is in
+      made (λ es. of_kind at (of_written d.result) (body.Call e a es))
+      (fitted s.arguments s.classes at ks d.parameters) m is in
       not_given (body.Call e a b) m (body_of at (of_written d.result) (body.Call e a b) m h) refl t
 
   token_attribute : (c : ℕ) (e : body.Expr) (o : Option ℕ) → demanded s at o e ks ≡ Is m → IsToken s name (Class c)

@@ -1,6 +1,6 @@
 -- The kinds of what is asked of nodes and texts, and of folds.
 use Rattle.std.proofs.Common.{◌≡◌, ℕ, Bool, true, false, ◌&&◌, List, [], ◌∷◌, length, Option, Some, None, option_map, refl, sym, ap, ◌∙◌, subst, true≢false, arith}
-use Rattle.std.specs.Prelude.{⊤, codes, position, nat_eq, if◌then◌else◌, option_and_then}
+use Rattle.std.specs.Prelude.{⊤, not, codes, position, nat_eq, if◌then◌else◌, option_and_then}
 use Rattle.std.specs.List.{slice_get, AllZip}
 use Rattle.std.specs.Option.{option_or}
 use Rattle.std.specs.Str.{bytes_eq}
@@ -19,11 +19,13 @@ use Rattle.at_text.specs.declared.place.Place.{Place}
 use Rattle.at_jrag.specs.Syntax as written
 use Rattle.at_rules.specs.declared.body.Kind.TheVariants as known_kind
 use Rattle.at_kinds.specs.Accessors.{accessor_named, accessed as accessed_part, got_or, getter, named_besides, is_had, is_counted, is_listed, is_list, is_optional, shape_of, token_kind, element_class, listed, listed_in}
-use Rattle.at_kinds.specs.Judging.{Kinded, Wrong, Judged, Scope, Bound, Listed, and_then, of_kind, where_fit, one_argument, equal, alone, accessed, is_given_text, is_argument, misfit, bodies, bodies_or, fitted, demanded_of, asked_by, asked, asked_of, called, list_named, nodes_of, no_list, folded_in, folded_over, without, list_by, list_called, folded}
-use Rattle.at_kinds.specs.Kinds.{known, of_written, is_int, is_truth, is_text, is_within}
+use Rattle.at_kinds.specs.Judging.{Kinded, Wrong, Judged, Scope, Bound, Listed, and_then, of_kind, where_fit, one_argument, equal, alone, accessed, is_given_text, is_argument, is_number, is_computed, passed_for, misfit, bodies, bodies_or, fitted, demanded_of, asked_by, asked, asked_of, called, list_named, nodes_of, no_list, folded_in, folded_over, without, list_by, list_called, folded}
+use Rattle.at_kinds.specs.Kinds.{known, of_written, is_int, is_truth, is_text, is_within, fits}
 use Rattle.at_kinds.specs.Signatures.{Declared, declared_named, is_below}
 use Rattle.at_kinds.specs.declared.accessors.Accessor.{Accessor}
 use Rattle.at_kinds.specs.declared.accessors.Accessor.TheVariants as accessor
+use Rattle.at_kinds.specs.declared.arguments.Arguments.{Arguments}
+use Rattle.at_kinds.specs.declared.arguments.Arguments.TheVariants.{Given, Computed}
 use Rattle.at_kinds.specs.declared.code.RuleCode.TheVariants as code
 use Rattle.at_kinds.specs.declared.signatures.WrittenKind.{WrittenKind}
 use Rattle.at_kinds.specs.declared.signatures.WrittenKind.TheVariants.{Known, Strange}
@@ -195,46 +197,98 @@ module _ (rules : Rules) where
   within_has t b k e is h = absurd (true≢false (sym is))
 
   -- an argument that fits its parameter
-  argument_right : (t : ScopeKinds) (k : Kinded) (p : WrittenKind) (m : Kind) → IsKind p m → is_argument rules.classes k p ≡ true → Right rules t k → IsArgumentForm m k.body × HasKind rules t k.body m
-  argument_right t k (Known known_kind.Int) m is fit h =
+  given_right : (t : ScopeKinds) (k : Kinded) (p : WrittenKind) (m : Kind) → IsKind p m
+      → is_argument Given rules.classes k p ≡ true
+      → Right rules t k → IsArgumentForm m k.body × HasKind rules t k.body m
+  given_right t k (Known known_kind.Int) m is fit h =
       let (one, other) = both (is_int k.kind) true fit in
       subst (λ n. IsArgumentForm n k.body × HasKind rules t k.body n) is (tt, int_has rules t k.kind k.body one h)
-  argument_right t k (Known known_kind.Bool) m is fit h =
+  given_right t k (Known known_kind.Bool) m is fit h =
       let (one, other) = both (is_truth k.kind) true fit in
       subst (λ n. IsArgumentForm n k.body × HasKind rules t k.body n) is (tt, truth_has rules t k.kind k.body one h)
-  argument_right t k (Known known_kind.Text) m is fit h =
+  given_right t k (Known known_kind.Text) m is fit h =
       let (one, other) = both (is_text k.kind) (is_given_text k.body) fit in
       subst (λ n. IsArgumentForm n k.body × HasKind rules t k.body n) is (given_form k.body other, text_has rules t k.kind k.body one h)
-  argument_right t k (Known (known_kind.Class b)) m is fit h =
+  given_right t k (Known (known_kind.Class b)) m is fit h =
       let (one, other) = both (is_within rules.classes b k.kind) true fit in
       subst (λ n. IsArgumentForm n k.body × HasKind rules t k.body n) is (tt, within_has t b k.kind k.body one h)
-  argument_right t k (Strange first) m is fit h = absurd is
+  given_right t k (Strange first) m is fit h = absurd is
 
-  arguments_right : (t : ScopeKinds) (ks : List Kinded) (ps : List WrittenKind) (ms : List Kind) → length ks ≡ length ps
-      → AllZip IsKind ps ms → misfit rules.classes ks ps ≡ None → AllRight t ks → HaveKinds rules t (bodies ks) ms
-  arguments_right t [] [] [] same zip none all = has.no_more
-  arguments_right t [] [] (m ∷ ms) same zip none all = absurd zip
-  arguments_right t [] (p ∷ ps) ms same zip none all = absurd (omega (arith, same))
-  arguments_right t (k ∷ ks) [] ms same zip none all = absurd (omega (arith, same))
-  arguments_right t (k ∷ ks) (p ∷ ps) [] same zip none all = absurd zip
-  arguments_right t (k ∷ ks) (p ∷ ps) (m ∷ ms) same zip none all = by (is_argument rules.classes k p) refl none (λ rest. arguments_right t ks ps ms (omega (arith, same)) zip.1 rest all.1)
+  -- of that kind, and for a text of a form that may be passed
+  abbrev IsPassed : ScopeKinds → Kind → Expr → Type 0
+  IsPassed t m e = IsArgumentForm m e × HasKind rules t e m
+
+  number_passed : (t : ScopeKinds) (e : Expr) (b : Bool) → HasKind rules t e model.Int
+      → IsPassed t model.Int (if b then body.Passed e else e)
+  number_passed t e true h = (tt, has.passed model.Int h)
+  number_passed t e false h = (tt, h)
+
+  text_passed : (t : ScopeKinds) (e : Expr) (b : Bool) → is_given_text e ≡ b → HasKind rules t e model.Text
+      → IsPassed t model.Text (if not b then body.Passed e else e)
+  text_passed t e true is h = (given_form e is, h)
+  text_passed t e false is h = (tt, has.passed model.Text h)
+
+  fits_passed : (t : ScopeKinds) (k : ExprKind) (e : Expr) (p : WrittenKind) (m : Kind) → IsKind p m
+      → fits rules.classes k p ≡ true
+      → Has rules t k e → IsPassed t m (if is_computed k e then body.Passed e else e)
+  fits_passed t found.Int e (Known known_kind.Int) m is fit h =
+      subst (λ n. IsPassed t n (if not (is_number e) then body.Passed e else e)) is
+      (number_passed t e (not (is_number e)) h)
+  fits_passed t found.Bool e (Known known_kind.Bool) m is fit h = subst (λ n. IsPassed t n e) is (tt, h)
+  fits_passed t found.Text e (Known known_kind.Text) m is fit h =
+      subst (λ n. IsPassed t n (if not (is_given_text e) then body.Passed e else e)) is
+      (text_passed t e (is_given_text e) refl h)
+  fits_passed t (found.Class c) e (Known (known_kind.Class b)) m is fit h =
+      subst (λ n. IsPassed t n e) is (tt, within_has t b (found.Class c) e fit h)
+  fits_passed t found.Null e (Known (known_kind.Class b)) m is fit h =
+      subst (λ n. IsPassed t n e) is (tt, within_has t b found.Null e fit h)
+  fits_passed t k e (Strange first) m is fit h = absurd is
+  fits_passed t k e (Known known_kind.Int) m is fit h = absurd (true≢false (sym fit))
+  fits_passed t k e (Known known_kind.Bool) m is fit h = absurd (true≢false (sym fit))
+  fits_passed t k e (Known known_kind.Text) m is fit h = absurd (true≢false (sym fit))
+  fits_passed t k e (Known (known_kind.Class b)) m is fit h = absurd (true≢false (sym fit))
+
+  argument_right : (allowed : Arguments) (t : ScopeKinds) (k : Kinded) (p : WrittenKind) (m : Kind) → IsKind p m
+      → is_argument allowed rules.classes k p ≡ true → Right rules t k → IsPassed t m (passed_for allowed k)
+  argument_right Given t k p m is fit h = given_right t k p m is fit h
+  argument_right Computed t k p m is fit h = fits_passed t k.kind k.body p m is
+      (both (fits rules.classes k.kind p) true fit).0 h
+
+  arguments_right : (allowed : Arguments) (t : ScopeKinds) (ks : List Kinded) (ps : List WrittenKind) (ms : List Kind)
+      → length ks ≡ length ps
+      → AllZip IsKind ps ms → misfit allowed rules.classes ks ps ≡ None → AllRight t ks
+      → HaveKinds rules t (bodies allowed ks) ms
+  arguments_right allowed t [] [] [] same zip none all = has.no_more
+  arguments_right allowed t [] [] (m ∷ ms) same zip none all = absurd zip
+  arguments_right allowed t [] (p ∷ ps) ms same zip none all = absurd (omega (arith, same))
+  arguments_right allowed t (k ∷ ks) [] ms same zip none all = absurd (omega (arith, same))
+  arguments_right allowed t (k ∷ ks) (p ∷ ps) [] same zip none all = absurd zip
+  arguments_right allowed t (k ∷ ks) (p ∷ ps) (m ∷ ms) same zip none all =
+      by (is_argument allowed rules.classes k p) refl none (λ rest. arguments_right allowed t ks ps ms
+      (omega (arith, same)) zip.1 rest all.1)
     where
-      by : (b : Bool) → is_argument rules.classes k p ≡ b → (if b then misfit rules.classes ks ps else Some k.at)
-          ≡ None → (misfit rules.classes ks ps ≡ None → HaveKinds rules t (bodies ks) ms)
-          → HaveKinds rules t (body.expr k.body (bodies ks)) (m ∷ ms)
-      by true fit none rest = let (form, x) = argument_right t k p m zip.0 fit all.0 in has.argument form x (rest none)
+      by : (b : Bool) → is_argument allowed rules.classes k p ≡ b
+          → (if b then misfit allowed rules.classes ks ps else Some k.at)
+          ≡ None → (misfit allowed rules.classes ks ps ≡ None → HaveKinds rules t (bodies allowed ks) ms)
+          → HaveKinds rules t (body.expr (passed_for allowed k) (bodies allowed ks)) (m ∷ ms)
+      by true fit none rest = let (form, x) = argument_right allowed t k p m zip.0 fit all.0 in
+          has.argument form x (rest none)
       by false fit none rest = absurd (none-some k.at (sym none))
 
-  fitted_right : (t : ScopeKinds) (at : Place) (ks : List Kinded) (ps : List WrittenKind) (ms : List Kind)
-      → AllZip IsKind ps ms → AllRight t ks → Holds (λ es. HaveKinds rules t es ms) (fitted rules.classes at ks ps)
-  fitted_right t at ks ps ms zip all = by (nat_eq (length ks) (length ps)) refl
+  fitted_right : (allowed : Arguments) (t : ScopeKinds) (at : Place) (ks : List Kinded) (ps : List WrittenKind)
+      (ms : List Kind)
+      → AllZip IsKind ps ms → AllRight t ks → Holds (λ es. HaveKinds rules t es ms)
+      (fitted allowed rules.classes at ks ps)
+  fitted_right allowed t at ks ps ms zip all = by (nat_eq (length ks) (length ps)) refl
     where
-      none_wrong : (o : Option Place) → length ks ≡ length ps → misfit rules.classes ks ps ≡ o → Holds (λ es. HaveKinds rules t es ms) (bodies_or ks o)
-      none_wrong None same is = arguments_right t ks ps ms same zip is all
+      none_wrong : (o : Option Place) → length ks ≡ length ps → misfit allowed rules.classes ks ps ≡ o
+          → Holds (λ es. HaveKinds rules t es ms) (bodies_or allowed ks o)
+      none_wrong None same is = arguments_right allowed t ks ps ms same zip is all
       none_wrong (Some place) same is = tt
 
-      by : (b : Bool) → nat_eq (length ks) (length ps) ≡ b → Holds (λ es. HaveKinds rules t es ms) (if b then bodies_or ks (misfit rules.classes ks ps) else Wrong code.Argument at)
-      by true is = none_wrong (misfit rules.classes ks ps) (eqb-true (length ks) (length ps) is) refl
+      by : (b : Bool) → nat_eq (length ks) (length ps) ≡ b → Holds (λ es. HaveKinds rules t es ms)
+          (if b then bodies_or allowed ks (misfit allowed rules.classes ks ps) else Wrong code.Argument at)
+      by true is = none_wrong (misfit allowed rules.classes ks ps) (eqb-true (length ks) (length ps) is) refl
       by false is = tt
 
   -- attributes ----------------------------------------------------------------------------------------------------------
@@ -247,21 +301,28 @@ module _ (rules : Rules) where
   result_right t e (Known (known_kind.Class b)) m is h = subst (λ n. HasKind rules t e n) (sym is) h
   result_right t e (Strange first) m is h = absurd is
 
-  module _ (declared : List Declared) (same : AllZip IsDeclaredAs declared rules.attributes) where
+  module _ (allowed : Arguments) (declared : List Declared) (same : AllZip IsDeclaredAs declared rules.attributes) where
     abbrev pub scope_at : ℕ → List Bound → Option (List ℕ) → Scope
-    scope_at this names index = record { classes = rules.classes; declared = declared; this = this; names = names; index = index }
+    scope_at this names index = record {
+      classes = rules.classes;
+      declared = declared;
+      arguments = allowed;
+      this = this;
+      names = names;
+      index = index;
+    }
 
     declared_right : (t : ScopeKinds) (at : Place) (c n : ℕ) (name : List ℕ) (e : Expr) (ks : List Kinded)
         → declared_named rules.classes declared c name ≡ Some n → HasKind rules t e (model.Class c) → AllRight t ks
-        → Holds (Right rules t) (demanded_of rules.classes at n (slice_get declared n) e ks)
+        → Holds (Right rules t) (demanded_of allowed rules.classes at n (slice_get declared n) e ks)
     declared_right t at c n name e ks is h all =
         let (d, there, passes, less) = element_found (λ (x : Declared). bytes_eq x.name name && is_below rules.classes c x.class) declared n is in
         let (a, attribute, of) = beside_it IsDeclaredAs declared rules.attributes n d same there in
         let below = ap (is_below rules.classes c) (sym of.class) ∙ (both (bytes_eq d.name name) (is_below rules.classes c d.class) passes).1 in
-        subst (λ o. Holds (Right rules t) (demanded_of rules.classes at n o e ks)) (sym there)
+        subst (λ o. Holds (Right rules t) (demanded_of allowed rules.classes at n o e ks)) (sym there)
         (then_holds (λ es. HaveKinds rules t es a.parameters) (Right rules t)
-        (λ es. of_kind at (of_written d.result) (body.Call e n es)) (fitted rules.classes at ks d.parameters)
-        (fitted_right t at ks d.parameters a.parameters of.parameters all) (λ es x.
+        (λ es. of_kind at (of_written d.result) (body.Call e n es)) (fitted allowed rules.classes at ks d.parameters)
+        (fitted_right allowed t at ks d.parameters a.parameters of.parameters all) (λ es x.
         result_right t (body.Call e n es) d.result a.result of.result (has.call c n a attribute below h x)))
 
     module _ (t : ScopeKinds) (this : ℕ) (names : List Bound) (index : Option (List ℕ)) where

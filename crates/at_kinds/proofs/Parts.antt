@@ -1,6 +1,6 @@
 -- What is made of parts, or the fault of one.
-use Rattle.std.proofs.Common.{◌≡◌, ℕ, ◌+◌, ◌<◌, ◌≤◌, List, [], ◌∷◌, ◌++◌, map, length, drop, get_or, refl, ap, ap₂, sym, ◌∙◌, append_assoc, append-nil, Option, Some, None, option_map, Result, Ok, Err, suc, zero, cond, subst, arith, add-one, true≢false}
-use Rattle.std.specs.Prelude.{true, false, slice_get, position, option_and_then, nat_eq, vec_len, if◌then◌else◌, Vec}
+use Rattle.std.proofs.Common.{rules, ◌≡◌, ℕ, ◌+◌, ◌<◌, ◌≤◌, List, [], ◌∷◌, ◌++◌, map, length, drop, get_or, refl, ap, ap₂, sym, ◌∙◌, append_assoc, append-nil, Option, Some, None, option_map, Result, Ok, Err, suc, zero, cond, subst, arith, add-one, true≢false}
+use Rattle.std.specs.Prelude.{Bool, true, false, slice_get, position, option_and_then, nat_eq, vec_len, if◌then◌else◌, Vec, Box}
 use Rattle.std.specs.Str.{bytes_eq}
 use Rattle.std.specs.Global.{Global}
 use Rattle.std.proofs.Math.Seq.{drop-cons}
@@ -9,18 +9,21 @@ use Rattle.std.proofs.lemmas.Bool.{eqb-true, eq-eqb}
 use Rattle.std.proofs.lemmas.Option.{none-some, slice_get-map}
 use Rattle.at_class.proofs.Named.{position-map}
 use Rattle.at_model.specs.Classes.{Classes}
-use Rattle.at_model.specs.Bodies.{Expr, Exprs, expr, Call}
+use Rattle.at_model.specs.Bodies.{Expr, Exprs, expr, Call, Passed}
 use Rattle.at_text.specs.declared.place.Place.{Place}
 use Rattle.at_jrag.specs.Syntax.{to_exprs}
 use Rattle.at_jrag.specs.View.{expr_view}
 use Rattle.at_jrag.specs.declared.syntax.Expr.{Expr as ExprValue}
 use Rattle.at_rules.specs.Bodies.{body_view, bodies_view}
-use Rattle.at_rules.specs.declared.body.Body.{Body}
-use Rattle.at_kinds.specs.Judging.{Judgement, Judged, Kinded, Scope, Bound, bound_to, Is, Wrong, and_then, judged, judged_all, bodies, bodies_or, misfit, fitted, is_argument, accessed, asked_by, demanded, demanded_of, of_kind, list_by, no_list, fitting}
+use Rattle.at_rules.specs.declared.body.Body.{Body, the_lemmas}
+use Rattle.at_rules.specs.declared.body.Body as body
+use Rattle.at_kinds.specs.Judging.{Judgement, Judged, Kinded, Scope, Bound, bound_to, Is, Wrong, and_then, judged, judged_all, bodies, bodies_or, is_computed, passed_for, misfit, fitted, is_argument, accessed, asked_by, demanded, demanded_of, of_kind, list_by, no_list, fitting}
 use Rattle.at_kinds.specs.Kinds.{of_written, fits}
 use Rattle.at_kinds.specs.Signatures.{Declared}
-use Rattle.at_kinds.specs.Typed.{Judges, typed_view, all_view, list_view, bound_view}
+use Rattle.at_kinds.specs.Typed.{Judges, typed_view, all_view, list_view, bound_view, passed_body}
 use Rattle.at_kinds.specs.declared.accessors.Accessor.{Accessor}
+use Rattle.at_kinds.specs.declared.arguments.Arguments.{Arguments}
+use Rattle.at_kinds.specs.declared.arguments.Arguments.TheVariants.{Given, Computed}
 use Rattle.at_kinds.specs.declared.accessors.Accessor.TheVariants as accessor
 use Rattle.at_kinds.specs.declared.code.RuleCode.TheVariants as code
 use Rattle.at_kinds.specs.declared.code.RuleCode.{RuleCode}
@@ -53,6 +56,10 @@ pub made_in : {A B T U : Type 0} (view : T → A) (whole : U → B) (f : A → J
     → Judges whole (f (view t)) r → Judges whole (and_then f j) r
 made_in view whole f j o t r was is so = made_of view whole f j t r (subst (λ p. Judges view j p) was is) so
 
+-- an argument that is looked at when it is passed
+passed_seen : (p : Box Body Global) → body_view (body.Passed p) ≡ Passed (body_view p.value)
+passed_seen p = search (rules, the_lemmas)
+
 -- names ------------------------------------------------------------------------------------------------------------------
 
 abbrev pub kind_in : ℕ → WrittenKind → ℕ × WrittenKind
@@ -79,35 +86,54 @@ bound_seen bs name o is =
 -- the arguments of a call ------------------------------------------------------------------------------------------------
 
 -- their bodies
-pub bodies_same : (bs : List Body) (ts : List Typed) → bs ≡ map (λ (t : Typed). t.body.value) ts → bodies_view bs ≡ bodies (map typed_view ts)
-bodies_same bs ts is = ap bodies_view is ∙ each ts
+passed_same : (allowed : Arguments) (t : Typed) → body_view (passed_body allowed t) ≡ passed_for allowed (typed_view t)
+passed_same Given t = refl
+passed_same Computed t = by (is_computed t.kind (body_view t.body.value))
   where
-    each : (ts : List Typed) → bodies_view (map (λ (t : Typed). t.body.value) ts) ≡ bodies (map typed_view ts)
+    by : (b : Bool) → body_view (if b then body.Passed t.body else t.body.value)
+        ≡ (if b then Passed (body_view t.body.value) else body_view t.body.value)
+    by true = passed_seen t.body
+    by false = refl
+
+pub bodies_same : (allowed : Arguments) (bs : List Body) (ts : List Typed) → bs ≡ map (passed_body allowed) ts
+    → bodies_view bs ≡ bodies allowed (map typed_view ts)
+bodies_same allowed bs ts is = ap bodies_view is ∙ each ts
+  where
+    each : (ts : List Typed) → bodies_view (map (passed_body allowed) ts) ≡ bodies allowed (map typed_view ts)
     each [] = refl
-    each (t ∷ ts) = ap (expr (body_view t.body.value)) (each ts)
+    each (t ∷ ts) = ap₂ expr (passed_same allowed t) (each ts)
 
 -- the first that is wrong, behind those that are right
-pub misfit_more : (classes : Classes) (ts : List Typed) (ps : List WrittenKind) (i : ℕ) (t : Typed) (p : WrittenKind) → slice_get ts i ≡ Some t → slice_get ps i ≡ Some p
-    → misfit classes (map typed_view (drop i ts)) (drop i ps) ≡ cond (is_argument classes (typed_view t) p) (misfit classes (map typed_view (drop (suc i) ts)) (drop (suc i) ps)) (Some t.at)
-misfit_more classes [] ps i t p at by' = absurd (none-some t at)
-misfit_more classes (x ∷ xs) [] i t p at by' = absurd (none-some p by')
-misfit_more classes (x ∷ xs) (q ∷ qs) zero t p at by' =
+pub misfit_more : (allowed : Arguments) (classes : Classes) (ts : List Typed) (ps : List WrittenKind) (i : ℕ)
+    (t : Typed) (p : WrittenKind) → slice_get ts i ≡ Some t → slice_get ps i ≡ Some p
+    → misfit allowed classes (map typed_view (drop i ts)) (drop i ps)
+    ≡ cond (is_argument allowed classes (typed_view t) p) (misfit allowed classes (map typed_view (drop (suc i) ts))
+    (drop (suc i) ps)) (Some t.at)
+misfit_more allowed classes [] ps i t p at by' = absurd (none-some t at)
+misfit_more allowed classes (x ∷ xs) [] i t p at by' = absurd (none-some p by')
+misfit_more allowed classes (x ∷ xs) (q ∷ qs) zero t p at by' =
     let e : x ≡ t = cc in
     let f : q ≡ p = cc in
-    ap₂ (λ y r. cond (is_argument classes (typed_view y) r) (misfit classes (map typed_view xs) qs) (Some y.at)) e f
-misfit_more classes (x ∷ xs) (q ∷ qs) (suc i) t p at by' = misfit_more classes xs qs i t p at by'
+    ap₂ (λ y r. cond (is_argument allowed classes (typed_view y) r) (misfit allowed classes (map typed_view xs) qs)
+    (Some y.at)) e f
+misfit_more allowed classes (x ∷ xs) (q ∷ qs) (suc i) t p at by' = misfit_more allowed classes xs qs i t p at by'
 
-pub misfit_none : (classes : Classes) (ks : List Kinded) (ps : List WrittenKind) (i : ℕ) → slice_get ps i ≡ None → misfit classes ks (drop i ps) ≡ None
-misfit_none classes [] ps i is = refl
-misfit_none classes (k ∷ ks) [] zero is = refl
-misfit_none classes (k ∷ ks) [] (suc i) is = refl
-misfit_none classes (k ∷ ks) (p ∷ ps) zero is = absurd (none-some p (sym is))
-misfit_none classes (k ∷ ks) (p ∷ ps) (suc i) is = misfit_none classes (k ∷ ks) ps i is
+pub misfit_none : (allowed : Arguments) (classes : Classes) (ks : List Kinded) (ps : List WrittenKind) (i : ℕ)
+    → slice_get ps i ≡ None → misfit allowed classes ks (drop i ps) ≡ None
+misfit_none allowed classes [] ps i is = refl
+misfit_none allowed classes (k ∷ ks) [] zero is = refl
+misfit_none allowed classes (k ∷ ks) [] (suc i) is = refl
+misfit_none allowed classes (k ∷ ks) (p ∷ ps) zero is = absurd (none-some p (sym is))
+misfit_none allowed classes (k ∷ ks) (p ∷ ps) (suc i) is = misfit_none allowed classes (k ∷ ks) ps i is
 
 -- as many arguments as parameters
-pub fitted_same : (classes : Classes) (at : Place) (ks : List Kinded) (ps : List WrittenKind) (o : Option Place)
-    → length ks ≡ length ps → misfit classes ks ps ≡ o → fitted classes at ks ps ≡ bodies_or ks o
-fitted_same classes at ks ps o same is = ap (λ b. if b then bodies_or ks (misfit classes ks ps) else Wrong code.Argument at) (eq-eqb (length ks) (length ps) same) ∙ ap (bodies_or ks) is
+pub fitted_same : (allowed : Arguments) (classes : Classes) (at : Place) (ks : List Kinded) (ps : List WrittenKind)
+    (o : Option Place)
+    → length ks ≡ length ps → misfit allowed classes ks ps ≡ o
+    → fitted allowed classes at ks ps ≡ bodies_or allowed ks o
+fitted_same allowed classes at ks ps o same is =
+    ap (λ b. if b then bodies_or allowed ks (misfit allowed classes ks ps) else Wrong code.Argument at)
+    (eq-eqb (length ks) (length ps) same) ∙ ap (bodies_or allowed ks) is
 
 pub none_given : (ts : Vec Typed Global) → nat_eq (vec_len ts) 0 ≡ true → map typed_view ts.items ≡ []
 none_given ts is = empty ts.items (let e = eqb-true (vec_len ts) 0 is in omega (arith, e, ts.ok.0))
@@ -139,14 +165,17 @@ pub by_accessor : (s : Scope) (at : Place) (a : Option ℕ) (o : Option Accessor
 by_accessor s at a o x e ks r is so = subst (λ p. Judges typed_view (asked_by s at a p e ks) r) (sym is) so
 
 pub by_attribute : (s : Scope) (at : Place) (a : Option ℕ) (b : ℕ) (o : Option Accessor) (e : Expr) (ks : List Kinded) (r : Result Typed (Fault RuleCode)) → o ≡ None → a ≡ Some b
-    → Judges typed_view (demanded_of s.classes at b (slice_get s.declared b) e ks) r → Judges typed_view (asked_by s at a o e ks) r
+    → Judges typed_view (demanded_of s.arguments s.classes at b (slice_get s.declared b) e ks) r
+    → Judges typed_view (asked_by s at a o e ks) r
 by_attribute s at a b o e ks r none is so = subst (λ p. Judges typed_view (asked_by s at a p e ks) r) (sym none) (subst (λ p. Judges typed_view (demanded s at p e ks) r) (sym is) so)
 
 -- an attribute that is declared
-pub demanded_there : (classes : Classes) (at : Place) (a : ℕ) (o : Option Declared) (d : Declared) (e : Expr)
-    (ks : List Kinded) (es : Exprs) → o ≡ Some d → fitted classes at ks d.parameters ≡ Is es
-    → demanded_of classes at a o e ks ≡ of_kind at (of_written d.result) (Call e a es)
-demanded_there classes at a o d e ks es is so = ap (λ p. demanded_of classes at a p e ks) is ∙ ap (and_then (λ xs. of_kind at (of_written d.result) (Call e a xs))) so
+pub demanded_there : (allowed : Arguments) (classes : Classes) (at : Place) (a : ℕ) (o : Option Declared) (d : Declared)
+    (e : Expr)
+    (ks : List Kinded) (es : Exprs) → o ≡ Some d → fitted allowed classes at ks d.parameters ≡ Is es
+    → demanded_of allowed classes at a o e ks ≡ of_kind at (of_written d.result) (Call e a es)
+demanded_there allowed classes at a o d e ks es is so = ap (λ p. demanded_of allowed classes at a p e ks) is
+    ∙ ap (and_then (λ xs. of_kind at (of_written d.result) (Call e a xs))) so
 
 -- the whole -----------------------------------------------------------------------------------------------------------------
 

@@ -15,6 +15,8 @@ use Rattle.at_kinds.specs.Kinds.{known, of_written, is_int, is_truth, is_text, i
 use Rattle.at_kinds.specs.Judging.{Kinded, Judgement, Judged, Is, Wrong, and_then, of_kind, kind_if, Scope, bound_to, index_eq, within, named_by, named, this_node, negation, opposite, text_joined, added, joined, of_wider, chosen, beside, class_beside, cast, tested, one_argument, accessed, is_given_text, is_argument, misfit, bodies, bodies_or, fitted, demanded_of, demanded, asked_by, asked, asked_of, called, Listed, list_named, list_by, list_called, list_or, folded, folded_in, placed, judged, judged_all, judged_list}
 use Rattle.at_kinds.specs.KindTable.{IsNode, AreAlike, Wider, Fits, Computes, Orders, Compares, Decides, Gives, Answers, AreArguments, IsGiven, IsList}
 use Rattle.at_kinds.specs.KindTable as table
+use Rattle.at_kinds.specs.declared.arguments.Arguments.{Arguments}
+use Rattle.at_kinds.specs.declared.arguments.Arguments.TheVariants.{Given, Computed}
 use Rattle.at_rules.specs.declared.body.Kind.{Kind}
 use Rattle.at_rules.specs.declared.body.Kind.TheVariants as kind
 use Rattle.at_kinds.specs.declared.signatures.WrittenKind.{WrittenKind}
@@ -180,23 +182,31 @@ by_accessor s at name r ks c a e f g = asked_node s at name r ks c e f ∙ ap (�
 by_attribute : (s : Scope) (at : Place) (name : List ℕ) (r : Kinded) (ks : List Kinded) (c a : ℕ) (d : Declared)
     → r.kind ≡ Class c → bytes_eq name (codes "equals") ≡ false → accessor_named s.classes c name ≡ None
     → declared_named s.classes s.declared c name ≡ Some a → slice_get s.declared a ≡ Some d
-    → called s at name r ks ≡ demanded_of s.classes at a (Some d) r.body ks
+    → called s at name r ks ≡ demanded_of s.arguments s.classes at a (Some d) r.body ks
 by_attribute s at name r ks c a d e f g h i =
     asked_node s at name r ks c e f ∙ ap (λ o. asked_by s at (declared_named s.classes s.declared c name) o r.body ks) g
-    ∙ ap (λ o. demanded s at o r.body ks) h ∙ ap (λ o. demanded_of s.classes at a o r.body ks) i
+    ∙ ap (λ o. demanded s at o r.body ks) h ∙ ap (λ o. demanded_of s.arguments s.classes at a o r.body ks) i
 
 one_fits : (test : ExprKind → Bool) (at : Place) (k : Kinded) → test k.kind ≡ true → one_argument test at (k ∷ []) ≡ Is k.body
 one_fits test at k e = rw e refl
 
-fitted_is : (classes : Classes) (at : Place) (ks : List Kinded) (ps : List WrittenKind) → nat_eq (length ks) (length ps) ≡ true → misfit classes ks ps ≡ None → fitted classes at ks ps ≡ Is (bodies ks)
-fitted_is classes at ks ps e f = rw e (ap (bodies_or ks) f)
+fitted_is : (allowed : Arguments) (classes : Classes) (at : Place) (ks : List Kinded) (ps : List WrittenKind)
+    → nat_eq (length ks) (length ps) ≡ true → misfit allowed classes ks ps ≡ None
+    → fitted allowed classes at ks ps ≡ Is (bodies allowed ks)
+fitted_is allowed classes at ks ps e f = rw e (ap (bodies_or allowed ks) f)
 
-by_word : (classes : Classes) (k : Kinded) (p : WrittenKind) → fits classes k.kind p ≡ true → (p ≡ Known kind.Text → is_given_text k.body ≡ true) → is_argument classes k p ≡ true
+by_word : (classes : Classes) (k : Kinded) (p : WrittenKind) → fits classes k.kind p ≡ true
+    → (p ≡ Known kind.Text → is_given_text k.body ≡ true) → is_argument Given classes k p ≡ true
 by_word classes k (Known kind.Text) e h = and_true (fits classes k.kind (Known kind.Text)) (is_given_text k.body) e (h refl)
 by_word classes k (Known kind.Int) e h = and_true (fits classes k.kind (Known kind.Int)) true e refl
 by_word classes k (Known kind.Bool) e h = and_true (fits classes k.kind (Known kind.Bool)) true e refl
 by_word classes k (Known (kind.Class b)) e h = and_true (fits classes k.kind (Known (kind.Class b))) true e refl
 by_word classes k (Nowhere first) e h = and_true (fits classes k.kind (Nowhere first)) true e refl
+
+fits_argument : (allowed : Arguments) (classes : Classes) (k : Kinded) (p : WrittenKind) → fits classes k.kind p ≡ true
+    → (allowed ≡ Given → p ≡ Known kind.Text → is_given_text k.body ≡ true) → is_argument allowed classes k p ≡ true
+fits_argument Given classes k p e h = by_word classes k p e (h refl)
+fits_argument Computed classes k p e h = and_true (fits classes k.kind p) true e refl
 
 -- a token that is read is given
 token_given : (at : Place) (part : ℕ) (k : Kind) (e : body.Expr) (ks : List Kinded) (m : Kinded) → accessed at (accessor.Token part k) e ks ≡ Is m → is_given_text m.body ≡ true
@@ -212,7 +222,8 @@ made f (Wrong c at) b e = absurd cc
 
 -- the arguments are judged, and fit
 abbrev AreJudged : Scope → written.Exprs → List WrittenKind → Type 0
-AreJudged s es ps = (ks : List Kinded) × (judged_all s es ≡ Is ks) × (nat_eq (length ks) (length ps) ≡ true) × (misfit s.classes ks ps ≡ None)
+AreJudged s es ps = (ks : List Kinded) × (judged_all s es ≡ Is ks) × (nat_eq (length ks) (length ps) ≡ true)
+    × (misfit s.arguments s.classes ks ps ≡ None)
 
 -- asked of whatever has that kind, it comes to the other one
 abbrev AreAsked : Scope → ExprKind → List ℕ → written.Exprs → ExprKind → Type 0
@@ -327,8 +338,9 @@ mutual
         ks,
         e,
         λ at r is. comes_by (by_attribute s at name r ks c a d is n none declared is_there
-            ∙ ap (and_then (λ es. of_kind at (of_written d.result) (body.Call r.body a es))) (fitted_is s.classes at ks
-            d.parameters f g)) (comes at (of_written d.result) (body.Call r.body a (bodies ks))),
+            ∙ ap (and_then (λ es. of_kind at (of_written d.result) (body.Call r.body a es)))
+            (fitted_is s.arguments s.classes at ks
+            d.parameters f g)) (comes at (of_written d.result) (body.Call r.body a (bodies s.arguments ks))),
       )
 
   arguments : {s : Scope} {es : written.Exprs} {ps : List WrittenKind} → AreArguments s es ps → AreJudged s es ps
@@ -339,7 +351,8 @@ mutual
         k ∷ ks,
         one_more s e es k ks f i,
         more_args (length ks) (length ps) l,
-        rw (by_word s.classes k p (ap (λ z. fits s.classes z p) h ∙ fits_true w) (λ is. given (t is) k f)) m,
+        rw (fits_argument s.arguments s.classes k p (ap (λ z. fits s.classes z p) h ∙ fits_true w)
+            (λ alone is. given (t alone is) k f)) m,
       )
 
   given : {s : Scope} {e : written.Expr} → IsGiven s e → (m : Kinded) → judged s e ≡ Is m → is_given_text m.body ≡ true

@@ -1,6 +1,6 @@
 -- The kinds of expressions as they are written, and the bodies that they mean; or their first fault: parts before the whole, from
 -- left to right. The place of a fault is that of the form at which it is found, or of an argument.
-use Rattle.std.specs.Prelude.{ℕ, Bool, true, false, ◌&&◌, nat_eq, List, [], ◌∷◌, length, codes, position, Option, Some, None, option_map, option_and_then, slice_get, if◌then◌else◌}
+use Rattle.std.specs.Prelude.{ℕ, Bool, true, false, ◌&&◌, not, nat_eq, List, [], ◌∷◌, length, codes, position, Option, Some, None, option_map, option_and_then, slice_get, if◌then◌else◌}
 use Rattle.std.specs.Str.{bytes_eq}
 use Rattle.at_model.specs.Classes.{Classes, class_of_name}
 use Rattle.at_model.specs.Bodies as body
@@ -11,6 +11,8 @@ use Rattle.at_jrag.specs.Syntax as written
 use Rattle.at_kinds.specs.Signatures.{Declared, declared_named}
 use Rattle.at_kinds.specs.Accessors.{accessor_named, listed}
 use Rattle.at_kinds.specs.Kinds.{known, of_written, is_int, is_truth, is_text, is_node, fits, wider, are_ints, are_truths, are_alike}
+use Rattle.at_kinds.specs.declared.arguments.Arguments.{Arguments}
+use Rattle.at_kinds.specs.declared.arguments.Arguments.TheVariants.{Given, Computed}
 use Rattle.at_kinds.specs.declared.code.RuleCode.{RuleCode}
 use Rattle.at_kinds.specs.declared.code.RuleCode.TheVariants as code
 use Rattle.at_rules.specs.declared.body.Kind.TheVariants as kind
@@ -56,6 +58,7 @@ pub record Bound : Type 0 where
 pub record Scope : Type 0 where
   pub classes : Classes
   pub declared : List Declared
+  pub arguments : Arguments
   pub this : ℕ
   pub names : List Bound
   pub index : Option (List ℕ)
@@ -196,35 +199,58 @@ abbrev pub is_text_word : WrittenKind → Bool
 is_text_word (Known kind.Text) = true
 is_text_word k = false
 
+-- it may stand for a parameter of that kind, which it fits
+abbrev pub is_allowed : Arguments → WrittenKind → Expr → Bool
+is_allowed Given p e = if is_text_word p then is_given_text e else true
+is_allowed Computed p e = true
+
 -- it may be the argument for a parameter of that kind
-abbrev pub is_argument : Classes → Kinded → WrittenKind → Bool
-is_argument classes k p = fits classes k.kind p && (if is_text_word p then is_given_text k.body else true)
+abbrev pub is_argument : Arguments → Classes → Kinded → WrittenKind → Bool
+is_argument allowed classes k p = fits classes k.kind p && is_allowed allowed p k.body
 
 -- the place of the first argument that is wrong for its parameter
-abbrev pub misfit : Classes → List Kinded → List WrittenKind → Option Place
-misfit classes [] ps = None
-misfit classes (k ∷ ks) [] = None
-misfit classes (k ∷ ks) (p ∷ ps) = if is_argument classes k p then misfit classes ks ps else Some k.at
+abbrev pub misfit : Arguments → Classes → List Kinded → List WrittenKind → Option Place
+misfit allowed classes [] ps = None
+misfit allowed classes (k ∷ ks) [] = None
+misfit allowed classes (k ∷ ks) (p ∷ ps) = if is_argument allowed classes k p then misfit allowed classes ks ps else Some k.at
 
-abbrev pub bodies : List Kinded → Exprs
-bodies [] = no_exprs
-bodies (k ∷ ks) = expr k.body (bodies ks)
+-- an int that is written out
+abbrev pub is_number : Expr → Bool
+is_number (body.IntLiteral n) = true
+is_number e = false
 
-abbrev pub bodies_or : List Kinded → Option Place → Judgement Exprs
-bodies_or ks None = Is (bodies ks)
-bodies_or ks (Some at) = Wrong code.Argument at
+-- an int that isn't written out, or a text that wasn't given
+abbrev pub is_computed : ExprKind → Expr → Bool
+is_computed Int e = not (is_number e)
+is_computed Text e = not (is_given_text e)
+is_computed k e = false
+
+-- the body of an argument: what is computed is looked at when it is passed
+abbrev pub passed_for : Arguments → Kinded → Expr
+passed_for Given k = k.body
+passed_for Computed k = if is_computed k.kind k.body then body.Passed k.body else k.body
+
+abbrev pub bodies : Arguments → List Kinded → Exprs
+bodies allowed [] = no_exprs
+bodies allowed (k ∷ ks) = expr (passed_for allowed k) (bodies allowed ks)
+
+abbrev pub bodies_or : Arguments → List Kinded → Option Place → Judgement Exprs
+bodies_or allowed ks None = Is (bodies allowed ks)
+bodies_or allowed ks (Some at) = Wrong code.Argument at
 
 -- as many arguments as parameters, each of which fits
-abbrev pub fitted : Classes → Place → List Kinded → List WrittenKind → Judgement Exprs
-fitted classes at ks ps = if nat_eq (length ks) (length ps) then bodies_or ks (misfit classes ks ps) else Wrong code.Argument at
+abbrev pub fitted : Arguments → Classes → Place → List Kinded → List WrittenKind → Judgement Exprs
+fitted allowed classes at ks ps =
+    if nat_eq (length ks) (length ps) then bodies_or allowed ks (misfit allowed classes ks ps) else Wrong code.Argument at
 
-abbrev pub demanded_of : Classes → Place → ℕ → Option Declared → Expr → List Kinded → Judged
-demanded_of classes at a None e ks = Wrong code.UnknownName at
-demanded_of classes at a (Some d) e ks = and_then (λ es. of_kind at (of_written d.result) (body.Call e a es)) (fitted classes at ks d.parameters)
+abbrev pub demanded_of : Arguments → Classes → Place → ℕ → Option Declared → Expr → List Kinded → Judged
+demanded_of allowed classes at a None e ks = Wrong code.UnknownName at
+demanded_of allowed classes at a (Some d) e ks =
+    and_then (λ es. of_kind at (of_written d.result) (body.Call e a es)) (fitted allowed classes at ks d.parameters)
 
 abbrev pub demanded : Scope → Place → Option ℕ → Expr → List Kinded → Judged
 demanded s at None e ks = Wrong code.UnknownName at
-demanded s at (Some a) e ks = demanded_of s.classes at a (slice_get s.declared a) e ks
+demanded s at (Some a) e ks = demanded_of s.arguments s.classes at a (slice_get s.declared a) e ks
 
 abbrev pub asked_by : Scope → Place → Option ℕ → Option Accessor → Expr → List Kinded → Judged
 asked_by s at a (Some accessor) e ks = accessed at accessor e ks

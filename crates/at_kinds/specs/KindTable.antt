@@ -10,6 +10,7 @@ use Rattle.at_kinds.specs.Signatures.{Declared, declared_named}
 use Rattle.at_kinds.specs.Accessors.{accessor_named, listed}
 use Rattle.at_kinds.specs.Kinds.{known, of_written}
 use Rattle.at_kinds.specs.Judging.{Scope, bound_to, index_eq, within}
+use Rattle.at_kinds.specs.declared.arguments.Arguments.TheVariants as arguments
 use Rattle.at_rules.specs.declared.body.Kind.{Kind}
 use Rattle.at_rules.specs.declared.body.Kind.TheVariants as kind
 use Rattle.at_kinds.specs.declared.signatures.WrittenKind.{WrittenKind}
@@ -149,11 +150,12 @@ mutual
         → accessor_named s.classes c name ≡ None → declared_named s.classes s.declared c name ≡ Some a → slice_get s.declared a ≡ Some d
         → AreArguments s es d.parameters → Answers s (Class c) name es (of_written d.result)
 
-  -- as many arguments as parameters, each of which fits; a text among them is given
+  -- as many arguments as parameters, each of which fits; where none may be computed a text among them is given
   pub data AreArguments : Scope → written.Exprs → List WrittenKind → Type 0 where
     none : {s : Scope} → AreArguments s written.no_exprs []
     argument : {s : Scope} {e : written.Expr} {es : written.Exprs} {k : ExprKind} {p : WrittenKind} {ps : List WrittenKind} → Gives s e k
-        → Fits s.classes k p → (p ≡ Known kind.Text → IsGiven s e) → AreArguments s es ps → AreArguments s (written.expr e es) (p ∷ ps)
+        → Fits s.classes k p → (s.arguments ≡ arguments.Given → p ≡ Known kind.Text → IsGiven s e) → AreArguments s es ps
+        → AreArguments s (written.expr e es) (p ∷ ps)
 
   -- parentheses aside, the text is a literal, a parameter's or a token's
   pub data IsGiven : Scope → written.Expr → Type 0 where

@@ -8,6 +8,8 @@ use Rattle.at_jrag.specs.Syntax as written
 use Rattle.at_rules.specs.declared.body.Kind.TheVariants as kind
 use Rattle.at_kinds.specs.Judging.{Bound, Is, Scope, judged}
 use Rattle.at_kinds.specs.Signatures.{Declared}
+use Rattle.at_kinds.specs.declared.arguments.Arguments.{Arguments}
+use Rattle.at_kinds.specs.declared.arguments.Arguments.TheVariants.{Given, Computed}
 use Rattle.at_kinds.specs.declared.signatures.WrittenKind.TheVariants.{Known}
 use Rattle.at_kinds.specs.declared.typing.kinds.ExprKind.{ExprKind}
 
@@ -17,21 +19,27 @@ here = record { line = 1; column = 1 }
 
 -- ---- where it stands
 
--- syn Decl Block.local(String n); syn boolean Stmt.covers(Decl d, String n); syn int Expr.value();
+-- syn Decl Block.local(String n); syn boolean Stmt.covers(Decl d, String n); syn int Expr.value(); syn int Block.level(int n, boolean b);
 abbrev pub attributes : List Declared
 attributes =
     record { name = codes "local"; class = Some 2; parameters = Known kind.Text ∷ []; result = Known (kind.Class 3) }
     ∷ record { name = codes "covers"; class = Some 1; parameters = Known (kind.Class 3) ∷ Known kind.Text ∷ []; result = Known kind.Bool }
     ∷ record { name = codes "value"; class = Some 5; parameters = []; result = Known kind.Int }
+    ∷ record { name = codes "level"; class = Some 2; parameters = Known kind.Int ∷ Known kind.Bool ∷ []; result = Known kind.Int }
     ∷ []
 
 -- the parameters Decl d and String n
 abbrev pub parameters : List Bound
 parameters = record { name = codes "d"; kind = Known (kind.Class 3) } ∷ record { name = codes "n"; kind = Known kind.Text } ∷ []
 
--- in an equation of that class with these parameters, and with i for the index
+-- in an equation of that class with these parameters, and with i for the index, where such arguments may be passed
+abbrev pub inside_with : Arguments → ℕ → Scope
+inside_with allowed c =
+    record { classes = calc_classes; declared = attributes; arguments = allowed; this = c; names = parameters; index = Some (codes "i") }
+
+-- so where nothing that is computed may be passed
 abbrev pub inside : ℕ → Scope
-inside c = record { classes = calc_classes; declared = attributes; this = c; names = parameters; index = Some (codes "i") }
+inside c = inside_with Given c
 
 -- in an equation of the class it has the kind, and means the body
 abbrev pub MeansIn : ℕ → written.Expr → ExprKind → body.Expr → Type 0
@@ -40,6 +48,10 @@ MeansIn c e k b = judged (inside c) e ≡ Is (record { at = place e; kind = k; b
 -- so it is in an equation of Block
 abbrev pub Means : written.Expr → ExprKind → body.Expr → Type 0
 Means e k b = MeansIn 2 e k b
+
+-- so it is where what is computed may be passed
+abbrev pub MeansComputed : written.Expr → ExprKind → body.Expr → Type 0
+MeansComputed e k b = judged (inside_with Computed 2) e ≡ Is (record { at = place e; kind = k; body = b })
 
 -- ---- as it is written
 
@@ -109,6 +121,14 @@ two = number (pos 2)
 
 abbrev pub int : ℕ → body.Expr
 int n = body.IntLiteral (pos n)
+
+-- ---- a text with an x behind it, and its body
+
+abbrev pub longer : written.Expr
+longer = between written.Add (name (codes "n")) (text (codes "x"))
+
+abbrev pub longer_body : body.Expr
+longer_body = body.Join (body.Name 1) (body.TextLiteral (codes "x"))
 
 -- a body's arguments
 abbrev pub arguments : List body.Expr → body.Exprs

@@ -1,9 +1,12 @@
 -- What the values of typing stand for, and what is said of a result.
-use Rattle.std.specs.Prelude.{◌≡◌, List, map, option_map, Result, Ok, Err, Vec, Box, string_bytes}
+use Rattle.std.specs.Prelude.{◌≡◌, List, map, option_map, Result, Ok, Err, Vec, Box, string_bytes, if◌then◌else◌}
 use Rattle.at_model.specs.Bodies.{Expr}
 use Rattle.at_rules.specs.Bodies.{body_view}
 use Rattle.at_rules.specs.declared.body.Body.{Body}
-use Rattle.at_kinds.specs.Judging.{Kinded, Judgement, Is, Wrong, Bound, Scope, Listed}
+use Rattle.at_rules.specs.declared.body.Body as body
+use Rattle.at_kinds.specs.Judging.{Kinded, Judgement, Is, Wrong, Bound, Scope, Listed, is_computed}
+use Rattle.at_kinds.specs.declared.arguments.Arguments.{Arguments}
+use Rattle.at_kinds.specs.declared.arguments.Arguments.TheVariants.{Given, Computed}
 use Rattle.at_kinds.specs.declared.code.RuleCode.{RuleCode}
 use Rattle.at_kinds.specs.declared.typing.kinds.Typed.{Typed}
 use Rattle.at_kinds.specs.declared.typing.folds.List.{List as ListValue}
@@ -18,6 +21,11 @@ boxed_view b = body_view b.value
 abbrev pub typed_view : Typed → Kinded
 typed_view t = record { at = t.at; kind = t.kind; body = body_view t.body.value }
 
+-- the body of an argument: what is computed is looked at when it is passed
+abbrev pub passed_body : Arguments → Typed → Body
+passed_body Given t = t.body.value
+passed_body Computed t = if is_computed t.kind (body_view t.body.value) then body.Passed t.body else t.body.value
+
 abbrev pub all_view : {Z : Type 0} → Vec Typed Z → List Kinded
 all_view ts = map typed_view ts.items
 
@@ -31,6 +39,7 @@ abbrev pub scope_view : ScopeValue → Scope
 scope_view s = record {
   classes = s.classes.now;
   declared = s.signatures.now;
+  arguments = s.arguments;
   this = s.this;
   names = map bound_view s.names.now;
   index = option_map (λ n. n.now) s.index;

@@ -9,6 +9,7 @@ ghost use Rattle.at_rules.specs.declared.body.Kind.TheVariants as known;
 ghost use Rattle.at_kinds.specs.Judging.{Is, Wrong, body_of, judged};
 ghost use Rattle.at_kinds.specs.SampleForms.{
   Means,
+  MeansComputed,
   MeansIn,
   arguments,
   between,
@@ -19,7 +20,10 @@ ghost use Rattle.at_kinds.specs.SampleForms.{
   fold,
   here,
   inside,
+  inside_with,
   int,
+  longer,
+  longer_body,
   name,
   no,
   null,
@@ -33,6 +37,7 @@ ghost use Rattle.at_kinds.specs.SampleForms.{
   two,
   yes,
 };
+ghost use Rattle.at_kinds.specs.declared.arguments.Arguments.TheVariants.{Computed};
 ghost use Rattle.at_kinds.specs.declared.code.RuleCode.TheVariants as code;
 ghost use Rattle.at_kinds.specs.declared.signatures.WrittenKind.TheVariants as wanted;
 ghost use Rattle.at_kinds.specs.declared.typing.kinds.ExprKind.TheVariants as kind;
@@ -138,6 +143,20 @@ pub fn calls()
         (body.Call statement_body 1 (arguments (body.Name 0 ∷ body.Name 1 ∷ []))) }
     ensures none { Means (call_of (call_of (name (codes "d")) (codes "getInit") []) (codes "value") []) kind.Int
         (body.Call (body.Child (body.Name 0) 1) 2 (arguments [])) }
+{}
+
+/// A text that is joined is no argument where only what was given is. Where what is computed may be passed it is looked at when it is
+/// passed, and so is an int; a literal, a parameter that is a text, and a boolean are passed as they stand.
+pub fn computed_arguments()
+    ensures refused { judged (inside 2) (call (codes "local") (longer ∷ [])) ≡ Wrong code.Argument here }
+    ensures text { MeansComputed (call (codes "local") (longer ∷ [])) (kind.Class 3)
+        (body.Call body.This 0 (arguments (body.Passed longer_body ∷ []))) }
+    ensures given { MeansComputed (call (codes "local") (name (codes "n") ∷ [])) (kind.Class 3) (body.Call body.This 0 (arguments (body.Name 1 ∷ []))) }
+    ensures int { MeansComputed (call (codes "level") (name (codes "i") ∷ written.Not here yes ∷ [])) kind.Int
+        (body.Call body.This 3 (arguments (body.Passed body.IndexName ∷ body.Not (body.TruthLiteral true) ∷ []))) }
+    ensures literal { MeansComputed (call (codes "level") (seven ∷ no ∷ [])) kind.Int
+        (body.Call body.This 3 (arguments (int 7 ∷ body.TruthLiteral false ∷ []))) }
+    ensures other { judged (inside_with Computed 2) (call (codes "level") (yes ∷ no ∷ [])) ≡ Wrong code.Argument here }
 {}
 
 /// Folds over a list of this node, and of another one. The fold's name comes before the parameters.

@@ -13,6 +13,7 @@
 #![tactic(auto)]
 
 pub mod accessors;
+mod arguments;
 mod code;
 pub mod components;
 pub mod form_cases;
@@ -20,4 +21,5 @@ pub mod laws;
 pub mod signatures;
 pub mod typing;
 
+pub use arguments::Arguments;
 pub use code::RuleCode;

@@ -17,6 +17,7 @@ mod names;
 mod operators;
 mod wholes;
 
+use crate::arguments::Arguments;
 use crate::code::RuleCode;
 use crate::signatures::{Signatures, WrittenKind};
 use at_class::{ClassId, ClassTable};
@@ -49,12 +50,13 @@ pub struct Bound {
 }
 
 /// Where a body stands: `this` is a node of the class; the names are those of the parameters in their
-/// order. An inherited equation for a list may have a name for the index.
+/// order. An inherited equation for a list may have a name for the index. The attributes that are called take such arguments.
 #[derive(Clone, Copy)]
 pub struct Scope<'a> {
     pub alloc: Global,
     pub classes: &'a ClassTable,
     pub signatures: &'a Signatures,
+    pub arguments: Arguments,
     pub this: ClassId,
     pub names: &'a [Bound],
     pub index: Option<&'a str>,
@@ -179,6 +181,7 @@ impl Scope<'_> {
             alloc: self.alloc,
             classes: self.classes,
             signatures: self.signatures,
+            arguments: self.arguments,
             this: self.this,
             names: names.as_slice(),
             index: self.index,

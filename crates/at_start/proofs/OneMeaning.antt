@@ -24,7 +24,7 @@ use Rattle.at_java.specs.Aliases.{Alias}
 use Rattle.at_java.specs.Files.{aspects_of}
 use Rattle.at_java.specs.Read.{got}
 use Rattle.at_start.specs.Lists.{aliases_in}
-use Rattle.at_start.specs.AspectFiles.{AllHold, GivesRules, IsWritten}
+use Rattle.at_start.specs.AspectFiles.{AllHold, GivesRules, IsWritten, arguments_in}
 use Rattle.at_start.specs.Redeclaring.{read_in}
 use Rattle.at_start.proofs.Ruled.{made_builds}
 use Rattle.at_start.specs.declared.language.Language.{Language}
@@ -74,7 +74,8 @@ pub rules_once : (language : Language) (cs ds : Classes) (files : List (List ℕ
     → GivesRules language cs files rules → GivesRules language ds files others → rules ≡ others
 rules_once language cs ds files rules others same h k =
     let held = subst (λ (c : Classes). AllHold language (aliases_in language c) files h.aspects) same h.hold in
-    (made_builds language cs h.aspects rules h.built).1 ∙ ap₂ (λ c as'. rules_of c (located 1 (read_in language c as'))) same
+    (made_builds language cs h.aspects rules h.built).1 ∙ ap₂
+    (λ c as'. rules_of (arguments_in language) c (located 1 (read_in language c as'))) same
     (all_held_once language (aliases_in language ds) files h.aspects k.aspects held k.hold)
     ∙ sym (made_builds language ds k.aspects others k.built).1
 

@@ -8,6 +8,7 @@ use Rattle.at_model.specs.Classes.{Classes}
 use Rattle.at_model.specs.Rules.{Rules}
 use Rattle.at_text.specs.declared.place.Place.{Place}
 use Rattle.at_jrag.specs.Syntax.{Aspect}
+use Rattle.at_kinds.specs.declared.arguments.Arguments.{Arguments}
 use Rattle.at_typing.specs.Building.{Builds}
 use Rattle.at_typing.specs.Located.{Located, located}
 use Rattle.at_typing.specs.declared.fault.Breach.{Breach}
@@ -16,7 +17,7 @@ use Rattle.at_text.specs.declared.fault.Failure.TheVariants.{For, Memory as Lack
 use Rattle.at_jrag.specs.declared.syntax.Aspect.{Aspect as AspectValue}
 use Rattle.at_java.specs.Aliases.{Alias}
 use Rattle.at_start.specs.Lists.{aliases_in}
-use Rattle.at_start.specs.AspectFiles.{GivesRules, Holds, AllHold, BuildsBehind, IsReadingFaultOf, IsUnread, IsAspectFault, IsRuleFault, Makes, rule_code, no_file, breaks}
+use Rattle.at_start.specs.AspectFiles.{GivesRules, Holds, AllHold, BuildsBehind, IsReadingFaultOf, IsUnread, IsAspectFault, IsRuleFault, Makes, arguments_in, rule_code, no_file, breaks}
 use Rattle.at_start.specs.Redeclaring.{Reads, fault_in, read_in}
 use Rattle.at_start.proofs.Rereading.{aspects_of}
 use Rattle.at_start.specs.declared.code.Code.{Code}
@@ -83,29 +84,32 @@ unread_refuses language classes files Memory h = h
 
 -- ---- faults that are met before the declarations are gone through
 
-module _ (classes : Classes) (ds : List Located) where
+module _ (allowed : Arguments) (classes : Classes) (ds : List Located) where
   pub stray_told : {T : Type 0} (P : T → Type 0) (fault : Option Breach) (e : Failure Breach) → Reads fault P (Err e)
-      → BuildsBehind classes fault ds (Err e)
+      → BuildsBehind allowed classes fault ds (Err e)
   stray_told P None (For f) reads = absurd (none-some f reads)
   stray_told P (Some g) (For f) reads = sym (some_of reads)
   stray_told P None Lacking reads = tt
   stray_told P (Some g) Lacking reads = tt
 
   pub built_behind : (others : List Located) (fault : Option Breach) (result : Result Rules (Failure Breach)) → fault ≡ None → others ≡ ds
-      → Builds classes others result → BuildsBehind classes fault ds result
-  built_behind others None result none same built = subst (λ (xs : List Located). Builds classes xs result) same built
+      → Builds allowed classes others result → BuildsBehind allowed classes fault ds result
+  built_behind others None result none same built = subst (λ (xs : List Located). Builds allowed classes xs result) same
+      built
   built_behind others (Some f) result none same built = absurd (none-some f (sym none))
 
-builds_of : (classes : Classes) (fault : Option Breach) (ds : List Located) (rules : Rules) → BuildsBehind classes fault ds (Ok rules)
-    → Builds classes ds (Ok rules)
-builds_of classes None ds rules built = built
-builds_of classes (Some f) ds rules built = absurd built
+builds_of : (allowed : Arguments) (classes : Classes) (fault : Option Breach) (ds : List Located) (rules : Rules)
+    → BuildsBehind allowed classes fault ds (Ok rules)
+    → Builds allowed classes ds (Ok rules)
+builds_of allowed classes None ds rules built = built
+builds_of allowed classes (Some f) ds rules built = absurd built
 
 -- rules that aspects make are those of their declarations as they are read
 pub made_builds : (language : Language) (classes : Classes) (aspects : List (List Aspect)) (rules : Rules) → Makes language classes aspects (Ok rules)
-    → Builds classes (located 1 (read_in language classes aspects)) (Ok rules)
+    → Builds (arguments_in language) classes (located 1 (read_in language classes aspects)) (Ok rules)
 made_builds language classes aspects rules made =
-    builds_of classes (fault_in language classes aspects) (located 1 (read_in language classes aspects)) rules made
+    builds_of (arguments_in language) classes (fault_in language classes aspects)
+    (located 1 (read_in language classes aspects)) rules made
 
 -- ---- rules
 

@@ -11,6 +11,7 @@ use Rattle.at_jrag.specs.Syntax.{Aspect}
 use Rattle.at_jrag.specs.declared.Forms.{Forms}
 use Rattle.at_model.proofs.Everywhere.{all_both, found}
 use Rattle.at_rules.specs.Circular.{AreCircularLazy, HasNoneCircular}
+use Rattle.at_kinds.specs.declared.arguments.Arguments.TheVariants.{Given, Computed}
 use Rattle.at_typing.specs.Declaring.{IsNotCircular}
 use Rattle.at_typing.specs.Located.{IsSpelled, from_file, located}
 use Rattle.at_typing.proofs.BuiltWellFormed.{built_well_formed, built_plain, declared_well_formed}
@@ -39,10 +40,11 @@ pub given_well_formed : (language : Language) (classes : Classes) (files : List 
     → IsHierarchy classes
     → GivesRules language classes files rules → AreWellFormed rules
 given_well_formed (Profile forms) classes files rules hierarchy gives =
-    built_well_formed classes gives.aspects rules hierarchy (hold_spelled forms (aliases_in (Profile forms) classes) files gives.aspects gives.hold)
+    built_well_formed Given classes gives.aspects rules hierarchy
+    (hold_spelled forms (aliases_in (Profile forms) classes) files gives.aspects gives.hold)
     gives.built
 given_well_formed JastAdd classes files rules hierarchy gives =
-    declared_well_formed classes (located 1 (read_in JastAdd classes gives.aspects)) rules hierarchy
+    declared_well_formed Computed classes (located 1 (read_in JastAdd classes gives.aspects)) rules hierarchy
     (hold_ints (aliases_in JastAdd classes) classes files gives.aspects gives.hold)
     (hold_booleans (aliases_in JastAdd classes) classes files gives.aspects gives.hold)
     (made_builds JastAdd classes gives.aspects rules gives.built)
@@ -87,6 +89,7 @@ hold_plain forms names off n (f ∷ fs) (a ∷ as') hold =
 pub given_plain : (language : Language) → reads_circular language ≡ false → (classes : Classes) (files : List (List ℕ)) (rules : Rules)
     → GivesRules language classes files rules → HasNoneCircular rules
 given_plain (Profile forms) off classes files rules gives =
-    built_plain classes (located 1 gives.aspects) rules (hold_plain forms (aliases_in (Profile forms) classes) off 1 files gives.aspects gives.hold)
+    built_plain Given classes (located 1 gives.aspects) rules
+    (hold_plain forms (aliases_in (Profile forms) classes) off 1 files gives.aspects gives.hold)
     gives.built
 given_plain JastAdd off classes files rules gives = absurd (true≢false off)

@@ -21,6 +21,8 @@ use Rattle.at_start.specs.Redeclaring.{fault_in, read_in}
 use Rattle.at_typing.specs.Building.{Builds}
 use Rattle.at_typing.specs.Located.{Located, located}
 use Rattle.at_typing.specs.declared.fault.Breach.{Breach}
+use Rattle.at_kinds.specs.declared.arguments.Arguments.{Arguments}
+use Rattle.at_kinds.specs.declared.arguments.Arguments.TheVariants.{Given, Computed}
 use Rattle.at_kinds.specs.declared.code.RuleCode.{RuleCode}
 use Rattle.at_kinds.specs.declared.code.RuleCode.TheVariants as rule
 use Rattle.at_text.specs.declared.fault.Failure.{Failure}
@@ -50,6 +52,11 @@ IsWritten JastAdd names text aspects = java_files.Holds names text aspects
 abbrev pub reads_circular : Language → Bool
 reads_circular (Profile forms) = forms.circular
 reads_circular JastAdd = true
+
+-- what may be an argument of an attribute in the language
+abbrev pub arguments_in : Language → Arguments
+arguments_in (Profile forms) = Given
+arguments_in JastAdd = Computed
 
 -- the file is a text in which the aspects are written
 pub record Holds (language : Language) (names : List Alias) (bytes : List ℕ) (aspects : List Aspect) : Type 0 where
@@ -106,16 +113,16 @@ IsUnread language names files start.Memory = Unit {0}
 
 -- The rules that these declarations make, or their first fault; where there is a fault before them it is that one. Of want of memory
 -- nothing is said.
-abbrev pub BuildsBehind : Classes → Option Breach → List Located → Result Rules (Failure Breach) → Type 0
-BuildsBehind classes None ds result = Builds classes ds result
-BuildsBehind classes (Some f) ds (Ok rules) = ⊥
-BuildsBehind classes (Some f) ds (Err (For g)) = g ≡ f
-BuildsBehind classes (Some f) ds (Err Memory) = Unit {0}
+abbrev pub BuildsBehind : Arguments → Classes → Option Breach → List Located → Result Rules (Failure Breach) → Type 0
+BuildsBehind allowed classes None ds result = Builds allowed classes ds result
+BuildsBehind allowed classes (Some f) ds (Ok rules) = ⊥
+BuildsBehind allowed classes (Some f) ds (Err (For g)) = g ≡ f
+BuildsBehind allowed classes (Some f) ds (Err Memory) = Unit {0}
 
 -- the rules that aspects make, as they are read in the language
 abbrev pub Makes : Language → Classes → List (List Aspect) → Result Rules (Failure Breach) → Type 0
 Makes language classes aspects result =
-    BuildsBehind classes (fault_in language classes aspects) (located 1 (read_in language classes aspects)) result
+    BuildsBehind (arguments_in language) classes (fault_in language classes aspects) (located 1 (read_in language classes aspects)) result
 
 -- The files in that language give the rules over the classes: each file holds aspects, and all their declarations together
 -- make the rules.

@@ -6,7 +6,7 @@ ghost use Rattle.at_jrag.specs.View.{aspect_view};
 ghost use Rattle.at_model.specs.WellFormed.{AreWellFormed, IsHierarchy};
 ghost use Rattle.at_rules.specs.Circular.{AreCircularLazy};
 ghost use Rattle.at_evaluate.specs.Meant.{AreCircularWell};
-ghost use Rattle.at_start.specs.AspectFiles.{Holds, AllHold, GivesRules, IsReadingFaultOf, IsAspectFault, IsUnread, IsRuleFault, Makes, java_code, jrag_code, rule_code};
+ghost use Rattle.at_start.specs.AspectFiles.{Holds, AllHold, GivesRules, IsReadingFaultOf, IsAspectFault, IsUnread, IsRuleFault, Makes, arguments_in, java_code, jrag_code, rule_code};
 ghost use Rattle.at_start.specs.Files.{IsText, max_file};
 ghost use Rattle.at_start.specs.declared.language.Language.TheVariants.{Profile, JastAdd};
 ghost use Rattle.at_start.specs.Starts.{aspect_bytes};
@@ -20,7 +20,7 @@ use crate::redeclared::read_in;
 use at_class::ClassTable;
 use at_java::{Alias, JavaCode, parse_java};
 use at_jrag::{Aspect, Forms, JragCode, parse_jrag};
-use at_kinds::RuleCode;
+use at_kinds::{Arguments, RuleCode};
 use at_rules::Rules;
 use at_text::fault::{Failure, Fault};
 use at_text::place::Place;
@@ -174,7 +174,17 @@ fn built(
     ensures lazy { IfOk result AreCircularLazy }
 {
     let aspects = read_in(alloc, language, &classes, aspects)?;
-    at_typing::build(alloc, classes, &aspects)
+    at_typing::build(alloc, classes, arguments_in(language), &aspects)
+}
+
+/// What may be an argument of an attribute in the language.
+fn arguments_in(language: Language) -> Arguments
+    ensures { result ≡ arguments_in language }
+{
+    match language {
+        Language::Profile(_) => Arguments::Given,
+        Language::JastAdd => Arguments::Computed,
+    }
 }
 
 fn rule_code(code: RuleCode) -> Code

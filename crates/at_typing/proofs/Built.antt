@@ -13,6 +13,7 @@ use Rattle.at_typing.specs.Building.{meanings, meaning_if, refusal, refused_at, 
 use Rattle.at_complete.specs.Completing.{IsFirst, LacksOwn, LacksInherited}
 use Rattle.at_typing.specs.Completing.{IsDeclaredBy, AreDeclared, IsFirstFault}
 use Rattle.at_typing.specs.Declaring.{attributes, fault_at, is_attribute, fault_together}
+use Rattle.at_kinds.specs.declared.arguments.Arguments.{Arguments}
 use Rattle.at_kinds.specs.Judging.{Judgement, Is, Wrong}
 use Rattle.at_typing.specs.Located.{Located}
 use Rattle.at_typing.specs.Meanings.{Meaning, meant}
@@ -31,12 +32,13 @@ use Rattle.at_typing.proofs.MeaningParts.{OfAttribute, of_words}
 -- attributes that are declared ---------------------------------------------------------------------------------------------
 
 -- where no declaration has a fault, the attributes are those that are declared
-all_declared : (classes : Classes) (all : List Located) (k : ℕ) (some : List Located)
-    → first_given (refused_at classes all) k some ≡ None → AllZip (IsDeclaredBy classes) (attributes some)
-    (filter_map (λ (m : Meaning). m.attribute) (meanings classes all some))
-all_declared classes all k [] none = tt
-all_declared classes all k (d ∷ ds) none = by (meant classes all d) refl (first_none (refused_at classes all k d)
-    _ none) (all_declared classes all (k + 1) ds (other_none (refused_at classes all k d) _ none))
+all_declared : (allowed : Arguments) (classes : Classes) (all : List Located) (k : ℕ) (some : List Located)
+    → first_given (refused_at allowed classes all) k some ≡ None → AllZip (IsDeclaredBy classes) (attributes some)
+    (filter_map (λ (m : Meaning). m.attribute) (meanings allowed classes all some))
+all_declared allowed classes all k [] none = tt
+all_declared allowed classes all k (d ∷ ds) none = by (meant allowed classes all d) refl
+    (first_none (refused_at allowed classes all k d)
+    _ none) (all_declared allowed classes all (k + 1) ds (other_none (refused_at allowed classes all k d) _ none))
   where
     with_one : (b : Bool) (o : Option Attribute) → is_some o ≡ b → IfSome o (OfAttribute classes d)
         → (xs : List Located) (ys : List Attribute) → AllZip (IsDeclaredBy classes) xs ys
@@ -46,21 +48,28 @@ all_declared classes all k (d ∷ ds) none = by (meant classes all d) refl (firs
     with_one false None is of xs ys rest = rest
     with_one false (Some a) is of xs ys rest = absurd (true≢false is)
 
-    by : (j : Judgement Meaning) → meant classes all d ≡ j → refusal d j ≡ None → AllZip (IsDeclaredBy classes) (attributes ds) (filter_map (λ (m : Meaning). m.attribute) (meanings classes all ds))
+    by : (j : Judgement Meaning) → meant allowed classes all d ≡ j → refusal d j ≡ None
+        → AllZip (IsDeclaredBy classes) (attributes ds) (filter_map (λ (m : Meaning). m.attribute)
+        (meanings allowed classes all ds))
         → AllZip (IsDeclaredBy classes) (cond (is_attribute d.decl.form) (d ∷ attributes ds) (attributes ds))
-        (filter_map (λ (m : Meaning). m.attribute) (cons_option (meaning_if j) (meanings classes all ds)))
-    by (Is m) is faultless rest = let of = of_words classes all d m is in with_one (is_attribute d.decl.form) m.attribute of.declares of.attribute (attributes ds) _ rest
+        (filter_map (λ (m : Meaning). m.attribute) (cons_option (meaning_if j) (meanings allowed classes all ds)))
+    by (Is m) is faultless rest = let of = of_words allowed classes all d m is in
+        with_one (is_attribute d.decl.form) m.attribute of.declares of.attribute (attributes ds) _ rest
     by (Wrong c at) is faultless rest = absurd (none-some _ (sym faultless))
 
-pub are_declared : (classes : Classes) (ds : List Located) (rules : Rules) → first_fault classes ds ≡ None → rules ≡ rules_of classes ds → AreDeclared rules ds
-are_declared classes ds rules none is = subst (λ r. AreDeclared r ds) (sym is) (all_declared classes ds 0 ds (other_none (fault_together classes ds) _ none))
+pub are_declared : (allowed : Arguments) (classes : Classes) (ds : List Located) (rules : Rules)
+    → first_fault allowed classes ds ≡ None → rules ≡ rules_of allowed classes ds → AreDeclared rules ds
+are_declared allowed classes ds rules none is = subst (λ r. AreDeclared r ds) (sym is)
+    (all_declared allowed classes ds 0 ds (other_none (fault_together classes ds) _ none))
 
 -- the rules themselves
-pub same_rules : (classes : Classes) (ds : List Located) (names : List (String Global)) (e : Equations) (rules : Rules)
-    → Stands names (meanings classes ds ds) e → rules.classes ≡ classes
+pub same_rules : (allowed : Arguments) (classes : Classes) (ds : List Located) (names : List (String Global))
+    (e : Equations) (rules : Rules)
+    → Stands names (meanings allowed classes ds ds) e → rules.classes ≡ classes
     → rules.attributes ≡ map (attribute_view names) e.attributes.entries → rules.own ≡ map own_view e.own.entries
-    → rules.inherited ≡ map (inherited_view names) (named names e.inherited.entries) → rules ≡ rules_of classes ds
-same_rules classes ds names e rules stands same attributes own inherited =
+    → rules.inherited ≡ map (inherited_view names) (named names e.inherited.entries)
+    → rules ≡ rules_of allowed classes ds
+same_rules allowed classes ds names e rules stands same attributes own inherited =
     let p = attributes ∙ stands.attributes in
     let q = own ∙ stands.own in
     let r = inherited ∙ stands.inherited in
@@ -116,16 +125,23 @@ lack_nothing rules ds declared (Some f, first, behind) = absurd (none-some f beh
 
 -- what building comes to ---------------------------------------------------------------------------------------------------
 
-pub built : (classes : Classes) (ds : List Located) (rules : Rules) → first_fault classes ds ≡ None → rules ≡ rules_of classes ds → IsLack rules ds None → Builds classes ds (Ok rules)
-built classes ds rules none is lack = (subst (λ f. IsFault classes ds f None) (sym none) (subst (λ r. IsLack r ds None) is lack), is)
+pub built : (allowed : Arguments) (classes : Classes) (ds : List Located) (rules : Rules)
+    → first_fault allowed classes ds ≡ None → rules ≡ rules_of allowed classes ds → IsLack rules ds None
+    → Builds allowed classes ds (Ok rules)
+built allowed classes ds rules none is lack =
+    (subst (λ f. IsFault allowed classes ds f None) (sym none) (subst (λ r. IsLack r ds None) is lack), is)
 
-pub lacking : (classes : Classes) (ds : List Located) (rules : Rules) (e : Failure Breach) → first_fault classes ds
-    ≡ None → rules ≡ rules_of classes ds → Tells (IsLack rules ds) (Err e) → Builds classes ds (Err e)
-lacking classes ds rules (failure.For f) none is lack = subst (λ g. IsFault classes ds g (Some f)) (sym none) (subst (λ r. IsLack r ds (Some f)) is lack)
-lacking classes ds rules failure.Memory none is lack = tt
+pub lacking : (allowed : Arguments) (classes : Classes) (ds : List Located) (rules : Rules) (e : Failure Breach)
+    → first_fault allowed classes ds
+    ≡ None → rules ≡ rules_of allowed classes ds → Tells (IsLack rules ds) (Err e) → Builds allowed classes ds (Err e)
+lacking allowed classes ds rules (failure.For f) none is lack =
+    subst (λ g. IsFault allowed classes ds g (Some f)) (sym none) (subst (λ r. IsLack r ds (Some f)) is lack)
+lacking allowed classes ds rules failure.Memory none is lack = tt
 
 -- the first fault of the declarations
-pub meant_fault : (classes : Classes) (xs : List NumberedValue) (e : Failure Breach) → Means classes xs
-    (first_fault classes (map numbered_view xs)) (Err e) → Builds classes (map numbered_view xs) (Err e)
-meant_fault classes xs (failure.For f) is = subst (λ g. IsFault classes (map numbered_view xs) g (Some f)) (sym is) refl
-meant_fault classes xs failure.Memory is = tt
+pub meant_fault : (allowed : Arguments) (classes : Classes) (xs : List NumberedValue) (e : Failure Breach)
+    → Means allowed classes xs
+    (first_fault allowed classes (map numbered_view xs)) (Err e) → Builds allowed classes (map numbered_view xs) (Err e)
+meant_fault allowed classes xs (failure.For f) is =
+    subst (λ g. IsFault allowed classes (map numbered_view xs) g (Some f)) (sym is) refl
+meant_fault allowed classes xs failure.Memory is = tt

@@ -16,6 +16,7 @@ use Rattle.at_model.proofs.Options.{both}
 use Rattle.at_jrag.specs.Syntax.{Word, KindWord, Body, DeclForm}
 use Rattle.at_jrag.specs.Syntax as written
 use Rattle.at_rules.specs.Circular.{AreCircularLazy, HasNoneCircular}
+use Rattle.at_kinds.specs.declared.arguments.Arguments.{Arguments}
 use Rattle.at_kinds.specs.Accessors.{accessed, shape_of}
 use Rattle.at_typing.specs.Building.{meaning_if, meanings, first_fault, rules_of}
 use Rattle.at_typing.specs.Declaring.{attributes, is_attribute, is_inherited, IsNotCircular, body_in, index_in, class_text, name_text, is_below, is_sub_or_none, is_synthesized_by, synthesized_named, inherited_named, declared_twice, over_limit, accessor_named, fault_together}
@@ -73,7 +74,7 @@ below_by_words classes v w c b of to below = by (bytes_eq v w) refl below
         subst (λ n. is_sub classes c n ≡ true) f (sub_itself classes c (class_there classes v c of))
     by false is h = sym (ap (λ o. is_sub_or_none classes o (class_of_name classes w)) of ∙ ap (λ o. is_sub_or_none classes (Some c) o) to) ∙ h
 
-module _ (rules : Rules) (ds : List Located) (zip : AllZip (Declares rules.classes) (attributes ds) rules.attributes) where
+module _ (allowed : Arguments) (rules : Rules) (ds : List Located) (zip : AllZip (Declares rules.classes) (attributes ds) rules.attributes) where
   same_attribute : (n : ℕ) (a b : Attribute) → slice_get rules.attributes n ≡ Some a → slice_get rules.attributes n ≡ Some b → a ≡ b
   same_attribute n a b is at = let e : Some a ≡ Some b = sym is ∙ at in let f : a ≡ b = cc in f
 
@@ -86,13 +87,16 @@ module _ (rules : Rules) (ds : List Located) (zip : AllZip (Declares rules.class
   -- own equations -------------------------------------------------------------------------------------------------------
 
   own_right : (d : Located) (body : Body) (c : ℕ) → AreInts body.expr → class_of_name rules.classes (class_text d)
-      ≡ Some c → index_in d.decl.form ≡ None → Holds (IsOwnTyped rules) (own_meant rules.classes ds d body c)
+      ≡ Some c → index_in d.decl.form ≡ None → Holds (IsOwnTyped rules) (own_meant allowed rules.classes ds d body c)
   own_right d body c ints class no_index =
-      then_holds (λ e. IsBodyOf rules (signatures rules.classes ds) (signatures_same rules.classes ds rules.attributes
+      then_holds (λ e. IsBodyOf allowed rules (signatures rules.classes ds)
+      (signatures_same rules.classes ds rules.attributes
       zip) c false e × (synthesized_named rules.classes ds (class_text d) (name_text d) ≡ Some e.0))
       (IsOwnTyped rules) (λ e. Is (own_equation c e))
-      (body_meant rules.classes (signatures rules.classes ds) c d body (synthesized_named rules.classes ds (class_text d) (name_text d)))
-      (body_right rules (signatures rules.classes ds) (signatures_same rules.classes ds rules.attributes zip) c d body
+      (body_meant allowed rules.classes (signatures rules.classes ds) c d body
+      (synthesized_named rules.classes ds (class_text d) (name_text d)))
+      (body_right allowed rules (signatures rules.classes ds)
+      (signatures_same rules.classes ds rules.attributes zip) c d body
       (synthesized_named rules.classes ds (class_text d) (name_text d)) false ints
       (λ is. absurd (true≢false (sym is ∙ ap is_some no_index))))
       (λ e (of, numbered).
@@ -136,17 +140,19 @@ module _ (rules : Rules) (ds : List Located) (zip : AllZip (Declares rules.class
   module _ (alike : AreInheritedAlike rules) where
     inherited_right : (d : Located) (index : Option Word) (body : Body) (c : ℕ) (part : Option ℕ) → AreInts body.expr
         → c < length rules.classes → HasTrees rules.classes c part → index_in d.decl.form ≡ index
-        → Holds (IsInheritedTyped rules) (inherited_meant rules.classes ds d index body c part)
+        → Holds (IsInheritedTyped rules) (inherited_meant allowed rules.classes ds d index body c part)
     inherited_right d index body c part ints less trees has_index =
         then_holds (λ (u : Unit {0}). is_some index ≡ true → for_list d c part ≡ true) (IsInheritedTyped rules)
         (λ u. and_then (λ e. Is (inherited_equation d c part e.1))
-        (body_meant rules.classes (signatures rules.classes ds) c d body (inherited_named ds (name_text d))))
+        (body_meant allowed rules.classes (signatures rules.classes ds) c d body (inherited_named ds (name_text d))))
         (index_of_list rules.classes c part index) (index_right d c part index) (λ u indexed.
-        then_holds (λ e. IsBodyOf rules (signatures rules.classes ds) (signatures_same rules.classes ds rules.attributes
+        then_holds (λ e. IsBodyOf allowed rules (signatures rules.classes ds)
+        (signatures_same rules.classes ds rules.attributes
         zip) c (for_list d c part) e × (inherited_named ds (name_text d) ≡ Some e.0)) (IsInheritedTyped rules)
         (λ e. Is (inherited_equation d c part e.1))
-        (body_meant rules.classes (signatures rules.classes ds) c d body (inherited_named ds (name_text d)))
-        (body_right rules (signatures rules.classes ds) (signatures_same rules.classes ds rules.attributes zip) c d body
+        (body_meant allowed rules.classes (signatures rules.classes ds) c d body (inherited_named ds (name_text d)))
+        (body_right allowed rules (signatures rules.classes ds)
+        (signatures_same rules.classes ds rules.attributes zip) c d body
         (inherited_named ds (name_text d)) (for_list d c part) ints
         (λ is. indexed (sym (ap is_some has_index) ∙ is)))
         (λ e (of, numbered).
@@ -183,50 +189,59 @@ module _ (rules : Rules) (ds : List Located) (zip : AllZip (Declares rules.class
 
     with_body_right : (d : Located) (result : KindWord) (a : Attribute) (o : Option Body)
         → IsOfWord rules.classes d result a → index_in d.decl.form ≡ None → IfSome o (λ b. AreInts b.expr)
-        → Holds AddsTyped (with_body rules.classes ds d o a)
+        → Holds AddsTyped (with_body allowed rules.classes ds d o a)
     with_body_right d result a None of no_index ints = (tt, tt)
     with_body_right d result a (Some body) of no_index ints =
-        then_holds (IsOwnTyped rules) AddsTyped (declared_with a) (own_meant rules.classes ds d body a.class) (own_right d body a.class ints (of.declared []).class no_index) (λ e typed. (typed, tt))
+        then_holds (IsOwnTyped rules) AddsTyped (declared_with a) (own_meant allowed rules.classes ds d body a.class)
+        (own_right d body a.class ints (of.declared []).class no_index) (λ e typed. (typed, tt))
 
-    form_right : (d : Located) (form : DeclForm) → d.decl.form ≡ form → AreIntsIn d → Holds AddsTyped (form_meant rules.classes ds d form)
+    form_right : (d : Located) (form : DeclForm) → d.decl.form ≡ form → AreIntsIn d
+        → Holds AddsTyped (form_meant allowed rules.classes ds d form)
     form_right d (written.Synthesized lazy result class name params start ending) at ints =
-        then_holds (IsOfWord rules.classes d result) AddsTyped (with_body rules.classes ds d (body_in d.decl.form))
-        (attribute_meant rules.classes d result) (attribute_right rules.classes d result)
+        then_holds (IsOfWord rules.classes d result) AddsTyped
+        (with_body allowed rules.classes ds d (body_in d.decl.form))
+        (attribute_meant allowed rules.classes d result) (attribute_right allowed rules.classes d result)
         (λ a of. with_body_right d result a (body_in d.decl.form) of (ap index_in at) ints)
-    form_right d (written.Inherited lazy result class name params start) at ints = none_holds AddsTyped declared_alone (attribute_meant rules.classes d result) (λ a. (tt, tt))
+    form_right d (written.Inherited lazy result class name params start) at ints =
+        none_holds AddsTyped declared_alone (attribute_meant allowed rules.classes d result) (λ a. (tt, tt))
     form_right d (written.Equation class name params body) at ints =
         then_holds (λ c. class_of_name rules.classes class.text ≡ Some c) AddsTyped
-        (λ c. and_then own_alone (own_meant rules.classes ds d body c)) (class_named rules.classes class)
+        (λ c. and_then own_alone (own_meant allowed rules.classes ds d body c)) (class_named rules.classes class)
         (class_named_right rules.classes class) (λ c is.
-        then_holds (IsOwnTyped rules) AddsTyped own_alone (own_meant rules.classes ds d body c) (own_right d body c
+        then_holds (IsOwnTyped rules) AddsTyped own_alone (own_meant allowed rules.classes ds d body c)
+        (own_right d body c
         (ints_of d body (ap body_in at) ints) (ap (λ f. class_of_name rules.classes (class_word f).text) at ∙ is)
         (ap index_in at)) (λ e typed. (typed, tt)))
     form_right d (written.InheritedEquation class getter index name params body) at ints =
-        then_holds (λ c. class_of_name rules.classes class.text ≡ Some c) AddsTyped (below_class rules.classes ds d
+        then_holds (λ c. class_of_name rules.classes class.text ≡ Some c) AddsTyped
+        (below_class allowed rules.classes ds d
         getter index body) (class_named rules.classes class) (class_named_right rules.classes class) (λ c is.
-        then_holds (HasTrees rules.classes c) AddsTyped (below_component rules.classes ds d index body c) (component_got rules.classes c getter) (component_right rules.classes c getter) (λ part trees.
-        then_holds (IsInheritedTyped rules) AddsTyped inherited_alone (inherited_meant rules.classes ds d index body c
+        then_holds (HasTrees rules.classes c) AddsTyped (below_component allowed rules.classes ds d index body c)
+        (component_got rules.classes c getter) (component_right rules.classes c getter) (λ part trees.
+        then_holds (IsInheritedTyped rules) AddsTyped inherited_alone
+        (inherited_meant allowed rules.classes ds d index body c
         part) (inherited_right d index body c part (ints_of d body (ap body_in at) ints)
         (class_there rules.classes class.text c is) trees (ap index_in at)) (λ e typed. (tt, typed))))
 
-    pub meant_right : (d : Located) → AreIntsIn d → Holds AddsTyped (meant rules.classes ds d)
+    pub meant_right : (d : Located) → AreIntsIn d → Holds AddsTyped (meant allowed rules.classes ds d)
     meant_right d ints = form_right d d.decl.form refl ints
 
 -- what holds of what each declaration means holds of what they mean
-module _ {A : Type 0} (P : A → Type 0) (part : Meaning → Option A) (classes : Classes) (all : List Located) where
+module _ (allowed : Arguments) {A : Type 0} (P : A → Type 0) (part : Meaning → Option A) (classes : Classes) (all : List Located) where
   with_one : (o : Option A) → IfSome o P → (xs : List A) → AllByRecursion P xs → AllByRecursion P (cons_option o xs)
   with_one None h xs rest = rest
   with_one (Some a) h xs rest = (h, rest)
 
   with_meaning : (j : Judgement Meaning) (some : List Located) → Holds (λ m. IfSome (part m) P) j
-      → AllByRecursion P (filter_map part (meanings classes all some))
-      → AllByRecursion P (filter_map part (cons_option (meaning_if j) (meanings classes all some)))
+      → AllByRecursion P (filter_map part (meanings allowed classes all some))
+      → AllByRecursion P (filter_map part (cons_option (meaning_if j) (meanings allowed classes all some)))
   with_meaning (Is m) some h rest = with_one (part m) h _ rest
   with_meaning (Wrong c at) some h rest = rest
 
-  each_part : (some : List Located) → AllByRecursion (λ d. Holds (λ m. IfSome (part m) P) (meant classes all d)) some → AllByRecursion P (filter_map part (meanings classes all some))
+  each_part : (some : List Located) → AllByRecursion (λ d. Holds (λ m. IfSome (part m) P) (meant allowed classes all d))
+      some → AllByRecursion P (filter_map part (meanings allowed classes all some))
   each_part [] each = tt
-  each_part (d ∷ ds) each = with_meaning (meant classes all d) ds each.0 (each_part ds each.1)
+  each_part (d ∷ ds) each = with_meaning (meant allowed classes all d) ds each.0 (each_part ds each.1)
 
 -- what holds of all holds of those that pass a test
 all_filter : {A : Type 0} (P : A → Type 0) (p : A → Bool) (xs : List A) → AllByRecursion P xs
@@ -245,52 +260,59 @@ one_part P Q (Wrong c at) more h = tt
 -- rules -----------------------------------------------------------------------------------------------------------------
 
 -- where no declaration has a start, no attribute is circular
-pub none_circular : (classes : Classes) (ds : List Located) → first_fault classes ds ≡ None
+pub none_circular : (allowed : Arguments) (classes : Classes) (ds : List Located)
+    → first_fault allowed classes ds ≡ None
     → AllByRecursion IsNotCircular ds
-    → HasNoneCircular (rules_of classes ds)
-none_circular classes ds none plain =
-    none_starts classes (attributes ds) (rules_of classes ds).attributes
+    → HasNoneCircular (rules_of allowed classes ds)
+none_circular allowed classes ds none plain =
+    none_starts classes (attributes ds) (rules_of allowed classes ds).attributes
     (all_filter IsNotCircular (λ d. is_attribute d.decl.form) ds plain)
-    (all_declared classes ds 0 ds (other_none (fault_together classes ds) _ none))
+    (all_declared allowed classes ds 0 ds (other_none (fault_together classes ds) _ none))
 
 -- and those that are circular are lazy
-pub circular_kept : (classes : Classes) (ds : List Located) → first_fault classes ds ≡ None
-    → AreCircularLazy (rules_of classes ds)
-circular_kept classes ds none =
-    circular_lazy classes (attributes ds) (rules_of classes ds).attributes
-    (all_declared classes ds 0 ds (other_none (fault_together classes ds) _ none))
+pub circular_kept : (allowed : Arguments) (classes : Classes) (ds : List Located)
+    → first_fault allowed classes ds ≡ None
+    → AreCircularLazy (rules_of allowed classes ds)
+circular_kept allowed classes ds none =
+    circular_lazy classes (attributes ds) (rules_of allowed classes ds).attributes
+    (all_declared allowed classes ds 0 ds (other_none (fault_together classes ds) _ none))
 
 -- the rules of declarations without a fault are typed
-pub typed : (classes : Classes) (ds : List Located) → first_fault classes ds ≡ None → AllByRecursion AreIntsIn ds
+pub typed : (allowed : Arguments) (classes : Classes) (ds : List Located) → first_fault allowed classes ds ≡ None
+    → AllByRecursion AreIntsIn ds
     → AllByRecursion IsBooleanIn ds
-    → AreTyped (rules_of classes ds)
-typed classes ds none ints booleans =
-    let zip = all_declared classes ds 0 ds (other_none (fault_together classes ds) _ none) in
+    → AreTyped (rules_of allowed classes ds)
+typed allowed classes ds none ints booleans =
+    let zip = all_declared allowed classes ds 0 ds (other_none (fault_together classes ds) _ none) in
     let together = first_none (fault_together classes ds) _ none in
     let twice = first_none (declared_twice classes ds) _ (other_none (accessor_named classes ds) _ (other_none (over_limit ds) _ together)) in
-    let alike = inherited_alike (rules_of classes ds) ds twice zip in
-    let rules = rules_of classes ds in
+    let alike = inherited_alike (rules_of allowed classes ds) ds twice zip in
+    let rules = rules_of allowed classes ds in
     record {
       attributes = all_typed classes (attributes ds) rules.attributes
           (all_filter IsBooleanIn (λ d. is_attribute d.decl.form) ds booleans) zip;
       alike = alike;
-      own = each_part (IsOwnTyped rules) (λ (m : Meaning). m.own) classes ds ds
-          (all_more AreIntsIn (λ d. Holds (λ (m : Meaning). IfSome m.own (IsOwnTyped rules)) (meant classes ds d)) ds
-          (λ d is. one_part _ (λ (m : Meaning). IfSome m.own (IsOwnTyped rules)) (meant classes ds d) (λ m h. h.0)
-          (meant_right rules ds zip alike d is)) ints);
-      inherited = each_part (IsInheritedTyped rules) (λ (m : Meaning). m.inherited) classes ds ds (all_more AreIntsIn
-          (λ d. Holds (λ (m : Meaning). IfSome m.inherited (IsInheritedTyped rules)) (meant classes ds d)) ds
-          (λ d is. one_part _ (λ (m : Meaning). IfSome m.inherited (IsInheritedTyped rules)) (meant classes ds d)
-          (λ m h. h.1) (meant_right rules ds zip alike d is)) ints);
+      own = each_part allowed (IsOwnTyped rules) (λ (m : Meaning). m.own) classes ds ds
+          (all_more AreIntsIn (λ d. Holds (λ (m : Meaning). IfSome m.own (IsOwnTyped rules))
+          (meant allowed classes ds d)) ds
+          (λ d is. one_part _ (λ (m : Meaning). IfSome m.own (IsOwnTyped rules)) (meant allowed classes ds d)
+          (λ m h. h.0)
+          (meant_right allowed rules ds zip alike d is)) ints);
+      inherited = each_part allowed (IsInheritedTyped rules) (λ (m : Meaning). m.inherited) classes ds ds
+          (all_more AreIntsIn
+          (λ d. Holds (λ (m : Meaning). IfSome m.inherited (IsInheritedTyped rules)) (meant allowed classes ds d)) ds
+          (λ d is. one_part _ (λ (m : Meaning). IfSome m.inherited (IsInheritedTyped rules))
+          (meant allowed classes ds d)
+          (λ m h. h.1) (meant_right allowed rules ds zip alike d is)) ints);
     }
 
 -- and well formed, where they are complete, and their classes a hierarchy
-pub well_formed : (classes : Classes) (ds : List Located) (rules : Rules) → IsHierarchy classes
-    → first_fault classes ds ≡ None → rules ≡ rules_of classes ds → AllByRecursion AreIntsIn ds
+pub well_formed : (allowed : Arguments) (classes : Classes) (ds : List Located) (rules : Rules) → IsHierarchy classes
+    → first_fault allowed classes ds ≡ None → rules ≡ rules_of allowed classes ds → AllByRecursion AreIntsIn ds
     → AllByRecursion IsBooleanIn ds → AreComplete rules → AreWellFormed rules
-well_formed classes ds rules hierarchy none is ints booleans complete =
+well_formed allowed classes ds rules hierarchy none is ints booleans complete =
     record {
       hierarchy = subst (λ (r : Rules). IsHierarchy r.classes) (sym is) hierarchy;
-      typed = subst AreTyped (sym is) (typed classes ds none ints booleans);
+      typed = subst AreTyped (sym is) (typed allowed classes ds none ints booleans);
       complete = complete;
     }

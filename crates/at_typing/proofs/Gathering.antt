@@ -24,6 +24,7 @@ use Rattle.at_rules.specs.declared.rules.Attribute.{Attribute as AttributeValue}
 use Rattle.at_rules.specs.declared.rules.Equations.{Equations}
 use Rattle.at_typing.specs.Building.{meaning_if, meanings}
 use Rattle.at_typing.specs.Declaring.{fault_if, is_attribute, is_own_equation, getter_in, differs, is_on_one_line, is_below, is_sub_or_none, is_same_getter, clashes, is_same_equation, declared_twice, twice_at, equation_twice, equation_at, binds_twice, class_text, name_text}
+use Rattle.at_kinds.specs.declared.arguments.Arguments.{Arguments}
 use Rattle.at_kinds.specs.Judging.{Judgement, Is, Wrong}
 use Rattle.at_typing.specs.Located.{Located}
 use Rattle.at_typing.specs.Meanings.{Meaning, meant}
@@ -126,29 +127,34 @@ insert_new eq (e ∷ es) k v none = by (eq k e.0) (insert_new eq es k v) none
     by false rest is = ap (λ l. e ∷ l) (rest is)
 
 -- what some declarations mean has no such part, since none of them clashes
-module _ {A : Type 0} (classes : Classes) (all : List Located) (part : Meaning → Option A) (test : A → Bool) (clash : Located → Bool) where
-  none_meant : ((d : Located) (m : Meaning) (a : A) → meant classes all d ≡ Is m → part m ≡ Some a → test a ≡ true
+module _ (allowed : Arguments) {A : Type 0} (classes : Classes) (all : List Located) (part : Meaning → Option A) (test : A → Bool) (clash : Located → Bool) where
+  none_meant : ((d : Located) (m : Meaning) (a : A) → meant allowed classes all d ≡ Is m → part m ≡ Some a
+      → test a ≡ true
       → clash d ≡ true) → (some : List Located) → list_any clash some ≡ false
-      → list_any test (filter_map part (meanings classes all some)) ≡ false
-  none_meant too some none = not_both (list_any test (filter_map part (meanings classes all some))) clashing
+      → list_any test (filter_map part (meanings allowed classes all some)) ≡ false
+  none_meant too some none = not_both (list_any test (filter_map part (meanings allowed classes all some))) clashing
     where
-      by : (d : Located) (m : Meaning) → meant classes all d ≡ Is m → (o : Option A) → part m ≡ o → passes test o ≡ true → clash d ≡ true
+      by : (d : Located) (m : Meaning) → meant allowed classes all d ≡ Is m → (o : Option A) → part m ≡ o
+          → passes test o ≡ true → clash d ≡ true
       by d m is None at found = absurd (true≢false (sym found))
       by d m is (Some a) at found = too d m a is at found
 
-      of : (d : Located) (j : Judgement Meaning) → meant classes all d ≡ j → passes (λ m. passes test (part m)) (meaning_if j) ≡ true → clash d ≡ true
+      of : (d : Located) (j : Judgement Meaning) → meant allowed classes all d ≡ j
+          → passes (λ m. passes test (part m)) (meaning_if j) ≡ true → clash d ≡ true
       of d (Is m) is found = by d m is (part m) refl found
       of d (Wrong c at) is found = absurd (true≢false (sym found))
 
-      here : (d : Located) → passes (λ m. passes test (part m)) (meaning_if (meant classes all d)) ≡ true → clash d ≡ true
-      here d found = of d (meant classes all d) refl found
+      here : (d : Located) → passes (λ m. passes test (part m)) (meaning_if (meant allowed classes all d)) ≡ true
+          → clash d ≡ true
+      here d found = of d (meant allowed classes all d) refl found
 
-      clashing : list_any test (filter_map part (meanings classes all some)) ≡ true → ⊥
+      clashing : list_any test (filter_map part (meanings allowed classes all some)) ≡ true → ⊥
       clashing is =
-          let given : list_any (λ d. passes (λ m. passes test (part m)) (meaning_if (meant classes all d))) some
-          ≡ true = sym (any_given (λ m. passes test (part m)) (λ d. meaning_if (meant classes all d)) some)
-          ∙ sym (any_given test part (meanings classes all some)) ∙ is in
-          true≢false (sym (any_too (λ d. passes (λ m. passes test (part m)) (meaning_if (meant classes all d))) clash here some given) ∙ none)
+          let given : list_any (λ d. passes (λ m. passes test (part m)) (meaning_if (meant allowed classes all d))) some
+          ≡ true = sym (any_given (λ m. passes test (part m)) (λ d. meaning_if (meant allowed classes all d)) some)
+          ∙ sym (any_given test part (meanings allowed classes all some)) ∙ is in
+          true≢false (sym (any_too (λ d. passes (λ m. passes test (part m)) (meaning_if (meant allowed classes all d)))
+          clash here some given) ∙ none)
 
 -- a key is new where what stands there has no such part
 module _ {K V A : Type 0} (eq : K → K → Bool) (view : K × V → A) where
@@ -231,15 +237,17 @@ same_inherited classes d e a b of other same =
     (getter_in e.decl.form)) words (or_right (is_own_equation d.decl.form && is_own_equation e.decl.form)
     (is_same_getter (getter_in d.decl.form) (getter_in e.decl.form)) getters)
 
-module _ (classes : Classes) (ds : List Located) (i : ℕ) (d : Located) (less : i < length ds) (at : d ≡ get_or ds i d) where
+module _ (allowed : Arguments) (classes : Classes) (ds : List Located) (i : ℕ) (d : Located) (less : i < length ds) (at : d ≡ get_or ds i d) where
   attribute_clashes : declared_twice classes ds ≡ None → (a : Attribute) → OfAttribute classes d a
       → list_any (λ (b : Attribute). nat_eq a.class b.class && bytes_eq a.name b.name)
-      (filter_map (λ (m : Meaning). m.attribute) (meanings classes ds (take i ds))) ≡ false
-  attribute_clashes none a of = none_meant classes ds (λ (m : Meaning). m.attribute) _ (clashes classes d) too (take i ds) (no_clash classes ds i d less at none of.0)
+      (filter_map (λ (m : Meaning). m.attribute) (meanings allowed classes ds (take i ds))) ≡ false
+  attribute_clashes none a of = none_meant allowed classes ds (λ (m : Meaning). m.attribute) _ (clashes classes d) too
+      (take i ds) (no_clash classes ds i d less at none of.0)
     where
-      too : (e : Located) (m : Meaning) (b : Attribute) → meant classes ds e ≡ Is m → m.attribute ≡ Some b → (nat_eq a.class b.class && bytes_eq a.name b.name) ≡ true → clashes classes d e ≡ true
+      too : (e : Located) (m : Meaning) (b : Attribute) → meant allowed classes ds e ≡ Is m → m.attribute ≡ Some b
+          → (nat_eq a.class b.class && bytes_eq a.name b.name) ≡ true → clashes classes d e ≡ true
       too e m b is there same =
-          let other = said (OfAttribute classes e) m.attribute b there (of_words classes ds e m is).attribute in
+          let other = said (OfAttribute classes e) m.attribute b there (of_words allowed classes ds e m is).attribute in
           let class : a.class ≡ b.class = eqb-true a.class b.class (first_of (nat_eq a.class b.class) (bytes_eq a.name b.name) same) in
           let name : a.name ≡ b.name = (bytes_eq-Decides a.name b.name).0 (second_of (nat_eq a.class b.class) (bytes_eq a.name b.name) same) in
           let classes_same = same_class_text classes (class_text d) (class_text e) b.class (of.1 ∙ ap Some class) other.1 in
@@ -256,25 +264,29 @@ module _ (classes : Classes) (ds : List Located) (i : ℕ) (d : Located) (less :
 
   own_clashes : equation_twice ds ≡ None → (a : OwnEquation) → OfOwn classes ds d a
       → list_any (λ (b : OwnEquation). nat_eq a.class b.class && nat_eq a.attribute b.attribute)
-      (filter_map (λ (m : Meaning). m.own) (meanings classes ds (take i ds))) ≡ false
-  own_clashes none a of = none_meant classes ds (λ (m : Meaning). m.own) _ (is_same_equation d)
-      (λ e m b is there. same_own classes ds d e a b of (said (OfOwn classes ds e) m.own b there (of_words classes ds e m is).own)) (take i ds) (no_equation ds i d less at none)
+      (filter_map (λ (m : Meaning). m.own) (meanings allowed classes ds (take i ds))) ≡ false
+  own_clashes none a of = none_meant allowed classes ds (λ (m : Meaning). m.own) _ (is_same_equation d)
+      (λ e m b is there. same_own classes ds d e a b of (said (OfOwn classes ds e) m.own b there
+      (of_words allowed classes ds e m is).own)) (take i ds) (no_equation ds i d less at none)
 
   inherited_clashes : equation_twice ds ≡ None → (a : InheritedEquation) → OfInherited classes d a → list_any
       (λ (b : InheritedEquation). (nat_eq a.class b.class && option_eq nat_eq a.part b.part) && bytes_eq a.name b.name)
-      (filter_map (λ (m : Meaning). m.inherited) (meanings classes ds (take i ds))) ≡ false
-  inherited_clashes none a of = none_meant classes ds (λ (m : Meaning). m.inherited) _ (is_same_equation d)
-      (λ e m b is there. same_inherited classes d e a b of (said (OfInherited classes e) m.inherited b there (of_words classes ds e m is).inherited)) (take i ds) (no_equation ds i d less at none)
+      (filter_map (λ (m : Meaning). m.inherited) (meanings allowed classes ds (take i ds))) ≡ false
+  inherited_clashes none a of = none_meant allowed classes ds (λ (m : Meaning). m.inherited) _ (is_same_equation d)
+      (λ e m b is there. same_inherited classes d e a b of (said (OfInherited classes e) m.inherited b there
+      (of_words allowed classes ds e m is).inherited)) (take i ds) (no_equation ds i d less at none)
 
 -- one declaration more ---------------------------------------------------------------------------------------------------
 
 -- what all mean, with one more
-with_more : (classes : Classes) (ds : List Located) (i : ℕ) (d : Located) (m : Meaning) → i < length ds → d ≡ get_or ds
-    i d → meant classes ds d ≡ Is m → meanings classes ds (take (i + 1) ds) ≡ meanings classes ds (take i ds) ++ m ∷ []
-with_more classes ds i d m less at is =
-    ap (meanings classes ds) (take_more ds i d less ∙ ap (λ x. take i ds ++ x ∷ []) (sym at))
-    ∙ filter_map-append (λ x. meaning_if (meant classes ds x)) (take i ds) (d ∷ [])
-    ∙ ap (λ j. meanings classes ds (take i ds) ++ cons_option (meaning_if j) []) is
+with_more : (allowed : Arguments) (classes : Classes) (ds : List Located) (i : ℕ) (d : Located) (m : Meaning)
+    → i < length ds → d ≡ get_or ds
+    i d → meant allowed classes ds d ≡ Is m → meanings allowed classes ds (take (i + 1) ds)
+    ≡ meanings allowed classes ds (take i ds) ++ m ∷ []
+with_more allowed classes ds i d m less at is =
+    ap (meanings allowed classes ds) (take_more ds i d less ∙ ap (λ x. take i ds ++ x ∷ []) (sym at))
+    ∙ filter_map-append (λ x. meaning_if (meant allowed classes ds x)) (take i ds) (d ∷ [])
+    ∙ ap (λ j. meanings allowed classes ds (take i ds) ++ cons_option (meaning_if j) []) is
 
 part_more : {A : Type 0} (part : Meaning → Option A) (ms ns : List Meaning) (m : Meaning) → ns ≡ ms ++ m ∷ [] → filter_map part ms ++ cons_option (part m) [] ≡ filter_map part ns
 part_more part ms ns m is = sym (ap (filter_map part) is ∙ filter_map-append part ms (m ∷ []))
@@ -299,23 +311,24 @@ any_kept p keep too (x ∷ xs) none = by (keep x) refl (p x) refl (any_kept p ke
     by false kept true is rest off = absurd (true≢false (sym (too x is) ∙ kept))
     by false kept false is rest off = rest off
 
-module _ (classes : Classes) (ds : List Located) (i : ℕ) (d : Located) (n : ℕ) (names : List (String Global))
+module _ (allowed : Arguments) (classes : Classes) (ds : List Located) (i : ℕ) (d : Located) (n : ℕ) (names : List (String Global))
     (less : i < length ds) (at : d ≡ get_or ds i d) (named_so : number_in names (name_text d) ≡ Some n) where
   same_text : text_of names n ≡ name_text d
   same_text = (name_at names (name_text d) n named_so).1
 
   attributes_more : declared_twice classes ds ≡ None → (es : List ((ℕ × ℕ) × AttributeValue))
-      → map (attribute_view names) es ≡ filter_map (λ (m : Meaning). m.attribute) (meanings classes ds (take i ds))
+      → map (attribute_view names) es ≡ filter_map (λ (m : Meaning). m.attribute)
+      (meanings allowed classes ds (take i ds))
       → (o : Option (ℕ × AttributeValue)) → IfSome (option_map (attribute_of d) o) (OfAttribute classes d)
       → map (attribute_view names) (with_entry same_key es (option_map (attribute_by n) o))
-      ≡ filter_map (λ (m : Meaning). m.attribute) (meanings classes ds (take i ds))
+      ≡ filter_map (λ (m : Meaning). m.attribute) (meanings allowed classes ds (take i ds))
       ++ cons_option (option_map (attribute_of d) o) []
   attributes_more none es is None of = is ∙ sym (append-nil _)
   attributes_more none es is (Some a) of = grown same_key (attribute_view names) es (Some ((a.0, n), a.1))
       _ (Some (attribute_of d a)) is (ap (λ t. Some (record (attribute_of d a) { name = t })) same_text)
       (key_new same_key (attribute_view names) es (a.0, n) (λ b. nat_eq a.0 b.class && bytes_eq (name_text d) b.name)
       same (ap (list_any (λ b. nat_eq a.0 b.class && bytes_eq (name_text d) b.name)) is
-      ∙ attribute_clashes classes ds i d less at none (attribute_of d a) of))
+      ∙ attribute_clashes allowed classes ds i d less at none (attribute_of d a) of))
     where
       same : (e : (ℕ × ℕ) × AttributeValue) → (nat_eq a.0 e.0.0 && nat_eq n e.0.1) ≡ true → (nat_eq a.0 e.0.0 && bytes_eq (name_text d) (text_of names e.0.1)) ≡ true
       same e is = and_true (nat_eq a.0 e.0.0) (bytes_eq (name_text d) (text_of names e.0.1))
@@ -323,14 +336,15 @@ module _ (classes : Classes) (ds : List Located) (i : ℕ) (d : Located) (n : �
           (sym same_text ∙ ap (text_of names) (eqb-true n e.0.1 (second_of (nat_eq a.0 e.0.0) (nat_eq n e.0.1) is))))
 
   own_more : equation_twice ds ≡ None → (es : List ((ℕ × ℕ) × BodyValue))
-      → map own_view es ≡ filter_map (λ (m : Meaning). m.own) (meanings classes ds (take i ds))
+      → map own_view es ≡ filter_map (λ (m : Meaning). m.own) (meanings allowed classes ds (take i ds))
       → (o : Option ((ℕ × ℕ) × BodyValue)) → IfSome (option_map own_view o) (OfOwn classes ds d)
-      → map own_view (with_entry same_key es o) ≡ filter_map (λ (m : Meaning). m.own) (meanings classes ds (take i ds)) ++ cons_option (option_map own_view o) []
+      → map own_view (with_entry same_key es o) ≡ filter_map (λ (m : Meaning). m.own)
+      (meanings allowed classes ds (take i ds)) ++ cons_option (option_map own_view o) []
   own_more none es is None of = is ∙ sym (append-nil _)
   own_more none es is (Some e) of = grown same_key own_view es (Some e) _ (Some (own_view e)) is refl
       (key_new same_key own_view es e.0 (λ b. nat_eq e.0.0 b.class && nat_eq e.0.1 b.attribute) (λ x here. here)
       (ap (list_any (λ b. nat_eq e.0.0 b.class && nat_eq e.0.1 b.attribute)) is
-      ∙ own_clashes classes ds i d less at none (own_view e) of))
+      ∙ own_clashes allowed classes ds i d less at none (own_view e) of))
 
   abbrev inherited_key : (ℕ × Option ℕ) × BodyValue → ℕ × Option ℕ × ℕ
   inherited_key e = (e.0.0, e.0.1, n)
@@ -343,12 +357,13 @@ module _ (classes : Classes) (ds : List Located) (i : ℕ) (d : Located) (n : �
 
   inherited_new : equation_twice ds ≡ None → (es : List ((ℕ × Option ℕ × ℕ) × BodyValue))
       → map (inherited_view names) (named names es)
-      ≡ filter_map (λ (m : Meaning). m.inherited) (meanings classes ds (take i ds)) → (e : (ℕ × Option ℕ) × BodyValue)
+      ≡ filter_map (λ (m : Meaning). m.inherited) (meanings allowed classes ds (take i ds))
+      → (e : (ℕ × Option ℕ) × BodyValue)
       → OfInherited classes d (inherited_of d e) → list_any (λ x. same_place (inherited_key e) x.0) es ≡ false
   inherited_new none es is e of = any_kept (λ (x : (ℕ × Option ℕ × ℕ) × BodyValue). same_place (inherited_key e) x.0) (λ (x : (ℕ × Option ℕ × ℕ) × BodyValue). nat_lt x.0.2 (length names)) kept es
       (key_new same_place (inherited_view names) (named names es) (inherited_key e) (is_inherited_there e) same
       (ap (list_any (is_inherited_there e)) is
-      ∙ inherited_clashes classes ds i d less at none (inherited_of d e) of))
+      ∙ inherited_clashes allowed classes ds i d less at none (inherited_of d e) of))
     where
       numbers : (x : (ℕ × Option ℕ × ℕ) × BodyValue) → same_place (inherited_key e) x.0 ≡ true → n ≡ x.0.2
       numbers x is = eqb-true n x.0.2 (second_of (nat_eq e.0.0 x.0.0 && option_eq nat_eq e.0.1 x.0.1) (nat_eq n x.0.2) is)
@@ -362,10 +377,10 @@ module _ (classes : Classes) (ds : List Located) (i : ℕ) (d : Located) (n : �
       kept x is = ap (λ k. nat_lt k (length names)) (sym (numbers x is)) ∙ within
 
   inherited_more : equation_twice ds ≡ None → (es : List ((ℕ × Option ℕ × ℕ) × BodyValue)) → map (inherited_view names)
-      (named names es) ≡ filter_map (λ (m : Meaning). m.inherited) (meanings classes ds (take i ds))
+      (named names es) ≡ filter_map (λ (m : Meaning). m.inherited) (meanings allowed classes ds (take i ds))
       → (o : Option ((ℕ × Option ℕ) × BodyValue)) → IfSome (option_map (inherited_of d) o) (OfInherited classes d)
       → map (inherited_view names) (named names (with_entry same_place es (option_map (inherited_by n) o)))
-      ≡ filter_map (λ (m : Meaning). m.inherited) (meanings classes ds (take i ds))
+      ≡ filter_map (λ (m : Meaning). m.inherited) (meanings allowed classes ds (take i ds))
       ++ cons_option (option_map (inherited_of d) o) []
   inherited_more none es is None of = is ∙ sym (append-nil _)
   inherited_more none es is (Some e) of =
@@ -376,11 +391,12 @@ module _ (classes : Classes) (ds : List Located) (i : ℕ) (d : Located) (n : �
 
   -- what a declaration means is added to what those before it mean
   pub stands_more : (old new : Equations) (m : Added) → declared_twice classes ds ≡ None → equation_twice ds ≡ None
-      → meant classes ds d ≡ Is (meaning_of d m) → Inserts n m old new
-      → Stands names (meanings classes ds (take i ds)) old → Stands names (meanings classes ds (take (i + 1) ds)) new
+      → meant allowed classes ds d ≡ Is (meaning_of d m) → Inserts n m old new
+      → Stands names (meanings allowed classes ds (take i ds)) old
+      → Stands names (meanings allowed classes ds (take (i + 1) ds)) new
   stands_more old new m attributes_apart equations_apart is added so_far =
-      let of = of_words classes ds d (meaning_of d m) is in
-      let more = with_more classes ds i d (meaning_of d m) less at is in
+      let of = of_words allowed classes ds d (meaning_of d m) is in
+      let more = with_more allowed classes ds i d (meaning_of d m) less at is in
       record {
         attributes = ap (map (attribute_view names)) added.attributes
             ∙ attributes_more attributes_apart old.attributes.entries so_far.attributes m.attribute of.attribute

@@ -9,6 +9,7 @@ use Rattle.at_rules.specs.declared.rules.Equations.{Equations}
 use Rattle.at_typing.specs.AttributeKeys.{AreAttributes, IsAmong}
 use Rattle.at_typing.specs.Building.{meanings, refusal, refused, refused_at, first_fault}
 use Rattle.at_typing.specs.Declaring.{over_limit, accessor_named, declared_twice, without_attribute, equation_twice, fault_together}
+use Rattle.at_kinds.specs.declared.arguments.Arguments.{Arguments}
 use Rattle.at_kinds.specs.Judging.{Judgement}
 use Rattle.at_typing.specs.Located.{Located}
 use Rattle.at_typing.specs.Meanings.{Meaning, meant, signatures}
@@ -56,47 +57,62 @@ pub is_about : (xs : List NumberedValue) (i : ℕ) (d : NumberedValue) (a : Amon
 is_about xs i d a less at signatures attributes numbered = record { signatures = signatures; attributes = attributes; numbers = among_all a.classes.now xs i d less at numbered }
 
 -- what those before this one mean, whatever the numbers of names
-abbrev pub StandBefore : Classes → List NumberedValue → ℕ → Equations → Type 0
-StandBefore classes xs i e = (names : List (String Global)) → All (IsNamed names) xs → Stands names (meanings classes (map numbered_view xs) (map numbered_view (take i xs))) e
+abbrev pub StandBefore : Arguments → Classes → List NumberedValue → ℕ → Equations → Type 0
+StandBefore allowed classes xs i e = (names : List (String Global)) → All (IsNamed names) xs
+    → Stands names (meanings allowed classes (map numbered_view xs) (map numbered_view (take i xs))) e
 
-module _ (classes : Classes) (xs : List NumberedValue) (i : ℕ) (d : NumberedValue) (old new : Equations) where
+module _ (allowed : Arguments) (classes : Classes) (xs : List NumberedValue) (i : ℕ) (d : NumberedValue) (old new : Equations) where
   -- one declaration more
   pub stand_more : i < length xs → d ≡ get_or xs i d → fault_together classes (views xs) ≡ None → (u : Unit {0})
-      → AddsOrTells (numbered_view d) d.name (meant classes (views xs) (numbered_view d)) old new (Ok u)
-      → StandBefore classes xs i old → StandBefore classes xs (i + 1) new
+      → AddsOrTells (numbered_view d) d.name (meant allowed classes (views xs) (numbered_view d)) old new (Ok u)
+      → StandBefore allowed classes xs i old → StandBefore allowed classes xs (i + 1) new
   stand_more less at none u (m, is, added) so_far names all =
       let faultless = several classes (views xs) none in
-      subst (λ ds. Stands names (meanings classes (views xs) ds) new) (take-map numbered_view (i + 1) xs)
-      (stands_more classes (views xs) i (numbered_view d) d.name names
+      subst (λ ds. Stands names (meanings allowed classes (views xs) ds) new) (take-map numbered_view (i + 1) xs)
+      (stands_more allowed classes (views xs) i (numbered_view d) d.name names
       (subst (λ n. i < n) (sym (length-map xs numbered_view)) less)
       (ap numbered_view at ∙ view_at numbered_view xs i d) (subst (IsNamed names) (sym at) (all i d less))
-      old new m faultless.0 faultless.1 is added (subst (λ ds. Stands names (meanings classes (views xs) ds) old) (sym (take-map numbered_view i xs)) (so_far names all)))
+      old new m faultless.0 faultless.1 is added
+      (subst (λ ds. Stands names (meanings allowed classes (views xs) ds) old) (sym (take-map numbered_view i xs))
+      (so_far names all)))
 
-  pub none_refused : (u : Unit {0}) → i < length xs → d ≡ get_or xs i d → AddsOrTells (numbered_view d) d.name (meant classes (views xs) (numbered_view d)) old new (Ok u)
-      → NoneBefore (refused_at classes (views xs)) numbered_view xs i → NoneBefore (refused_at classes (views xs)) numbered_view xs (i + 1)
-  none_refused u less at (m, is, added) so_far = none_more (refused_at classes (views xs)) numbered_view xs i d less at (ap (refusal (numbered_view d)) is) so_far
+  pub none_refused : (u : Unit {0}) → i < length xs → d ≡ get_or xs i d
+      → AddsOrTells (numbered_view d) d.name (meant allowed classes (views xs) (numbered_view d)) old new (Ok u)
+      → NoneBefore (refused_at allowed classes (views xs)) numbered_view xs i
+      → NoneBefore (refused_at allowed classes (views xs)) numbered_view xs (i + 1)
+  none_refused u less at (m, is, added) so_far = none_more (refused_at allowed classes (views xs)) numbered_view xs i d
+      less at (ap (refusal (numbered_view d)) is) so_far
 
   -- the first fault of a declaration by itself
-  pub refused_here : (e : Failure Breach) → i < length xs → d ≡ get_or xs i d → AddsOrTells (numbered_view d) d.name (meant classes (views xs) (numbered_view d)) old new (Err e)
-      → NoneBefore (refused_at classes (views xs)) numbered_view xs i → Means classes xs (refused classes (views xs)) (Err e)
-  refused_here (failure.For f) less at told so_far = first_here (refused_at classes (views xs)) numbered_view xs i d f less at so_far told
+  pub refused_here : (e : Failure Breach) → i < length xs → d ≡ get_or xs i d
+      → AddsOrTells (numbered_view d) d.name (meant allowed classes (views xs) (numbered_view d)) old new (Err e)
+      → NoneBefore (refused_at allowed classes (views xs)) numbered_view xs i
+      → Means allowed classes xs (refused allowed classes (views xs)) (Err e)
+  refused_here (failure.For f) less at told so_far = first_here
+      (refused_at allowed classes (views xs)) numbered_view xs i d f less at so_far told
   refused_here failure.Memory less at told so_far = tt
 
 -- all of them
-pub all_meant : (classes : Classes) (xs : List NumberedValue) (i : ℕ) (e : Equations) → length xs ≤ i
-    → NoneBefore (refused_at classes (views xs)) numbered_view xs i → StandBefore classes xs i e
-    → Means classes xs (refused classes (views xs)) (Ok e)
-all_meant classes xs i e past none stand = (
-  none_at_all (refused_at classes (views xs)) numbered_view xs i past none,
-  λ names all. subst (λ ds. Stands names (meanings classes (views xs) (views ds)) e) (take_all i xs past) (stand names all),
+pub all_meant : (allowed : Arguments) (classes : Classes) (xs : List NumberedValue) (i : ℕ) (e : Equations)
+    → length xs ≤ i
+    → NoneBefore (refused_at allowed classes (views xs)) numbered_view xs i → StandBefore allowed classes xs i e
+    → Means allowed classes xs (refused allowed classes (views xs)) (Ok e)
+all_meant allowed classes xs i e past none stand = (
+  none_at_all (refused_at allowed classes (views xs)) numbered_view xs i past none,
+  λ names all. subst (λ ds. Stands names (meanings allowed classes (views xs) (views ds)) e) (take_all i xs past)
+      (stand names all),
 )
 
 -- without a fault of several together
-pub together : (classes : Classes) (xs : List NumberedValue) (r : Result Equations (Failure Breach))
-    → fault_together classes (views xs) ≡ None → Means classes xs (refused classes (views xs)) r
-    → Means classes xs (first_fault classes (views xs)) r
-together classes xs r none means = subst (λ f. Means classes xs (option_or f (refused classes (views xs))) r) (sym none) means
+pub together : (allowed : Arguments) (classes : Classes) (xs : List NumberedValue)
+    (r : Result Equations (Failure Breach))
+    → fault_together classes (views xs) ≡ None → Means allowed classes xs (refused allowed classes (views xs)) r
+    → Means allowed classes xs (first_fault allowed classes (views xs)) r
+together allowed classes xs r none means =
+    subst (λ f. Means allowed classes xs (option_or f (refused allowed classes (views xs))) r) (sym none) means
 
 -- the first fault of several together
-pub told_together : (classes : Classes) (xs : List NumberedValue) (f : Breach) → fault_together classes (views xs) ≡ Some f → Means classes xs (first_fault classes (views xs)) (Err (failure.For f))
-told_together classes xs f is = ap (λ o. option_or o (refused classes (views xs))) is
+pub told_together : (allowed : Arguments) (classes : Classes) (xs : List NumberedValue) (f : Breach)
+    → fault_together classes (views xs) ≡ Some f → Means allowed classes xs (first_fault allowed classes (views xs))
+    (Err (failure.For f))
+told_together allowed classes xs f is = ap (λ o. option_or o (refused allowed classes (views xs))) is

@@ -16,6 +16,7 @@ use Rattle.at_rules.specs.declared.body.Kind.TheVariants as known_kind
 use Rattle.at_kinds.specs.Judging.{Kinded, Is, Wrong, Scope, Bound, and_then, within, index_eq, bound_to, index_named, named_by, named, this_node, negation, opposite, joined, chosen, cast, tested, called, list_called, list_or, no_list, folded, placed, judged, judged_all, judged_list}
 use Rattle.at_kinds.specs.Kinds.{of_written}
 use Rattle.at_kinds.specs.Signatures.{Declared}
+use Rattle.at_kinds.specs.declared.arguments.Arguments.{Arguments}
 use Rattle.at_kinds.specs.declared.signatures.WrittenKind.{WrittenKind}
 use Rattle.at_kinds.specs.declared.signatures.WrittenKind.TheVariants.{Known}
 use Rattle.at_kinds.proofs.Holding.{Holds, then_holds, none_holds}
@@ -33,9 +34,9 @@ pub record AreKinds (t : ScopeKinds) (this : ℕ) (names : List Bound) (index : 
   pub bound : AllZip IsBound names t.names
   pub indexed : is_some index ≡ true → t.has_index ≡ true
 
-module _ (rules : Rules) (declared : List Declared) (same : AllZip IsDeclaredAs declared rules.attributes) where
+module _ (allowed : Arguments) (rules : Rules) (declared : List Declared) (same : AllZip IsDeclaredAs declared rules.attributes) where
   abbrev At : ℕ → List Bound → Option (List ℕ) → Scope
-  At this names index = scope_at rules declared same this names index
+  At this names index = scope_at rules allowed declared same this names index
 
   this_right : (t : ScopeKinds) (this : ℕ) (names : List Bound) (index : Option (List ℕ)) (at : Place) → AreKinds t this names index → Right rules t (this_node (At this names index) at)
   this_right t this names index at are = subst (λ c. HasKind rules t body.This (model.Class c)) (sym are.this_class) has.this
@@ -79,13 +80,14 @@ module _ (rules : Rules) (declared : List Declared) (same : AllZip IsDeclaredAs 
         then_holds (AllRight rules t) (Right rules t)
         (called (At this names index) at name (this_node (At this names index) at))
         (judged_all (At this names index) es) (judged_all_right t this names index are es ints) (λ ks all.
-        called_right rules declared same t this names index at name (this_node (At this names index) at) ks (this_right t this names index at are) all)
+        called_right rules allowed declared same t this names index at name (this_node (At this names index) at) ks
+        (this_right t this names index at are) all)
     judged_right t this names index are (written.CallOf at e name es) ints =
         then_holds (Right rules t) (Right rules t)
         (λ k. and_then (called (At this names index) at name k) (judged_all (At this names index) es))
         (judged (At this names index) e) (judged_right t this names index are e ints.0) (λ k h.
         then_holds (AllRight rules t) (Right rules t) (called (At this names index) at name k) (judged_all (At this names index) es) (judged_all_right t this names index are es ints.1) (λ ks all.
-        called_right rules declared same t this names index at name k ks h all))
+        called_right rules allowed declared same t this names index at name k ks h all))
     judged_right t this names index are (written.Paren at e) ints = then_holds (Right rules t) (Right rules t)
         (placed at) (judged (At this names index) e) (judged_right t this names index are e ints) (λ k h. h)
     judged_right t this names index are (written.Negate at e) ints =
@@ -140,12 +142,13 @@ module _ (rules : Rules) (declared : List Declared) (same : AllZip IsDeclaredAs 
         then_holds (AllRight rules t) (IsListOf rules t)
         (list_called (At this names index) fold at name (this_node (At this names index) at))
         (judged_all (At this names index) es) (judged_all_right t this names index are es ints) (λ ks all.
-        list_called_right rules declared same t this names index fold at name (this_node (At this names index) at) ks (this_right t this names index at are))
+        list_called_right rules allowed declared same t this names index fold at name
+        (this_node (At this names index) at) ks (this_right t this names index at are))
     listed_right t this names index are fold (written.CallOf at e name es) ints =
         then_holds (Right rules t) (IsListOf rules t)
         (λ k. and_then (list_called (At this names index) fold at name k) (judged_all (At this names index) es))
         (judged (At this names index) e) (judged_right t this names index are e ints.0) (λ k h.
         then_holds (AllRight rules t) (IsListOf rules t) (list_called (At this names index) fold at name k)
         (judged_all (At this names index) es) (judged_all_right t this names index are es ints.1) (λ ks all.
-        list_called_right rules declared same t this names index fold at name k ks h))
+        list_called_right rules allowed declared same t this names index fold at name k ks h))
     listed_right t this names index are fold e ints = none_holds (IsListOf rules t) (no_list fold) (judged (At this names index) e) (no_list_right rules t fold)

@@ -11,6 +11,7 @@ use Rattle.at_model.specs.Rules.{Attribute, OwnEquation, InheritedEquation}
 use Rattle.at_text.specs.declared.place.Place.{Place}
 use Rattle.at_jrag.specs.Syntax.{Word, KindWord, Body, DeclForm}
 use Rattle.at_jrag.specs.Syntax as written
+use Rattle.at_kinds.specs.declared.arguments.Arguments.{Arguments}
 use Rattle.at_kinds.specs.Accessors.{accessed, is_got, shape_of}
 use Rattle.at_typing.specs.Declaring.{is_attribute, is_inherited, is_own_equation, getter_in, params_in, body_in, class_text, name_text, synthesized_named, inherited_named, is_synthesized_by, is_below, attributes}
 use Rattle.at_kinds.specs.Judging.{Judgement, Is, Wrong, and_then}
@@ -65,11 +66,12 @@ known at (Some b) a is = ap Some (is-is b a is)
 
 -- attributes and equations ---------------------------------------------------------------------------------------------
 
-attribute_of_words : (classes : Classes) (d : Located) (result : KindWord) (a : Attribute) → is_attribute d.decl.form ≡ true → attribute_meant classes d result ≡ Is a → OfAttribute classes d a
-attribute_of_words classes d result a declares is =
+attribute_of_words : (allowed : Arguments) (classes : Classes) (d : Located) (result : KindWord) (a : Attribute)
+    → is_attribute d.decl.form ≡ true → attribute_meant allowed classes d result ≡ Is a → OfAttribute classes d a
+attribute_of_words allowed classes d result a declares is =
     let first = part_of _ (kind_named classes result) a is in
     let second = part_of _ (class_named classes (class_word d.decl.form)) a first.2 in
-    let third = part_of _ (params_named classes 0 (params_in d.decl.form).items) a second.2 in
+    let third = part_of _ (params_named allowed classes 0 (params_in d.decl.form).items) a second.2 in
     let same : attribute d second.0 first.0 third.0 ≡ a = is-is _ a third.2 in (
       declares,
       known (class_word d.decl.form).at (class_of_name classes (class_text d)) second.0 second.1
@@ -78,31 +80,37 @@ attribute_of_words classes d result a declares is =
       ap (λ (x : Attribute). x.is_inherited) same,
     )
 
-numbered_by : (classes : Classes) (declared : List Declared) (c : ℕ) (d : Located) (body : Body) (o : Option ℕ) (p : ℕ × Expr) → body_meant classes declared c d body o ≡ Is p → o ≡ Some p.0
-numbered_by classes declared c d body None p is = wrong-is p is
-numbered_by classes declared c d body (Some a) p is = let found = part_of (λ e. Is (a, e)) (body_if classes declared c d
+numbered_by : (allowed : Arguments) (classes : Classes) (declared : List Declared) (c : ℕ) (d : Located) (body : Body)
+    (o : Option ℕ) (p : ℕ × Expr) → body_meant allowed classes declared c d body o ≡ Is p → o ≡ Some p.0
+numbered_by allowed classes declared c d body None p is = wrong-is p is
+numbered_by allowed classes declared c d body (Some a) p is = let found =
+    part_of (λ e. Is (a, e)) (body_if allowed classes declared c d
     body (slice_get declared a)) p is in ap (λ (x : ℕ × Expr). Some x.0) (is-is (a, found.0) p found.2)
 
-own_of_words : (classes : Classes) (ds : List Located) (d : Located) (body : Body) (c : ℕ) (e : OwnEquation)
+own_of_words : (allowed : Arguments) (classes : Classes) (ds : List Located) (d : Located) (body : Body) (c : ℕ)
+    (e : OwnEquation)
     → is_own_equation d.decl.form ≡ true → class_of_name classes (class_text d) ≡ Some c
-    → own_meant classes ds d body c ≡ Is e → OfOwn classes ds d e
-own_of_words classes ds d body c e has class is =
-    let found = part_of _ (body_meant classes (signatures classes ds) c d body (synthesized_named classes ds (class_text d) (name_text d))) e is in
+    → own_meant allowed classes ds d body c ≡ Is e → OfOwn classes ds d e
+own_of_words allowed classes ds d body c e has class is =
+    let found = part_of _ (body_meant allowed classes (signatures classes ds) c d body
+    (synthesized_named classes ds (class_text d) (name_text d))) e is in
     let same : own_equation c found.0 ≡ e = is-is _ e found.2 in (
       has,
       class ∙ ap (λ (x : OwnEquation). Some x.class) same,
-      numbered_by classes (signatures classes ds) c d body
+      numbered_by allowed classes (signatures classes ds) c d body
           (synthesized_named classes ds (class_text d) (name_text d)) found.0 found.1
           ∙ ap (λ (x : OwnEquation). Some x.attribute) same,
     )
 
-inherited_of_words : (classes : Classes) (ds : List Located) (d : Located) (index : Option Word) (body : Body) (c : ℕ)
+inherited_of_words : (allowed : Arguments) (classes : Classes) (ds : List Located) (d : Located) (index : Option Word)
+    (body : Body) (c : ℕ)
     (g : Word) (part : Option ℕ) (e : InheritedEquation) → getter_in d.decl.form ≡ Some g
     → class_of_name classes (class_text d) ≡ Some c → component_got classes c g ≡ Is part
-    → inherited_meant classes ds d index body c part ≡ Is e → OfInherited classes d e
-inherited_of_words classes ds d index body c g part e gets class got is =
+    → inherited_meant allowed classes ds d index body c part ≡ Is e → OfInherited classes d e
+inherited_of_words allowed classes ds d index body c g part e gets class got is =
     let first = part_of _ (index_of_list classes c part index) e is in
-    let second = part_of _ (body_meant classes (signatures classes ds) c d body (inherited_named ds (name_text d))) e first.2 in
+    let second = part_of _ (body_meant allowed classes (signatures classes ds) c d body
+    (inherited_named ds (name_text d))) e first.2 in
     let same : inherited_equation d c part second.0.1 ≡ e = is-is _ e second.2 in (
       g,
       gets,
@@ -117,53 +125,71 @@ inherited_of_words classes ds d index body c g part e gets class got is =
 moved : (classes : Classes) (ds : List Located) (d : Located) (m n : Meaning) → Is m ≡ Is n → IsOf classes ds d m → IsOf classes ds d n
 moved classes ds d m n is of = subst (IsOf classes ds d) (is-is m n is) of
 
-synthesized_of : (classes : Classes) (ds : List Located) (d : Located) (result : KindWord) (m : Meaning)
-    → is_attribute d.decl.form ≡ true → getter_in d.decl.form ≡ None → synthesized_meant classes ds d result ≡ Is m
+synthesized_of : (allowed : Arguments) (classes : Classes) (ds : List Located) (d : Located) (result : KindWord)
+    (m : Meaning)
+    → is_attribute d.decl.form ≡ true → getter_in d.decl.form ≡ None
+    → synthesized_meant allowed classes ds d result ≡ Is m
     → IsOf classes ds d m
-synthesized_of classes ds d result m declares none is =
-    let found = part_of _ (attribute_meant classes d result) m is in
-    let of = attribute_of_words classes d result found.0 declares found.1 in
+synthesized_of allowed classes ds d result m declares none is =
+    let found = part_of _ (attribute_meant allowed classes d result) m is in
+    let of = attribute_of_words allowed classes d result found.0 declares found.1 in
     by found.0 of (body_in d.decl.form) refl found.2
   where
-    by : (a : Attribute) → OfAttribute classes d a → (o : Option Body) → body_in d.decl.form ≡ o → with_body classes ds d o a ≡ Is m → IsOf classes ds d m
+    by : (a : Attribute) → OfAttribute classes d a → (o : Option Body) → body_in d.decl.form ≡ o
+        → with_body allowed classes ds d o a ≡ Is m → IsOf classes ds d m
     by a of None at rest = moved classes ds d _ m rest (record { declares = sym declares; attribute = of; own = tt; inherited = tt })
     by a of (Some body) at rest =
-        let found = part_of _ (own_meant classes ds d body a.class) m rest in
+        let found = part_of _ (own_meant allowed classes ds d body a.class) m rest in
         let has : is_own_equation d.decl.form ≡ true = ap (λ x. is_some x && not (is_some (getter_in d.decl.form))) at ∙ ap (λ (x : Option Word). not (is_some x)) none in
-        moved classes ds d _ m found.2 (record { declares = sym declares; attribute = of; own = own_of_words classes ds d body a.class found.0 has of.1 found.1; inherited = tt })
+        moved classes ds d _ m found.2 (record {
+          declares = sym declares;
+          attribute = of;
+          own =
+              own_of_words allowed classes ds d body a.class found.0 has of.1 found.1;
+          inherited = tt;
+        })
 
-of_form : (classes : Classes) (ds : List Located) (d : Located) (m : Meaning) (form : DeclForm) → d.decl.form ≡ form → form_meant classes ds d form ≡ Is m → IsOf classes ds d m
-of_form classes ds d m (written.Synthesized lazy result class name params start ending) at is = synthesized_of classes ds d result m (ap is_attribute at) (ap getter_in at) is
-of_form classes ds d m (written.Inherited lazy result class name params start) at is =
-    let found = part_of _ (attribute_meant classes d result) m is in
-    moved classes ds d _ m found.2 (record { declares = sym (ap is_attribute at); attribute = attribute_of_words classes d result found.0 (ap is_attribute at) found.1; own = tt; inherited = tt })
-of_form classes ds d m (written.Equation class name params body) at is =
+of_form : (allowed : Arguments) (classes : Classes) (ds : List Located) (d : Located) (m : Meaning) (form : DeclForm)
+    → d.decl.form ≡ form → form_meant allowed classes ds d form ≡ Is m → IsOf classes ds d m
+of_form allowed classes ds d m (written.Synthesized lazy result class name params start ending) at is =
+    synthesized_of allowed classes ds d result m (ap is_attribute at) (ap getter_in at) is
+of_form allowed classes ds d m (written.Inherited lazy result class name params start) at is =
+    let found = part_of _ (attribute_meant allowed classes d result) m is in
+    moved classes ds d _ m found.2 (record {
+      declares = sym (ap is_attribute at);
+      attribute =
+          attribute_of_words allowed classes d result found.0 (ap is_attribute at) found.1;
+      own = tt;
+      inherited = tt;
+    })
+of_form allowed classes ds d m (written.Equation class name params body) at is =
     let first = part_of _ (class_named classes class) m is in
-    let second = part_of _ (own_meant classes ds d body first.0) m first.2 in
+    let second = part_of _ (own_meant allowed classes ds d body first.0) m first.2 in
     let of_class = ap (λ f. class_of_name classes (class_word f).text) at ∙ known class.at (class_of_name classes class.text) first.0 first.1 in
     moved classes ds d _ m second.2 (record {
       declares = sym (ap is_attribute at);
       attribute = tt;
       own =
-          own_of_words classes ds d body first.0 second.0 (ap is_own_equation at) of_class second.1;
+          own_of_words allowed classes ds d body first.0 second.0 (ap is_own_equation at) of_class second.1;
       inherited = tt;
     })
-of_form classes ds d m (written.InheritedEquation class getter index name params body) at is =
+of_form allowed classes ds d m (written.InheritedEquation class getter index name params body) at is =
     let first = part_of _ (class_named classes class) m is in
     let second = part_of _ (component_got classes first.0 getter) m first.2 in
-    let third = part_of _ (inherited_meant classes ds d index body first.0 second.0) m second.2 in
+    let third = part_of _ (inherited_meant allowed classes ds d index body first.0 second.0) m second.2 in
     let of_class = ap (λ f. class_of_name classes (class_word f).text) at ∙ known class.at (class_of_name classes class.text) first.0 first.1 in
     moved classes ds d _ m third.2
     (record {
       declares = sym (ap is_attribute at);
       attribute = tt;
       own = tt;
-      inherited = inherited_of_words classes
+      inherited = inherited_of_words allowed classes
           ds d index body first.0 getter second.0 third.0 (ap getter_in at) of_class second.1 third.1;
     })
 
-pub of_words : (classes : Classes) (ds : List Located) (d : Located) (m : Meaning) → meant classes ds d ≡ Is m → IsOf classes ds d m
-of_words classes ds d m is = of_form classes ds d m d.decl.form refl is
+pub of_words : (allowed : Arguments) (classes : Classes) (ds : List Located) (d : Located) (m : Meaning)
+    → meant allowed classes ds d ≡ Is m → IsOf classes ds d m
+of_words allowed classes ds d m is = of_form allowed classes ds d m d.decl.form refl is
 
 -- the same of two declarations -----------------------------------------------------------------------------------------
 

@@ -10,6 +10,7 @@ use Rattle.std.proofs.lemmas.Slice.Eq.{bytes_eq-Decides}
 use Rattle.at_model.specs.Classes.{Classes, class_of_name, is_sub}
 use Rattle.at_model.specs.Rules.{Rules, Attribute, OwnEquation, InheritedEquation}
 use Rattle.at_model.proofs.Options.{and_true, or_right}
+use Rattle.at_kinds.specs.declared.arguments.Arguments.{Arguments}
 use Rattle.at_kinds.specs.Judging.{Judgement, Is, Wrong}
 use Rattle.at_text.specs.declared.fault.Failure.{Failure}
 use Rattle.at_typing.specs.Building.{Builds, IsFault, first_fault, meaning_if, meanings, rules_of}
@@ -83,17 +84,21 @@ is_meant : (j : Judgement Meaning) (m : Meaning) → meaning_if j ≡ Some m →
 is_meant (Is n) m is = let e : n ≡ m = cc in ap Is e
 is_meant (Wrong c at) m is = absurd (none-some m is)
 
-module _ {A : Type 0} (classes : Classes) (ds : List Located) (part : Meaning → Option A) (Of : Located → A → Type 0)
-    (of : (d : Located) (m : Meaning) (a : A) → meant classes ds d ≡ Is m → part m ≡ Some a → Of d a)
+module _ (allowed : Arguments) {A : Type 0} (classes : Classes) (ds : List Located) (part : Meaning → Option A) (Of : Located → A → Type 0)
+    (of : (d : Located) (m : Meaning) (a : A) → meant allowed classes ds d ≡ Is m → part m ≡ Some a → Of d a)
     (test : A → A → Bool) (clash : Located → Located → Bool) (clashing : (d e : Located) (a b : A) → Of d a → Of e b → test a b ≡ true → clash e d ≡ true)
     (none : (j : ℕ) (e : Located) (b : A) → slice_get ds j ≡ Some e → Of e b → list_any (clash e) (take j ds) ≡ false) where
   -- where none clashes with one before it, of no two parts the test is true
-  pub never_both : (i j : ℕ) (a b : A) → i < j → slice_get (filter_map part (meanings classes ds ds)) i ≡ Some a → slice_get (filter_map part (meanings classes ds ds)) j ≡ Some b → test a b ≡ false
+  pub never_both : (i j : ℕ) (a b : A) → i < j → slice_get (filter_map part (meanings allowed classes ds ds)) i ≡ Some a
+      → slice_get (filter_map part (meanings allowed classes ds ds)) j ≡ Some b → test a b ≡ false
   never_both i j a b less is at =
-      let p = pair_of part (meanings classes ds ds) i j a b less is at in
-      let q = pair_of (λ d. meaning_if (meant classes ds d)) ds p.first p.second p.before p.behind p.order p.first_there p.second_there in
-      let of_a = of q.before p.before a (is_meant (meant classes ds q.before) p.before q.first_gives) p.first_gives in
-      let of_b = of q.behind p.behind b (is_meant (meant classes ds q.behind) p.behind q.second_gives) p.second_gives in
+      let p = pair_of part (meanings allowed classes ds ds) i j a b less is at in
+      let q = pair_of (λ d. meaning_if (meant allowed classes ds d)) ds p.first p.second p.before p.behind p.order
+      p.first_there p.second_there in
+      let of_a = of q.before p.before a (is_meant (meant allowed classes ds q.before) p.before q.first_gives)
+      p.first_gives in
+      let of_b = of q.behind p.behind b (is_meant (meant allowed classes ds q.behind) p.behind q.second_gives)
+      p.second_gives in
       let apart : clash q.behind q.before ≡ false = none_passes (clash q.behind) ds q.first q.second q.before q.order q.first_there (none q.second q.behind b q.second_there of_b) in
       not_both (test a b) (λ so. true≢false (sym (clashing q.before q.behind a b of_a of_b so) ∙ apart))
 
@@ -139,20 +144,23 @@ option_turned None (Some j) = refl
 option_turned (Some i) None = refl
 option_turned (Some i) (Some j) = nat_eq_equiv.symm i j
 
-pub singles : (classes : Classes) (ds : List Located) → declared_twice classes ds ≡ None → equation_twice ds ≡ None → AreSingle (rules_of classes ds)
-singles classes ds once single = record {
+pub singles : (allowed : Arguments) (classes : Classes) (ds : List Located) → declared_twice classes ds ≡ None
+    → equation_twice ds ≡ None → AreSingle (rules_of allowed classes ds)
+singles allowed classes ds once single = record {
   attributes = λ i j a b less is at name. second_true (bytes_eq a.name b.name) (is_sub classes a.class b.class || is_sub classes b.class a.class) name
-      (never_both classes ds (λ (m : Meaning). m.attribute) (OfAttribute classes)
-      (λ d m a is there. said (OfAttribute classes d) m.attribute a there (of_words classes ds d m is).attribute)
+      (never_both allowed classes ds (λ (m : Meaning). m.attribute) (OfAttribute classes)
+      (λ d m a is there. said (OfAttribute classes d) m.attribute a there
+      (of_words allowed classes ds d m is).attribute)
       (is_again classes) (clashes classes) (clash_on_line classes)
       (λ j e b there of. no_clash classes ds j e (slice_get_within ds j e there) (sym (get_or_from_slice_get ds j e e there)) once of.0) i j a b less is at);
-  own = never_both classes ds (λ (m : Meaning). m.own) (OfOwn classes ds)
-      (λ d m a is there. said (OfOwn classes ds d) m.own a there (of_words classes ds d m is).own)
+  own = never_both allowed classes ds (λ (m : Meaning). m.own) (OfOwn classes ds)
+      (λ d m a is there. said (OfOwn classes ds d) m.own a there (of_words allowed classes ds d m is).own)
       (λ (e f : OwnEquation). nat_eq e.class f.class && nat_eq e.attribute f.attribute) is_same_equation
       (λ d e a b of other so. same_own classes ds e d b a other of (turned_own a b so))
       (λ j e b there of. no_equation ds j e (slice_get_within ds j e there) (sym (get_or_from_slice_get ds j e e there)) single);
-  inherited = never_both classes ds (λ (m : Meaning). m.inherited) (OfInherited classes) (λ d m a is there. said
-      (OfInherited classes d) m.inherited a there (of_words classes ds d m is).inherited) (λ (e f : InheritedEquation).
+  inherited = never_both allowed classes ds (λ (m : Meaning). m.inherited) (OfInherited classes) (λ d m a is there. said
+      (OfInherited classes d) m.inherited a there (of_words allowed classes ds d m is).inherited)
+      (λ (e f : InheritedEquation).
       (nat_eq e.class f.class && option_eq nat_eq e.part f.part) && bytes_eq e.name f.name) is_same_equation
       (λ d e a b of other so. same_inherited classes e d b a other of (turned_inherited a b so))
       (λ j e b there of. no_equation ds j e (slice_get_within ds j e there) (sym (get_or_from_slice_get ds j e e there)) single);
@@ -167,15 +175,17 @@ singles classes ds once single = record {
     turned_inherited a b so = ap₂ (λ x y. x && y) (ap₂ (λ x y. x && y) (nat_eq_equiv.symm b.class a.class) (option_turned b.part a.part)) (nat_list_eq_equiv.symm b.name a.name) ∙ so
 
 -- rules that are built have one of each
-pub single_if_ok : (classes : Classes) (ds : List Located) (r : Result Rules (Failure Breach)) → Builds classes ds r → IfOk r AreSingle
-single_if_ok classes ds (Ok rules) (fault, is) = by (first_fault classes ds) refl fault
+pub single_if_ok : (allowed : Arguments) (classes : Classes) (ds : List Located) (r : Result Rules (Failure Breach))
+    → Builds allowed classes ds r → IfOk r AreSingle
+single_if_ok allowed classes ds (Ok rules) (fault, is) = by (first_fault allowed classes ds) refl fault
   where
-    by : (o : Option Breach) → first_fault classes ds ≡ o → IsFault classes ds o None → AreSingle rules
+    by : (o : Option Breach) → first_fault allowed classes ds ≡ o → IsFault allowed classes ds o None → AreSingle rules
     by None none lack =
         let together : fault_together classes ds ≡ None = first_none (fault_together classes ds) _ none in
         let behind_limit = other_none (over_limit ds) _ together in
         let behind_names = other_none (accessor_named classes ds) _ behind_limit in
         let behind_twice = other_none (declared_twice classes ds) _ behind_names in
-        subst AreSingle (sym is) (singles classes ds (first_none (declared_twice classes ds) _ behind_names) (other_none (without_attribute classes ds) _ behind_twice))
+        subst AreSingle (sym is) (singles allowed classes ds (first_none (declared_twice classes ds) _ behind_names)
+        (other_none (without_attribute classes ds) _ behind_twice))
     by (Some f) some lack = absurd (none-some f lack)
-single_if_ok classes ds (Err e) built = tt
+single_if_ok allowed classes ds (Err e) built = tt

@@ -7,6 +7,7 @@ use Rattle.at_model.specs.Rules.{Rules, Attribute, Exposed, own_equation}
 use Rattle.at_text.specs.declared.place.Place.{Place}
 use Rattle.at_jrag.specs.Syntax.{Word, Params, Body, Equation, InheritedEquation}
 use Rattle.at_jrag.specs.Syntax as written
+use Rattle.at_kinds.specs.declared.arguments.Arguments.{Arguments}
 use Rattle.at_kinds.specs.Accessors.{accessor_named}
 use Rattle.at_kinds.specs.Judging.{Is}
 use Rattle.at_kinds.specs.declared.accessors.Accessor.{Accessor}
@@ -126,8 +127,8 @@ AreEquationsOnce ds = (i j : ℕ) (d e : Located) → i < j → slice_get ds i �
 -- J3, J5 and J4 --------------------------------------------------------------------------------------------------------
 
 -- each declaration means something: each name is there, and each parameter, argument and expression is as it has to be
-abbrev pub HaveMeanings : Classes → List Located → Type 0
-HaveMeanings classes ds = (i : ℕ) (d : Located) → slice_get ds i ≡ Some d → (m : Meaning) × (meant classes ds d ≡ Is m)
+abbrev pub HaveMeanings : Arguments → Classes → List Located → Type 0
+HaveMeanings allowed classes ds = (i : ℕ) (d : Located) → slice_get ds i ≡ Some d → (m : Meaning) × (meant allowed classes ds d ≡ Is m)
 
 -- J7 and J8 ------------------------------------------------------------------------------------------------------------
 
@@ -144,17 +145,17 @@ AreCovered rules = (c attribute : ℕ) (a : Attribute) → slice_get rules.attri
 -- ----------------------------------------------------------------------------------------------------------------------
 
 -- the declarations keep the rule of that code
-abbrev pub Keeps : Classes → List Located → RuleCode → Type 0
-Keeps classes ds Limit = AreFew ds
-Keeps classes ds NameOfAccessor = AreNoAccessors classes ds
-Keeps classes ds AttributeTwice = AreDeclaredOnce classes ds
-Keeps classes ds EquationWithoutAttribute = AreOfAttributes classes ds
-Keeps classes ds EquationTwice = AreEquationsOnce ds
-Keeps classes ds UnknownName = HaveMeanings classes ds
-Keeps classes ds Argument = HaveMeanings classes ds
-Keeps classes ds Kind = HaveMeanings classes ds
-Keeps classes ds ClassWithoutEquation = HaveOwnEquations (rules_of classes ds)
-Keeps classes ds InheritedWithoutEquation = AreCovered (rules_of classes ds)
+abbrev pub Keeps : Arguments → Classes → List Located → RuleCode → Type 0
+Keeps allowed classes ds Limit = AreFew ds
+Keeps allowed classes ds NameOfAccessor = AreNoAccessors classes ds
+Keeps allowed classes ds AttributeTwice = AreDeclaredOnce classes ds
+Keeps allowed classes ds EquationWithoutAttribute = AreOfAttributes classes ds
+Keeps allowed classes ds EquationTwice = AreEquationsOnce ds
+Keeps allowed classes ds UnknownName = HaveMeanings allowed classes ds
+Keeps allowed classes ds Argument = HaveMeanings allowed classes ds
+Keeps allowed classes ds Kind = HaveMeanings allowed classes ds
+Keeps allowed classes ds ClassWithoutEquation = HaveOwnEquations (rules_of allowed classes ds)
+Keeps allowed classes ds InheritedWithoutEquation = AreCovered (rules_of allowed classes ds)
 
 -- which of the codes comes first; three are looked at together
 abbrev pub order : RuleCode → ℕ

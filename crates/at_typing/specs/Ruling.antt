@@ -1,5 +1,5 @@
 -- The parts of a declaration: its kinds, its class, its component and index name, its parameters; or their first fault.
-use Rattle.std.specs.Prelude.{ℕ, ◌+◌, Bool, true, false, ◌&&◌, nat_eq, nat_lt, List, [], ◌∷◌, length, map, codes, position, Option, Some, None, is_some, option_map, option_and_then, slice_get, if◌then◌else◌}
+use Rattle.std.specs.Prelude.{ℕ, ◌+◌, Bool, true, false, ◌&&◌, not, nat_eq, nat_lt, List, [], ◌∷◌, length, map, codes, position, Option, Some, None, is_some, option_map, option_and_then, slice_get, if◌then◌else◌}
 use Rattle.std.specs.Borrow.{Bor}
 use Rattle.std.specs.Str.{bytes_eq}
 use Rattle.at_model.specs.Classes.{Classes, class_of_name, parts}
@@ -9,8 +9,11 @@ use Rattle.at_jrag.specs.Syntax.{Word, KindWord, Param}
 use Rattle.at_jrag.specs.Syntax as written
 use Rattle.at_jrag.specs.View.{kind_word_view}
 use Rattle.at_jrag.specs.declared.syntax.KindWord.{KindWord as KindWordValue}
+use Rattle.at_rules.specs.Bodies.{is_numeric}
 use Rattle.at_rules.specs.declared.body.Kind.{Kind}
 use Rattle.at_rules.specs.declared.body.Kind.TheVariants as kind
+use Rattle.at_kinds.specs.declared.arguments.Arguments.{Arguments}
+use Rattle.at_kinds.specs.declared.arguments.Arguments.TheVariants.{Given, Computed}
 use Rattle.at_kinds.specs.Accessors.{accessed, shape_of, is_list}
 use Rattle.at_kinds.specs.Judging.{Judgement, Is, Wrong, and_then, Bound}
 use Rattle.at_kinds.specs.declared.code.RuleCode.TheVariants as code
@@ -63,27 +66,29 @@ class_named classes word = or_unknown word.at (class_of_name classes word.text)
 abbrev pub kind_named : Classes → KindWord → Judgement Kind
 kind_named classes word = or_unknown word.at (known_kind classes word.kind)
 
-unfoldable pub max_parameters : ℕ
-max_parameters = 2
+-- how many parameters an attribute may have
+unfoldable pub max_parameters : Arguments → ℕ
+max_parameters Given = 2
+max_parameters Computed = 4
 
--- texts and nodes can be passed
-abbrev pub can_be_passed : Kind → Bool
-can_be_passed kind.Int = false
-can_be_passed kind.Bool = false
-can_be_passed kind.Text = true
-can_be_passed (kind.Class c) = true
+-- texts and nodes can be passed; where what is computed may be an argument, so can ints and booleans
+abbrev pub can_be_passed : Arguments → Kind → Bool
+can_be_passed Given k = not (is_numeric k)
+can_be_passed Computed k = true
 
 abbrev pub passed_if : Bool → Place → Kind → Judgement Kind
 passed_if b at k = if b then Is k else Wrong code.Argument at
 
 -- the kind of the parameter at that position
-abbrev pub param_named : Classes → ℕ → Param → Judgement Kind
-param_named classes i p = and_then (λ k. passed_if (can_be_passed k && nat_lt i max_parameters) p.kind.at k) (kind_named classes p.kind)
+abbrev pub param_named : Arguments → Classes → ℕ → Param → Judgement Kind
+param_named allowed classes i p =
+    and_then (λ k. passed_if (can_be_passed allowed k && nat_lt i (max_parameters allowed)) p.kind.at k) (kind_named classes p.kind)
 
 -- the kinds of the parameters, the first of which stands at that position
-abbrev pub params_named : Classes → ℕ → List Param → Judgement (List Kind)
-params_named classes i [] = Is []
-params_named classes i (p ∷ ps) = and_then (λ k. and_then (λ ks. Is (k ∷ ks)) (params_named classes (i + 1) ps)) (param_named classes i p)
+abbrev pub params_named : Arguments → Classes → ℕ → List Param → Judgement (List Kind)
+params_named allowed classes i [] = Is []
+params_named allowed classes i (p ∷ ps) =
+    and_then (λ k. and_then (λ ks. Is (k ∷ ks)) (params_named allowed classes (i + 1) ps)) (param_named allowed classes i p)
 
 abbrev pub is_same : Kind → Kind → Bool
 is_same kind.Int kind.Int = true
@@ -99,14 +104,15 @@ is_kind (Some (Strange first)) k = false
 is_kind None k = false
 
 -- the parameter at that position is the one that is declared
-abbrev pub param_as_declared : Classes → List WrittenKind → ℕ → Param → Judgement Kind
-param_as_declared classes declared i p = and_then (λ k. passed_if (is_kind (slice_get declared i) k) p.kind.at k) (param_named classes i p)
+abbrev pub param_as_declared : Arguments → Classes → List WrittenKind → ℕ → Param → Judgement Kind
+param_as_declared allowed classes declared i p = and_then (λ k. passed_if (is_kind (slice_get declared i) k) p.kind.at k) (param_named allowed classes i p)
 
 -- the parameters of an equation are those of its attribute: at the first one that is wrong or too many, or at the end where one is
 -- missing
-abbrev pub as_declared : Classes → List WrittenKind → (end : Place) → ℕ → List Param → Judgement (Unit {0})
-as_declared classes declared end i [] = if nat_lt i (length declared) then Wrong code.Argument end else Is tt
-as_declared classes declared end i (p ∷ ps) = and_then (λ k. as_declared classes declared end (i + 1) ps) (param_as_declared classes declared i p)
+abbrev pub as_declared : Arguments → Classes → List WrittenKind → (end : Place) → ℕ → List Param → Judgement (Unit {0})
+as_declared allowed classes declared end i [] = if nat_lt i (length declared) then Wrong code.Argument end else Is tt
+as_declared allowed classes declared end i (p ∷ ps) =
+    and_then (λ k. as_declared allowed classes declared end (i + 1) ps) (param_as_declared allowed classes declared i p)
 
 abbrev pub is_component : Option class.Shape → Bool
 is_component None = false

@@ -1,6 +1,6 @@
 -- Declarations over the classes of calc.ast, one row for each code, as they stand in one line of one file.
-use Rattle.std.specs.Prelude.{ℕ, pos, Bool, true, false, List, [], ◌∷◌, Option, None, Some, codes}
-use Rattle.at_jrag.specs.Syntax.{Bool', DeclForm, Equation, Expr, Inherited, InheritedEquation, Int, Kind, KindWord, Number, Semicolon, Synthesized, TextLiteral, Truth, With}
+use Rattle.std.specs.Prelude.{ℕ, ◌+◌, pos, Bool, true, false, List, [], ◌∷◌, ◌++◌, Option, None, Some, codes}
+use Rattle.at_jrag.specs.Syntax.{Bool', DeclForm, Equation, Expr, Inherited, InheritedEquation, Int, Kind, KindWord, Number, Param, Semicolon, Synthesized, Text, TextLiteral, Truth, With}
 use Rattle.at_jrag.specs.Syntax as written
 use Rattle.at_typing.specs.Located.{Located}
 use Rattle.at_typing.specs.Samples.{call, column, declared, equals, no_params, word}
@@ -28,6 +28,39 @@ passes_an_int =
 -- syn int Program.a() = true;
 abbrev pub is_a_boolean : List Located
 is_a_boolean = declared 12 (program_int (Truth (column 34) true)) ∷ []
+
+-- K NAME
+abbrev pub param : Kind → List ℕ → (at name_at : ℕ) → Param
+param k name n m = record { kind = kind k n; name = word name m }
+
+-- syn int Program.a(..) = 1;, where the parameters end in that column
+abbrev pub takes : List Param → ℕ → List Located
+takes ps n =
+    declared 12 (Synthesized None (kind Int 16) (word (codes "Program") 20) (word (codes "a") 28)
+    (record { items = ps; end = column n }) None (With (equals (n + 2) (one (n + 4))))) ∷ []
+
+-- with int v, int w, int x, int y
+abbrev pub four : List Param
+four = param Int (codes "v") 30 34 ∷ param Int (codes "w") 37 41 ∷ param Int (codes "x") 44 48 ∷ param Int (codes "y") 51 55 ∷ []
+
+-- and with int z
+abbrev pub takes_five : List Located
+takes_five = takes (four ++ param Int (codes "z") 58 62 ∷ []) 63
+
+-- with String v, String w, String x
+abbrev pub takes_texts : List Located
+takes_texts = takes (param Text (codes "v") 30 37 ∷ param Text (codes "w") 40 47 ∷ param Text (codes "x") 50 57 ∷ []) 58
+
+-- with int v, boolean w
+abbrev pub takes_numbers : List Located
+takes_numbers = takes (param Int (codes "v") 30 34 ∷ param Bool' (codes "w") 37 45 ∷ []) 46
+
+-- syn int Program.a(String s) = a(s + "x");
+abbrev pub passes_a_sum : List Located
+passes_a_sum =
+    declared 12 (Synthesized None (kind Int 16) (word (codes "Program") 20) (word (codes "a") 28)
+    (record { items = param Text (codes "s") 30 37 ∷ []; end = column 38 }) None (With (equals 40 (call (codes "a") 42
+    (written.Binary (column 44) written.Add (column 46) (written.Name (column 44) (codes "s")) (TextLiteral (column 48) (codes "x")) ∷ []))))) ∷ []
 
 -- syn boolean Use.a() = getID() == "x";
 abbrev pub compares_texts : List Located

@@ -16,6 +16,7 @@ use Rattle.at_rules.specs.declared.rules.Equations.{Equations}
 use Rattle.at_typing.specs.AttributeKeys.{AreAttributes, IsAmong}
 use Rattle.at_typing.specs.Building.{meanings, refusal}
 use Rattle.at_typing.specs.Declaring.{fault_at, name_text}
+use Rattle.at_kinds.specs.declared.arguments.Arguments.{Arguments}
 use Rattle.at_kinds.specs.Judging.{Judgement, Is, Wrong}
 use Rattle.at_typing.specs.Located.{Located}
 use Rattle.at_typing.specs.Meanings.{Meaning, signatures, inherited_equation}
@@ -124,11 +125,11 @@ pub record Stands {Z : Type 0} (names : List (String Z)) (ms : List Meaning) (e 
   pub inherited : map (inherited_view names) (named names e.inherited.entries) ≡ filter_map (λ (m : Meaning). m.inherited) ms
 
 -- what the declarations mean, where there is no fault; else the fault is told; of want of memory nothing is said
-abbrev pub Means : Classes → List NumberedValue → Option Breach → Result Equations (Failure Breach) → Type 0
-Means classes ds first (Ok e) = (first ≡ None)
-    × ((names : List (String Global)) → All (IsNamed names) ds → Stands names (meanings classes (map numbered_view ds) (map numbered_view ds)) e)
-Means classes ds first (Err (failure.For f)) = first ≡ Some f
-Means classes ds first (Err failure.Memory) = Unit {0}
+abbrev pub Means : Arguments → Classes → List NumberedValue → Option Breach → Result Equations (Failure Breach) → Type 0
+Means allowed classes ds first (Ok e) = (first ≡ None)
+    × ((names : List (String Global)) → All (IsNamed names) ds → Stands names (meanings allowed classes (map numbered_view ds) (map numbered_view ds)) e)
+Means allowed classes ds first (Err (failure.For f)) = first ≡ Some f
+Means allowed classes ds first (Err failure.Memory) = Unit {0}
 
 -- it is the fault that is told, or there is none; of want of memory nothing is said
 abbrev pub Tells : (Option Breach → Type 0) → Result (Unit {0}) (Failure Breach) → Type 0

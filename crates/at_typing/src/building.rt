@@ -25,13 +25,13 @@ use crate::written::signatures_of;
 use at_class::ClassTable;
 use at_complete::{class_without_equation, inherited_without_equation};
 use at_jrag::Aspect;
-use at_kinds::RuleCode;
 use at_kinds::typing::TypeFault;
+use at_kinds::{Arguments, RuleCode};
 use at_rules::{AttrId, Equations, Rules};
 use at_text::fault::{Failure, Fault};
 use std::alloc::Global;
 
-/// The rules of the declarations of the aspect files over the classes.
+/// The rules of the declarations of the aspect files over the classes, where such arguments may be passed.
 ///
 /// # Errors
 ///
@@ -39,8 +39,13 @@ use std::alloc::Global;
 /// too long a text, an attribute with an accessor's name, one declared twice, an equation without attribute,
 /// an equation twice; then in the order of the declarations unknown names, wrong arguments and wrong kinds; a
 /// class without equation for a synthesized attribute, and for an inherited one. `Memory` for want of memory.
-pub fn build(alloc: Global, classes: ClassTable, files: &[Vec<Aspect>]) -> Result<Rules, RuleFault>
-    ensures built { Builds classes (declarations_in files.now) result }
+pub fn build(
+    alloc: Global,
+    classes: ClassTable,
+    arguments: Arguments,
+    files: &[Vec<Aspect>],
+) -> Result<Rules, RuleFault>
+    ensures built { Builds arguments classes (declarations_in files.now) result }
     ensures complete { IfOk result AreComplete }
     ensures well_formed { IsHierarchy classes → AreSpelled files.now → IfOk result AreWellFormed }
     ensures single { IfOk result AreSingle }
@@ -49,20 +54,21 @@ pub fn build(alloc: Global, classes: ClassTable, files: &[Vec<Aspect>]) -> Resul
     ensures classes { IfOk result (λ r. r.classes ≡ classes) }
 {
     let declared = Declarations::of(alloc, &classes, files)?;
-    let meant = meant_together(alloc, &classes, &declared.items)?;
-    complete_rules(alloc, classes, declared, meant)
+    let meant = meant_together(alloc, &classes, arguments, &declared.items)?;
+    complete_rules(alloc, classes, arguments, declared, meant)
 }
 
 /// The rules of declarations that mean that, unless a class lacks an equation.
 fn complete_rules(
     alloc: Global,
     classes: ClassTable,
+    arguments: Arguments,
     declared: Declarations,
     meant: Equations,
 ) -> Result<Rules, RuleFault>
-    requires { (first_fault classes (map numbered_view declared.items.items) ≡ None)
-        × Stands declared.names.keys (meanings classes (map numbered_view declared.items.items) (map numbered_view declared.items.items)) meant }
-    ensures built { Builds classes (map numbered_view declared.entry.items.items) result }
+    requires { (first_fault arguments classes (map numbered_view declared.items.items) ≡ None)
+        × Stands declared.names.keys (meanings arguments classes (map numbered_view declared.items.items) (map numbered_view declared.items.items)) meant }
+    ensures built { Builds arguments classes (map numbered_view declared.entry.items.items) result }
     ensures complete { IfOk result AreComplete }
     ensures classes { IfOk result (λ r. r.classes ≡ classes) }
 {
@@ -76,16 +82,17 @@ fn complete_rules(
 fn meant_together(
     alloc: Global,
     classes: &ClassTable,
+    arguments: Arguments,
     declared: &[Numbered],
 ) -> Result<Equations, RuleFault>
     requires { AreNumbered classes.now declared.now }
-    ensures { Means classes.now declared.now (first_fault classes.now (map numbered_view declared.now)) result }
+    ensures { Means arguments classes.now declared.now (first_fault arguments classes.now (map numbered_view declared.now)) result }
 {
     let attributes = Attributes::of(alloc, declared)?;
     let fault = fault_together(alloc, classes, &attributes, declared)?;
     match fault {
         Some(fault) => Err(Failure::For(fault)),
-        None => meant_by(alloc, classes, &attributes, declared),
+        None => meant_by(alloc, classes, arguments, &attributes, declared),
     }
 }
 
@@ -113,17 +120,19 @@ fn refuse(code: RuleCode, declared: &[Numbered], attribute: Option<AttrId>) -> R
 fn meant_by(
     alloc: Global,
     classes: &ClassTable,
+    arguments: Arguments,
     attributes: &Attributes,
     declared: &[Numbered],
 ) -> Result<Equations, RuleFault>
     requires { AreNumbered classes.now declared.now × AreAttributes declared.now attributes.now
         × (fault_together classes.now (map numbered_view declared.now) ≡ None) }
-    ensures { Means classes.now declared.now (refused classes.now (map numbered_view declared.now)) result }
+    ensures { Means arguments classes.now declared.now (refused arguments classes.now (map numbered_view declared.now)) result }
 {
     let signatures = signatures_of(alloc, classes, declared)?;
     let among = Among {
         alloc,
         classes,
+        arguments,
         attributes,
         signatures: &signatures,
     };
@@ -138,7 +147,7 @@ fn meant_by(
 fn add(among: &Among, numbered: &Numbered, meant: &mut Equations) -> Result<(), RuleFault>
     ensures { (ds : List NumberedValue) → IsAbout ds among.now numbered.now
         → AddsOrTells (numbered_view numbered.now) numbered.now.name
-        (meant_by_itself among.now.classes.now (map numbered_view ds) (numbered_view numbered.now)) meant.old meant.new result }
+        (meant_by_itself among.now.arguments among.now.classes.now (map numbered_view ds) (numbered_view numbered.now)) meant.old meant.new result }
 {
     match among.add(numbered, meant) {
         Ok(()) => Ok(()),

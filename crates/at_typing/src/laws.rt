@@ -7,6 +7,7 @@ ghost use Rattle.at_model.specs.Rules.{Rules};
 ghost use Rattle.at_model.specs.WellFormed.{AreWellFormed, IsHierarchy};
 ghost use Rattle.at_jrag.specs.Syntax.{Aspect};
 ghost use Rattle.at_text.specs.declared.fault.Failure.TheVariants.{For};
+ghost use Rattle.at_kinds.specs.declared.arguments.Arguments.{Arguments};
 ghost use Rattle.at_kinds.specs.declared.code.RuleCode.{RuleCode};
 ghost use Rattle.at_typing.specs.AspectRules.{AreDeclaredOnce, AreEquationsOnce, AreFew, AreNoAccessors, AreOfAttributes, HaveMeanings, Keeps, order};
 ghost use Rattle.at_typing.specs.Building.{refused, Builds};
@@ -17,8 +18,8 @@ ghost use Rattle.at_typing.specs.declared.fault.Breach.{Breach};
 /// The rules that the declarations of aspects make are well formed, where the aspects are such as can be written
 /// and the classes are a hierarchy.
 pub fn what_is_built_is_well_formed()
-    ensures { (classes : Classes) (files : List (List Aspect)) (rules : Rules) → IsHierarchy classes → AllByRecursion IsSpelled files
-        → Builds classes (located 1 files) (Ok rules) → AreWellFormed rules }
+    ensures { (allowed : Arguments) (classes : Classes) (files : List (List Aspect)) (rules : Rules) → IsHierarchy classes
+        → AllByRecursion IsSpelled files → Builds allowed classes (located 1 files) (Ok rules) → AreWellFormed rules }
 {}
 
 /// The test of each code finds nothing exactly where the declarations keep its rule: there are at most 2,000 attributes,
@@ -30,16 +31,18 @@ pub fn each_test_says_its_rule()
     ensures attribute_twice { (classes : Classes) (ds : List Located) → (declared_twice classes ds ≡ None) ↔ AreDeclaredOnce classes ds }
     ensures without_attribute { (classes : Classes) (ds : List Located) → (without_attribute classes ds ≡ None) ↔ AreOfAttributes classes ds }
     ensures equation_twice { (ds : List Located) → (equation_twice ds ≡ None) ↔ AreEquationsOnce ds }
-    ensures by_itself { (classes : Classes) (ds : List Located) → (refused classes ds ≡ None) ↔ HaveMeanings classes ds }
+    ensures by_itself { (allowed : Arguments) (classes : Classes) (ds : List Located)
+        → (refused allowed classes ds ≡ None) ↔ HaveMeanings allowed classes ds }
 {}
 
 /// Declarations make rules exactly where they keep the rule of every code.
 pub fn accepted_aspects_keep_each_rule()
-    ensures { (classes : Classes) (ds : List Located) → ((rules : Rules) × Builds classes ds (Ok rules)) ↔ ((c : RuleCode) → Keeps classes ds c) }
+    ensures { (allowed : Arguments) (classes : Classes) (ds : List Located)
+        → ((rules : Rules) × Builds allowed classes ds (Ok rules)) ↔ ((c : RuleCode) → Keeps allowed classes ds c) }
 {}
 
 /// The code that declarations are refused for is that of a rule which they break, and they keep each rule that is looked at before.
 pub fn the_first_rule_that_is_broken_is_told()
-    ensures { (classes : Classes) (ds : List Located) (f : Breach) → Builds classes ds (Err (For f))
-        → (Keeps classes ds f.code → ⊥) × ((c : RuleCode) → order c < order f.code → Keeps classes ds c) }
+    ensures { (allowed : Arguments) (classes : Classes) (ds : List Located) (f : Breach) → Builds allowed classes ds (Err (For f))
+        → (Keeps allowed classes ds f.code → ⊥) × ((c : RuleCode) → order c < order f.code → Keeps allowed classes ds c) }
 {}

@@ -4,13 +4,13 @@ ghost use Rattle.std.specs.Prelude.{◌≡◌, List, Some, map, option_map, opti
 ghost use Rattle.at_class.specs.View.{shape_view};
 ghost use Rattle.at_jrag.specs.View.{body_view as written_body, decl_form_view, kind_word_view, param_view, params_view, word_view};
 ghost use Rattle.at_model.specs.Classes.{parts};
-ghost use Rattle.at_rules.specs.Bodies.{body_view};
+ghost use Rattle.at_rules.specs.Bodies.{body_view, is_numeric};
 ghost use Rattle.at_kinds.specs.Accessors.{shape_of};
 ghost use Rattle.at_typing.specs.Declaring.{class_text, name_text, synthesized_named, inherited_named};
 ghost use Rattle.at_kinds.specs.Judging.{and_then};
 ghost use Rattle.at_typing.specs.Meanings.{body_if, body_meant, attribute_meant, declared_alone, synthesized_meant, equation_meant, equation_below_meant, form_meant, meant as meant_by_itself};
 ghost use Rattle.at_typing.specs.Numbering.{numbered_view};
-ghost use Rattle.at_typing.specs.Ruling.{class_named, kind_named, param_named, params_named, can_be_passed, passed_if, is_kind, is_same, param_as_declared, as_declared, is_component, component_at, component_got, is_many, index_of_list, bound};
+ghost use Rattle.at_typing.specs.Ruling.{class_named, kind_named, max_parameters, param_named, params_named, can_be_passed, passed_if, is_kind, is_same, param_as_declared, as_declared, is_component, component_at, component_got, is_many, index_of_list, bound};
 ghost use Rattle.at_typing.specs.Seen.{attribute_of, equation_view, Declares, AddsOwn, AddsInherited, Adds, IsAbout};
 ghost use Rattle.at_kinds.specs.Signatures.{declared_view};
 ghost use Rattle.at_kinds.specs.Typed.{bound_view, Judges};
@@ -26,25 +26,23 @@ use crate::numbered::Numbered;
 use crate::written::{as_written, known_kind};
 use at_class::{ClassId, ClassTable, PartShape};
 use at_jrag::{Body as Written, DeclForm, KindWord, Param, Params, Word};
-use at_kinds::RuleCode;
 use at_kinds::accessors::accessed;
 use at_kinds::components::parts_of;
 use at_kinds::signatures::{Signature, Signatures, WrittenKind};
 use at_kinds::typing::{Bound, Scope, TypeFault, body_of};
+use at_kinds::{Arguments, RuleCode};
 use at_rules::{AttrId, Attribute, Body, Equations, Kind};
 use at_text::fault::Fault;
 use at_text::place::Place;
 use std::alloc::{AllocError, Global};
 use std::rc::Rc;
 
-/// How many parameters an attribute may have.
-const MAX_PARAMETERS: usize = 2;
-
-/// What a declaration is looked at among: the classes and all attributes.
+/// What a declaration is looked at among: the classes and all attributes, to which such arguments may be passed.
 #[derive(Clone, Copy)]
 pub struct Among<'a> {
     pub alloc: Global,
     pub classes: &'a ClassTable,
+    pub arguments: Arguments,
     pub attributes: &'a Attributes,
     pub signatures: &'a Signatures,
 }
@@ -59,7 +57,7 @@ impl Among<'_> {
     pub fn add(&self, numbered: &Numbered, meant: &mut Equations) -> Result<(), TypeFault>
         ensures { (ds : List NumberedValue) → IsAbout ds self.now numbered.now
             → Adds (numbered_view numbered.now) numbered.now.name
-            (meant_by_itself self.now.classes.now (map numbered_view ds) (numbered_view numbered.now))
+            (meant_by_itself self.now.arguments self.now.classes.now (map numbered_view ds) (numbered_view numbered.now))
             meant.old meant.new result }
     {
         self.add_form(&numbered.decl.form, numbered, meant)
@@ -74,7 +72,7 @@ impl Among<'_> {
     ) -> Result<(), TypeFault>
         ensures { (ds : List NumberedValue) → IsAbout ds self.now numbered.now
             → Adds (numbered_view numbered.now) numbered.now.name
-            (form_meant self.now.classes.now (map numbered_view ds) (numbered_view numbered.now) (decl_form_view form.now))
+            (form_meant self.now.arguments self.now.classes.now (map numbered_view ds) (numbered_view numbered.now) (decl_form_view form.now))
             meant.old meant.new result }
     {
         match form {
@@ -102,7 +100,7 @@ impl Among<'_> {
     ) -> Result<(), TypeFault>
         ensures { (ds : List NumberedValue) → IsAbout ds self.now numbered.now
             → Adds (numbered_view numbered.now) numbered.now.name
-            (synthesized_meant self.now.classes.now (map numbered_view ds) (numbered_view numbered.now) (kind_word_view kind.now))
+            (synthesized_meant self.now.arguments self.now.classes.now (map numbered_view ds) (numbered_view numbered.now) (kind_word_view kind.now))
             meant.old meant.new result }
     {
         let class = self.declare(numbered, kind, meant)?;
@@ -120,7 +118,7 @@ impl Among<'_> {
         meant: &mut Equations,
     ) -> Result<(), TypeFault>
         ensures { Adds (numbered_view numbered.now) numbered.now.name
-            (and_then declared_alone (attribute_meant self.now.classes.now (numbered_view numbered.now) (kind_word_view kind.now)))
+            (and_then declared_alone (attribute_meant self.now.arguments self.now.classes.now (numbered_view numbered.now) (kind_word_view kind.now)))
             meant.old meant.new result }
     {
         self.declare(numbered, kind, meant)?;
@@ -137,7 +135,8 @@ impl Among<'_> {
     ) -> Result<(), TypeFault>
         ensures { (ds : List NumberedValue) → IsAbout ds self.now numbered.now
             → Adds (numbered_view numbered.now) numbered.now.name
-            (equation_meant self.now.classes.now (map numbered_view ds) (numbered_view numbered.now) (word_view class.now) (written_body body.now))
+            (equation_meant self.now.arguments self.now.classes.now (map numbered_view ds) (numbered_view numbered.now)
+            (word_view class.now) (written_body body.now))
             meant.old meant.new result }
     {
         let class = self.class_named(class)?;
@@ -156,8 +155,8 @@ impl Among<'_> {
     ) -> Result<(), TypeFault>
         ensures { (ds : List NumberedValue) → IsAbout ds self.now numbered.now
             → Adds (numbered_view numbered.now) numbered.now.name
-            (equation_below_meant self.now.classes.now (map numbered_view ds) (numbered_view numbered.now) (word_view class.now) (word_view getter.now)
-            (option_map (λ w. word_view w.now) index.entry) (written_body body.now))
+            (equation_below_meant self.now.arguments self.now.classes.now (map numbered_view ds) (numbered_view numbered.now)
+            (word_view class.now) (word_view getter.now) (option_map (λ w. word_view w.now) index.entry) (written_body body.now))
             meant.old meant.new result }
     {
         let class = self.class_named(class)?;
@@ -191,7 +190,7 @@ impl Among<'_> {
         meant: &mut Equations,
     ) -> Result<ClassId, TypeFault>
         ensures declared { Declares (numbered_view numbered.now) numbered.now.name
-            (attribute_meant self.now.classes.now (numbered_view numbered.now) (kind_word_view kind.now))
+            (attribute_meant self.now.arguments self.now.classes.now (numbered_view numbered.now) (kind_word_view kind.now))
             meant.old.attributes.entries meant.new.attributes.entries result }
         ensures own { meant.new.own ≡ meant.old.own }
         ensures inherited { meant.new.inherited ≡ meant.old.inherited }
@@ -215,7 +214,7 @@ impl Among<'_> {
         meant: &mut Equations,
     ) -> Result<(), TypeFault>
         ensures added { AddsOwn class
-            (body_meant self.now.classes.now self.now.signatures.now class (numbered_view numbered.now) (written_body body.now) attribute)
+            (body_meant self.now.arguments self.now.classes.now self.now.signatures.now class (numbered_view numbered.now) (written_body body.now) attribute)
             meant.old.own.entries meant.new.own.entries result }
         ensures attributes { meant.new.attributes ≡ meant.old.attributes }
         ensures inherited { meant.new.inherited ≡ meant.old.inherited }
@@ -236,7 +235,7 @@ impl Among<'_> {
         meant: &mut Equations,
     ) -> Result<(), TypeFault>
         ensures added { AddsInherited class part numbered.now.name
-            (body_meant self.now.classes.now self.now.signatures.now class (numbered_view numbered.now) (written_body body.now) attribute)
+            (body_meant self.now.arguments self.now.classes.now self.now.signatures.now class (numbered_view numbered.now) (written_body body.now) attribute)
             meant.old.inherited.entries meant.new.inherited.entries result }
         ensures attributes { meant.new.attributes ≡ meant.old.attributes }
         ensures own { meant.new.own ≡ meant.old.own }
@@ -257,7 +256,7 @@ impl Among<'_> {
         kind: &KindWord,
     ) -> Result<(ClassId, Attribute), TypeFault>
         ensures { Judges (attribute_of (numbered_view numbered.now))
-            (attribute_meant self.now.classes.now (numbered_view numbered.now) (kind_word_view kind.now)) result }
+            (attribute_meant self.now.arguments self.now.classes.now (numbered_view numbered.now) (kind_word_view kind.now)) result }
     {
         let form = &numbered.decl.form;
         let result = self.kind_named(kind)?;
@@ -282,7 +281,8 @@ impl Among<'_> {
         body: &Written,
     ) -> Result<(AttrId, Body), TypeFault>
         ensures { Judges equation_view
-            (body_meant self.now.classes.now self.now.signatures.now class (numbered_view numbered.now) (written_body body.now) attribute) result }
+            (body_meant self.now.arguments self.now.classes.now self.now.signatures.now class (numbered_view numbered.now)
+            (written_body body.now) attribute) result }
     {
         let Some(attribute) = attribute else {
             return Err(undeclared(numbered));
@@ -301,7 +301,7 @@ impl Among<'_> {
         body: &Written,
     ) -> Result<Body, TypeFault>
         ensures { Judges body_view
-            (body_if self.now.classes.now self.now.signatures.now class (numbered_view numbered.now) (written_body body.now)
+            (body_if self.now.arguments self.now.classes.now self.now.signatures.now class (numbered_view numbered.now) (written_body body.now)
             (option_map (λ s. declared_view s.now) signature.entry)) result }
     {
         let Some(signature) = signature else {
@@ -315,6 +315,7 @@ impl Among<'_> {
             alloc: self.alloc,
             classes: self.classes,
             signatures: self.signatures,
+            arguments: self.arguments,
             this: class,
             names: &names,
             index: index_name(form),
@@ -366,14 +367,13 @@ impl Among<'_> {
         }
     }
 
-    /// The kind of the parameter at that position. J5 at its word for an `int` or a `boolean`, and for a
+    /// The kind of the parameter at that position. J5 at its word for one that can't be passed, and for a
     /// parameter too many.
-    #[tactic(auto, unfolding(crate::specs::Ruling::max_parameters))]
     fn param_named(&self, position: usize, param: &Param) -> Result<Kind, TypeFault>
-        ensures { Judges (λ k. k) (param_named self.now.classes.now position (param_view param.now)) result }
+        ensures { Judges (λ k. k) (param_named self.now.arguments self.now.classes.now position (param_view param.now)) result }
     {
         let kind = self.kind_named(&param.kind)?;
-        if can_be_passed(&kind) && position < MAX_PARAMETERS {
+        if can_be_passed(self.arguments, &kind) && position < max_parameters(self.arguments) {
             Ok(kind)
         } else {
             Err(refused(RuleCode::Argument, param.kind.at))
@@ -382,7 +382,7 @@ impl Among<'_> {
 
     /// The kinds of the parameters.
     fn params_named(&self, params: &[Param]) -> Result<Vec<Kind>, TypeFault>
-        ensures { Judges (λ ks. ks.items) (params_named self.now.classes.now 0 (map param_view params.now)) result }
+        ensures { Judges (λ ks. ks.items) (params_named self.now.arguments self.now.classes.now 0 (map param_view params.now)) result }
     {
         let mut kinds = Vec::new(self.alloc);
         for (position, param) in params.iter().enumerate() {
@@ -395,7 +395,8 @@ impl Among<'_> {
     /// J5 where the parameters of an equation aren't those of the attribute: at the first one that is wrong
     /// or too many, or at the end where one is missing.
     fn params_as_declared(&self, params: &Params, declared: &[WrittenKind]) -> Result<(), TypeFault>
-        ensures { Judges (λ u. tt) (as_declared self.now.classes.now declared.now (params_view params.now).end 0 (params_view params.now).items) result }
+        ensures { Judges (λ u. tt)
+            (as_declared self.now.arguments self.now.classes.now declared.now (params_view params.now).end 0 (params_view params.now).items) result }
     {
         for (position, param) in params.items.iter().enumerate() {
             self.param_as_declared(position, param, declared)?;
@@ -413,7 +414,7 @@ impl Among<'_> {
         param: &Param,
         declared: &[WrittenKind],
     ) -> Result<Kind, TypeFault>
-        ensures { Judges (λ k. k) (param_as_declared self.now.classes.now declared.now position (param_view param.now)) result }
+        ensures { Judges (λ k. k) (param_as_declared self.now.arguments self.now.classes.now declared.now position (param_view param.now)) result }
     {
         let kind = self.param_named(position, param)?;
         if is_kind(declared.get(position), &kind) {
@@ -491,14 +492,32 @@ impl Among<'_> {
     }
 }
 
-/// Whether values of the kind can be passed: texts and nodes.
-fn can_be_passed(kind: &Kind) -> bool
-    ensures { result ≡ can_be_passed kind.now }
+/// How many parameters an attribute may have.
+#[tactic(auto, unfolding(crate::specs::Ruling::max_parameters))]
+fn max_parameters(arguments: Arguments) -> usize
+    ensures { result ≡ max_parameters arguments }
 {
-    match kind {
-        Kind::Text | Kind::Class(_) => true,
-        Kind::Int | Kind::Bool => false,
+    match arguments {
+        Arguments::Given => 2,
+        Arguments::Computed => 4,
     }
+}
+
+/// Whether values of the kind can be passed: texts and nodes; where what is computed may be an argument, ints and booleans, too.
+fn can_be_passed(arguments: Arguments, kind: &Kind) -> bool
+    ensures { result ≡ can_be_passed arguments kind.now }
+{
+    match arguments {
+        Arguments::Given => !is_numeric(kind),
+        Arguments::Computed => true,
+    }
+}
+
+/// Whether it is the kind of ints or of booleans.
+fn is_numeric(kind: &Kind) -> bool
+    ensures { result ≡ is_numeric kind.now }
+{
+    matches!(kind, Kind::Int | Kind::Bool)
 }
 
 /// Whether that is the kind which is declared.

@@ -12,6 +12,7 @@ use crate::failure::Failure;
 use at_class::{ClassFault, ClassTable, are_named};
 use at_grammar::{AstFault, parse_ast};
 use at_jrag::{Aspect, Forms, JragFault, parse_jrag};
+use at_kinds::Arguments;
 use at_rules::Rules;
 use at_store::{LoadFault, Store, USUAL_NODES};
 use at_tree::tree::{ReadFault, Tree, read_tree};
@@ -69,7 +70,7 @@ fn rules(alloc: Global, forms: Forms, grammar: &str, aspects: &str) -> Result<Ru
 {
     let classes = classes(alloc, grammar)?;
     let aspects = aspects_of(alloc, forms, aspects)?;
-    match build(alloc, classes, from_ref(&aspects)) {
+    match build(alloc, classes, Arguments::Given, from_ref(&aspects)) {
         Ok(rules) => Ok(rules),
         Err(RuleFault::Memory) => Err(Failure::Memory),
         Err(RuleFault::For(_)) => Err(Failure::Aspects),

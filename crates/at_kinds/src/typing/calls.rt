@@ -3,13 +3,14 @@
 ghost use Rattle.std.specs.Prelude.{◌≡◌, [], map, slice_get, IfOk};
 ghost use Rattle.at_model.specs.Bodies as model;
 ghost use Rattle.at_rules.specs.Bodies.{body_view, bodies_view};
-ghost use Rattle.at_kinds.specs.Judging.{called as called_of, asked_of as asked_by_kind, asked as asked_in, equal as equal_of, only, one_argument, where_fit, misfit, accessed as accessed_by, of_kind, demanded_of, fitted as fitted_to, is_argument as is_argument_for, is_text_word, is_given_text as is_given};
+ghost use Rattle.at_kinds.specs.Judging.{called as called_of, asked_of as asked_by_kind, asked as asked_in, equal as equal_of, only, one_argument, where_fit, misfit, accessed as accessed_by, of_kind, demanded_of, fitted as fitted_to, is_argument as is_argument_for, is_allowed, is_text_word, is_given_text as is_given, is_number, is_computed};
 ghost use Rattle.at_kinds.specs.Kinds.{is_int, is_text};
-ghost use Rattle.at_kinds.specs.Typed.{typed_view, boxed_view, scope_view, Judges};
+ghost use Rattle.at_kinds.specs.Typed.{typed_view, boxed_view, passed_body, scope_view, Judges};
 
 use super::kinds::{ExprKind, Typed};
 use super::{Scope, TypeFault, refused};
 use crate::accessors::{Accessor, accessor_named};
+use crate::arguments::Arguments;
 use crate::code::RuleCode;
 use crate::signatures::WrittenKind;
 use at_class::ClassId;
@@ -166,7 +167,7 @@ impl Scope<'_> {
         arguments: Vec<Typed>,
         at: Place,
     ) -> Result<Typed, TypeFault>
-        ensures { Judges typed_view (demanded_of self.now.classes.now at attribute (slice_get self.now.signatures.now attribute)
+        ensures { Judges typed_view (demanded_of self.now.arguments self.now.classes.now at attribute (slice_get self.now.signatures.now attribute)
             (body_view node.value) (map typed_view arguments.items)) result }
     {
         let Some(signature) = self.signatures.get(attribute) else {
@@ -184,7 +185,8 @@ impl Scope<'_> {
         params: &[WrittenKind],
         at: Place,
     ) -> Result<Vec<Body>, TypeFault>
-        ensures { Judges (λ bodies. bodies_view bodies.items) (fitted_to self.now.classes.now at (map typed_view arguments.items) params.now) result }
+        ensures { Judges (λ bodies. bodies_view bodies.items)
+            (fitted_to self.now.arguments self.now.classes.now at (map typed_view arguments.items) params.now) result }
     {
         if arguments.len() != params.len() {
             return Err(refused(RuleCode::Argument, at));
@@ -192,13 +194,13 @@ impl Scope<'_> {
         if let Some(at) = self.misfit(&arguments, params) {
             return Err(refused(RuleCode::Argument, at));
         }
-        let bodies = bodies_of(self.alloc, arguments)?;
+        let bodies = bodies_of(self.alloc, self.arguments, arguments)?;
         Ok(bodies)
     }
 
     /// The place of the first argument that is wrong for its parameter.
     fn misfit(&self, arguments: &[Typed], params: &[WrittenKind]) -> Option<Place>
-        ensures { result ≡ misfit self.now.classes.now (map typed_view arguments.now) params.now }
+        ensures { result ≡ misfit self.now.arguments self.now.classes.now (map typed_view arguments.now) params.now }
     {
         for (i, argument) in arguments.iter().enumerate() {
             let Some(param) = param_at(params, i) else {
@@ -211,19 +213,25 @@ impl Scope<'_> {
         None
     }
 
-    /// Whether the expression may be the argument for a parameter of that kind: it fits, and of texts it
-    /// is a literal, a parameter or a token.
+    /// Whether the expression may be the argument for a parameter of that kind: it fits, and where nothing is computed a text
+    /// was given.
     fn is_argument(&self, argument: &Typed, param: WrittenKind) -> bool
-        ensures { result ≡ is_argument_for self.now.classes.now (typed_view argument.now) param }
+        ensures { result ≡ is_argument_for self.now.arguments self.now.classes.now (typed_view argument.now) param }
     {
         if !argument.kind.fits(self.classes, param) {
             return false;
         }
-        if is_text_word(&param) {
-            is_given_text(&argument.body)
-        } else {
-            true
-        }
+        is_allowed(self.arguments, &param, &argument.body)
+    }
+}
+
+/// Whether a body may be passed that fits the parameter of that kind.
+fn is_allowed(arguments: Arguments, param: &WrittenKind, body: &Body) -> bool
+    ensures { result ≡ is_allowed arguments param.now (body_view body.now) }
+{
+    match arguments {
+        Arguments::Given => !is_text_word(param) || is_given_text(body),
+        Arguments::Computed => true,
     }
 }
 
@@ -258,12 +266,49 @@ fn where_fit(fits: bool, argument: Typed) -> Result<Box<Body>, TypeFault>
     }
 }
 
-/// The bodies of the expressions.
-fn bodies_of(alloc: Global, exprs: Vec<Typed>) -> Result<Vec<Body>, AllocError>
-    ensures { IfOk result (λ bodies. bodies.items ≡ map (λ t. t.body.value) exprs.items) }
+/// The bodies of the arguments.
+fn bodies_of(
+    alloc: Global,
+    arguments: Arguments,
+    exprs: Vec<Typed>,
+) -> Result<Vec<Body>, AllocError>
+    ensures { IfOk result (λ bodies. bodies.items ≡ map (passed_body arguments) exprs.items) }
 {
     exprs
         .into_iter()
-        .map(|expr| Box::into_inner(expr.body))
+        .map(|expr| passed(arguments, expr))
         .collect(alloc)
+}
+
+/// The argument's body: what is computed is looked at when it is passed.
+fn passed(arguments: Arguments, argument: Typed) -> Body
+    ensures { result ≡ passed_body arguments argument }
+{
+    let is_looked_at = match arguments {
+        Arguments::Given => false,
+        Arguments::Computed => is_computed(argument.kind, &argument.body),
+    };
+    if is_looked_at {
+        Body::Passed(argument.body)
+    } else {
+        Box::into_inner(argument.body)
+    }
+}
+
+/// Whether a body of that kind is an int that isn't written out, or a text that wasn't given.
+fn is_computed(kind: ExprKind, body: &Body) -> bool
+    ensures { result ≡ is_computed kind (body_view body.now) }
+{
+    match kind {
+        ExprKind::Int => !is_number(body),
+        ExprKind::Text => !is_given_text(body),
+        _ => false,
+    }
+}
+
+/// Whether the body is an int that is written out.
+fn is_number(body: &Body) -> bool
+    ensures { result ≡ is_number (body_view body.now) }
+{
+    matches!(body, Body::Int(_))
 }

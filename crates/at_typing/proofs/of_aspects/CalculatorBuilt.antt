@@ -11,12 +11,13 @@ use Rattle.at_typing.specs.Located.{Located}
 use Rattle.at_typing.specs.Ruling.{max_parameters}
 use Rattle.at_typing.specs.SampleCalculator.{calculator}
 use Rattle.at_typing.proofs.of_aspects.MeaningsFound.{covers_none, lacks_none}
+use Rattle.at_kinds.specs.declared.arguments.Arguments.TheVariants.{Given}
 
-pub calculator_means : (at : Place) → rules_of calc_classes (calculator at) ≡ calc
+pub calculator_means : (at : Place) → rules_of Given calc_classes (calculator at) ≡ calc
 unfolding chain max_attributes max_text max_parameters
 calculator_means at = refl
 
-calculator_faultless : (at : Place) → first_fault calc_classes (calculator at) ≡ None
+calculator_faultless : (at : Place) → first_fault Given calc_classes (calculator at) ≡ None
 unfolding chain max_attributes max_text max_parameters
 calculator_faultless at = refl
 
@@ -25,11 +26,11 @@ lacks_nothing : (rules : Rules) (ds : List Located) → AreComplete rules → Is
 lacks_nothing rules ds complete =
     (None, (None, lacks_none rules complete.synthesized, refl), (None, covers_none rules complete.inherited, refl))
 
-pub calculator_built : (at : Place) → Builds calc_classes (calculator at) (Ok calc)
+pub calculator_built : (at : Place) → Builds Given calc_classes (calculator at) (Ok calc)
 calculator_built at =
     let ds = calculator at in
     let means = sym (calculator_means at) in (
-      subst (λ first. IsFault calc_classes ds first None) (sym (calculator_faultless at))
+      subst (λ first. IsFault Given calc_classes ds first None) (sym (calculator_faultless at))
           (subst (λ rules. IsLack rules ds None) means (lacks_nothing calc ds calc_well_formed.complete)),
       means,
     )

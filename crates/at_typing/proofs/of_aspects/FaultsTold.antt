@@ -8,6 +8,7 @@ use Rattle.at_model.specs.Rules.{Rules}
 use Rattle.at_text.specs.declared.fault.Failure.TheVariants as failure
 use Rattle.at_complete.specs.Completing.{IsFirst, LacksInherited, LacksOwn}
 use Rattle.at_jrag.specs.Syntax.{Body}
+use Rattle.at_kinds.specs.declared.arguments.Arguments.{Arguments}
 use Rattle.at_kinds.specs.Judging.{Judgement, Is, Wrong}
 use Rattle.at_kinds.specs.declared.code.RuleCode.{RuleCode}
 use Rattle.at_kinds.specs.declared.code.RuleCode.TheVariants as code
@@ -59,7 +60,7 @@ of_attribute c ds k f e = by (slice_get (attributes ds) k) e
 
 -- stages ---------------------------------------------------------------------------------------------------------------
 
-module _ (classes : Classes) (ds : List Located) where
+module _ (allowed : Arguments) (classes : Classes) (ds : List Located) where
   -- the rule that is looked at then
   abbrev AtStage : ℕ → Type 0
   AtStage zero = AreFew ds
@@ -67,12 +68,12 @@ module _ (classes : Classes) (ds : List Located) where
   AtStage (suc (suc zero)) = AreDeclaredOnce classes ds
   AtStage (suc (suc (suc zero))) = AreOfAttributes classes ds
   AtStage (suc (suc (suc (suc zero)))) = AreEquationsOnce ds
-  AtStage (suc (suc (suc (suc (suc zero))))) = HaveMeanings classes ds
-  AtStage (suc (suc (suc (suc (suc (suc zero)))))) = HaveOwnEquations (rules_of classes ds)
-  AtStage (suc (suc (suc (suc (suc (suc (suc zero))))))) = AreCovered (rules_of classes ds)
+  AtStage (suc (suc (suc (suc (suc zero))))) = HaveMeanings allowed classes ds
+  AtStage (suc (suc (suc (suc (suc (suc zero)))))) = HaveOwnEquations (rules_of allowed classes ds)
+  AtStage (suc (suc (suc (suc (suc (suc (suc zero))))))) = AreCovered (rules_of allowed classes ds)
   AtStage (suc (suc (suc (suc (suc (suc (suc (suc n)))))))) = ⊤
 
-  kept_at : (c : RuleCode) → AtStage (order c) → Keeps classes ds c
+  kept_at : (c : RuleCode) → AtStage (order c) → Keeps allowed classes ds c
   kept_at code.Limit k = k
   kept_at code.NameOfAccessor k = k
   kept_at code.AttributeTwice k = k
@@ -84,7 +85,7 @@ module _ (classes : Classes) (ds : List Located) where
   kept_at code.ClassWithoutEquation k = k
   kept_at code.InheritedWithoutEquation k = k
 
-  at_kept : (c : RuleCode) → Keeps classes ds c → AtStage (order c)
+  at_kept : (c : RuleCode) → Keeps allowed classes ds c → AtStage (order c)
   at_kept code.Limit k = k
   at_kept code.NameOfAccessor k = k
   at_kept code.AttributeTwice k = k
@@ -134,29 +135,36 @@ module _ (classes : Classes) (ds : List Located) where
   nothing f (Some x) e g = cc
 
   -- each by itself
-  alone : Kept 5 → Tells (refused classes ds)
+  alone : Kept 5 → Tells (refused allowed classes ds)
   alone kept f e =
-      let (i, d, at, gives) = given_at (refused_at classes ds) ds f e in
-      (5, (of_refusal d (meant classes ds d) f (one_told classes ds (kept 3 (omega arith)) i d at) gives, λ k. nothing f (refused classes ds) e ((each_means classes ds).1 k), kept))
+      let (i, d, at, gives) = given_at (refused_at allowed classes ds) ds f e in (
+        5,
+        (
+          of_refusal d (meant allowed classes ds d) f (one_told allowed classes ds (kept 3 (omega arith)) i d at)
+              gives,
+          λ k. nothing f (refused allowed classes ds) e ((each_means allowed classes ds).1 k),
+          kept,
+        ),
+      )
 
   abbrev Whole : Option Breach
   Whole = option_or (over_limit ds) (option_or (accessor_named classes ds) (option_or (declared_twice classes ds) (option_or (without_attribute classes ds)
-      (option_or (equation_twice ds) (refused classes ds)))))
+      (option_or (equation_twice ds) (refused allowed classes ds)))))
 
   next : (a b c : Option Breach) → option_or (option_or a b) c ≡ option_or a (option_or b c)
   next None b c = refl
   next (Some x) b c = refl
 
   -- several together before those
-  together : Tells (first_fault classes ds)
+  together : Tells (first_fault allowed classes ds)
   together f e = by f (assoc e)
     where
-      assoc : first_fault classes ds ≡ Some f → Whole ≡ Some f
+      assoc : first_fault allowed classes ds ≡ Some f → Whole ≡ Some f
       assoc e =
-          sym (next (over_limit ds) _ (refused classes ds) ∙ ap (option_or (over_limit ds))
-          (next (accessor_named classes ds) _ (refused classes ds) ∙ ap (option_or (accessor_named classes ds))
-          (next (declared_twice classes ds) _ (refused classes ds) ∙ ap (option_or (declared_twice classes ds))
-          (next (without_attribute classes ds) (equation_twice ds) (refused classes ds)))))
+          sym (next (over_limit ds) _ (refused allowed classes ds) ∙ ap (option_or (over_limit ds))
+          (next (accessor_named classes ds) _ (refused allowed classes ds) ∙ ap (option_or (accessor_named classes ds))
+          (next (declared_twice classes ds) _ (refused allowed classes ds) ∙ ap (option_or (declared_twice classes ds))
+          (next (without_attribute classes ds) (equation_twice ds) (refused allowed classes ds)))))
           ∙ e
 
       by : Tells Whole
@@ -176,10 +184,10 @@ module _ (classes : Classes) (ds : List Located) where
           (λ kept. alone kept)))))
 
   -- where none of these has a fault, each of them is kept
-  all_kept : first_fault classes ds ≡ None → Kept 6
+  all_kept : first_fault allowed classes ds ≡ None → Kept 6
   all_kept none =
-      let alone = other_none (fault_together classes ds) (refused classes ds) none in
-      let first = first_none (fault_together classes ds) (refused classes ds) none in
+      let alone = other_none (fault_together classes ds) (refused allowed classes ds) none in
+      let first = first_none (fault_together classes ds) (refused allowed classes ds) none in
       let names = other_none (over_limit ds) _ first in
       let twice = other_none (accessor_named classes ds) _ names in
       let declared = other_none (declared_twice classes ds) _ twice in
@@ -190,34 +198,38 @@ module _ (classes : Classes) (ds : List Located) where
       ((declared_once classes ds).0 (first_none (declared_twice classes ds) _ twice)))
       ((equations_declared classes ds).0 (first_none (without_attribute classes ds) (equation_twice ds) declared)))
       ((equations_once ds).0 once))
-      ((each_means classes ds).0 alone)
+      ((each_means allowed classes ds).0 alone)
 
-  none_first : Kept 6 → first_fault classes ds ≡ None
+  none_first : Kept 6 → first_fault allowed classes ds ≡ None
   none_first kept =
-      both_none (fault_together classes ds) (refused classes ds)
+      both_none (fault_together classes ds) (refused allowed classes ds)
       (both_none (over_limit ds) _ ((limits ds).1 (kept 0 (omega arith)))
       (both_none (accessor_named classes ds) _ ((names_free classes ds).1 (kept 1 (omega arith)))
       (both_none (declared_twice classes ds) _ ((declared_once classes ds).1 (kept 2 (omega arith)))
       (both_none (without_attribute classes ds) (equation_twice ds) ((equations_declared classes ds).1 (kept 3 (omega arith)))
       ((equations_once ds).1 (kept 4 (omega arith)))))))
-      ((each_means classes ds).1 (kept 5 (omega arith)))
+      ((each_means allowed classes ds).1 (kept 5 (omega arith)))
 
   -- equations that classes lack ----------------------------------------------------------------------------------------
 
   abbrev made : Rules
-  made = rules_of classes ds
+  made = rules_of allowed classes ds
 
-  own_none : first_fault classes ds ≡ None → IsFirstFault code.ClassWithoutEquation (LacksOwn made) ds None → HaveOwnEquations made
-  own_none none h = none_lacks made (no_first code.ClassWithoutEquation (LacksOwn made) made ds (λ k lacks. (lacks.0, lacks.1)) (are_declared classes ds made none refl) h)
+  own_none : first_fault allowed classes ds ≡ None → IsFirstFault code.ClassWithoutEquation (LacksOwn made) ds None
+      → HaveOwnEquations made
+  own_none none h = none_lacks made (no_first code.ClassWithoutEquation (LacksOwn made) made ds
+      (λ k lacks. (lacks.0, lacks.1)) (are_declared allowed classes ds made none refl) h)
 
-  inherited_none : first_fault classes ds ≡ None → IsFirstFault code.InheritedWithoutEquation (LacksInherited made) ds None → AreCovered made
-  inherited_none none h = none_covers made (no_first code.InheritedWithoutEquation (LacksInherited made) made ds (λ k lacks. (lacks.0, lacks.1)) (are_declared classes ds made none refl) h)
+  inherited_none : first_fault allowed classes ds ≡ None → IsFirstFault code.InheritedWithoutEquation
+      (LacksInherited made) ds None → AreCovered made
+  inherited_none none h = none_covers made (no_first code.InheritedWithoutEquation (LacksInherited made) made ds
+      (λ k lacks. (lacks.0, lacks.1)) (are_declared allowed classes ds made none refl) h)
 
   some_lacks : (c : RuleCode) (Lacks : ℕ → Type 0) (f : Breach) → IsFirstFault c Lacks ds (Some f) → (f.code ≡ c) × (IsFirst Lacks None → ⊥)
   some_lacks c Lacks f (None, first, e) = absurd cc
   some_lacks c Lacks f (Some k, first, e) = (of_attribute c ds k f e, λ none. none k first.0)
 
-  lacking : (f : Breach) → first_fault classes ds ≡ None → IsLack made ds (Some f) → (n : ℕ) × IsOfStage f n
+  lacking : (f : Breach) → first_fault allowed classes ds ≡ None → IsLack made ds (Some f) → (n : ℕ) × IsOfStage f n
   lacking f none (Some g, own, e) =
       let same : g ≡ f = cc in
       let (of, lacks) = some_lacks code.ClassWithoutEquation (LacksOwn made) f (subst (λ x. IsFirstFault code.ClassWithoutEquation (LacksOwn made) ds (Some x)) same own) in
@@ -227,27 +239,30 @@ module _ (classes : Classes) (ds : List Located) where
       (7, (in_order code.InheritedWithoutEquation f of, λ k. lacks (covers_none made k), one_more 6 (all_kept none) (own_none none own)))
 
   abbrev IsOfFirst : Breach → Type 0
-  IsOfFirst f = (Keeps classes ds f.code → ⊥) × ((c : RuleCode) → order c < order f.code → Keeps classes ds c)
+  IsOfFirst f = (Keeps allowed classes ds f.code → ⊥) × ((c : RuleCode) → order c < order f.code
+      → Keeps allowed classes ds c)
 
   of_stage : (f : Breach) (n : ℕ) → IsOfStage f n → IsOfFirst f
   of_stage f n (at, broken, kept) = (λ k. broken (subst AtStage at (at_kept f.code k)), λ c l. kept_at c (kept (order c) (subst (λ m. order c < m) at l)))
 
-  pub told : (f : Breach) → Builds classes ds (Err (failure.For f)) → IsOfFirst f
-  told f h = by (first_fault classes ds) refl h
+  pub told : (f : Breach) → Builds allowed classes ds (Err (failure.For f)) → IsOfFirst f
+  told f h = by (first_fault allowed classes ds) refl h
     where
-      by : (o : Option Breach) → first_fault classes ds ≡ o → IsFault classes ds o (Some f) → IsOfFirst f
+      by : (o : Option Breach) → first_fault allowed classes ds ≡ o → IsFault allowed classes ds o (Some f)
+          → IsOfFirst f
       by None none lack = let (n, is) = lacking f none lack in of_stage f n is
       by (Some g) some e = let (n, is) = together f (some ∙ sym e) in of_stage f n is
 
-  pub accepted : ((rules : Rules) × Builds classes ds (Ok rules)) ↔ ((c : RuleCode) → Keeps classes ds c)
+  pub accepted : ((rules : Rules) × Builds allowed classes ds (Ok rules))
+      ↔ ((c : RuleCode) → Keeps allowed classes ds c)
   accepted = (
-    λ (rules, (fault, is)). by (first_fault classes ds) refl fault,
+    λ (rules, (fault, is)). by (first_fault allowed classes ds) refl fault,
     λ h.
         let kept : Kept 6 = stages h in
         let none = none_first kept in (
           made,
           (
-            subst (λ o. IsFault classes ds o None) (sym none) (
+            subst (λ o. IsFault allowed classes ds o None) (sym none) (
               None,
               (None, lacks_none made (h code.ClassWithoutEquation), refl),
               (None, covers_none made (h code.InheritedWithoutEquation), refl),
@@ -257,13 +272,13 @@ module _ (classes : Classes) (ds : List Located) where
         ),
   )
     where
-      stages : ((c : RuleCode) → Keeps classes ds c) → Kept 6
+      stages : ((c : RuleCode) → Keeps allowed classes ds c) → Kept 6
       stages h =
           one_more 5 (one_more 4
           (one_more 3 (one_more 2 (one_more 1 (one_more 0 none_kept (h code.Limit)) (h code.NameOfAccessor))
           (h code.AttributeTwice)) (h code.EquationWithoutAttribute)) (h code.EquationTwice)) (h code.Kind)
 
-      early : (c : RuleCode) → Kept 8 → Keeps classes ds c
+      early : (c : RuleCode) → Kept 8 → Keeps allowed classes ds c
       early c kept = kept_at c (kept (order c) (below c))
         where
           below : (c : RuleCode) → order c < 8
@@ -278,10 +293,12 @@ module _ (classes : Classes) (ds : List Located) where
           below code.ClassWithoutEquation = omega arith
           below code.InheritedWithoutEquation = omega arith
 
-      lack_none : first_fault classes ds ≡ None → IsLack made ds None → (c : RuleCode) → Keeps classes ds c
+      lack_none : first_fault allowed classes ds ≡ None → IsLack made ds None → (c : RuleCode)
+          → Keeps allowed classes ds c
       lack_none none (Some g, own, e) = absurd cc
       lack_none none (None, own, behind) = λ c. early c (one_more 7 (one_more 6 (all_kept none) (own_none none own)) (inherited_none none behind))
 
-      by : (o : Option Breach) → first_fault classes ds ≡ o → IsFault classes ds o None → (c : RuleCode) → Keeps classes ds c
+      by : (o : Option Breach) → first_fault allowed classes ds ≡ o → IsFault allowed classes ds o None → (c : RuleCode)
+          → Keeps allowed classes ds c
       by None none lack = lack_none none lack
       by (Some g) some e = absurd cc

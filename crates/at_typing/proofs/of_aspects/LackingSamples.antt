@@ -8,6 +8,7 @@ use Rattle.at_model.specs.Rules.{Rules, Attribute, Exposed, as_root, below, inhe
 use Rattle.at_model.specs.Samples.{calc_classes}
 use Rattle.at_complete.specs.Completing.{LacksInherited, LacksOwn}
 use Rattle.at_text.specs.declared.fault.Failure.TheVariants.{For}
+use Rattle.at_kinds.specs.declared.arguments.Arguments.TheVariants.{Given}
 use Rattle.at_kinds.specs.declared.code.RuleCode.TheVariants as code
 use Rattle.at_typing.specs.Building.{Builds, rules_of}
 use Rattle.at_typing.specs.Declaring.{max_attributes, max_text}
@@ -18,7 +19,8 @@ use Rattle.at_typing.specs.Samples.{column}
 none_before : (j : ℕ) → j < 0 → ⊥
 none_before j l = omega (arith, l)
 
-pub own_lacked : Builds calc_classes has_no_equation (Err (For (record { code = code.ClassWithoutEquation; file = 1; at = column 12 })))
+pub own_lacked : Builds Given calc_classes has_no_equation (Err
+    (For (record { code = code.ClassWithoutEquation; file = 1; at = column 12 })))
 unfolding chain max_attributes max_text max_parameters
 own_lacked = (Some (record { code = code.ClassWithoutEquation; file = 1; at = column 12 }), (Some 0, ((_, refl, refl, (2, refl, refl)), λ j l lacks. none_before j l), refl), refl)
 
@@ -33,7 +35,7 @@ only_inherited xs q e is k a there off = by k (ap (λ ys. slice_get ys k) (sym e
     by (suc k) f = none-some a f
 
 abbrev bare : Rules
-bare = rules_of calc_classes has_none_above
+bare = rules_of Given calc_classes has_none_above
 
 lacks_no_own : (k : ℕ) → LacksOwn bare k → ⊥
 unfolding chain max_attributes max_text max_parameters
@@ -46,13 +48,14 @@ use_exposed =
     below 4 6 (below 2 4 (below 0 2 (as_root 0 refl) (record { part = 0; class = 2; trees = refl; fit = refl; without = refl }))
     (record { part = 0; class = 1; trees = refl; fit = refl; without = refl })) (record { part = 0; class = 5; trees = refl; fit = refl; without = refl })
 
-pub inherited_lacked : Builds calc_classes has_none_above (Err (For (record { code = code.InheritedWithoutEquation; file = 1; at = column 12 })))
+pub inherited_lacked : Builds Given calc_classes has_none_above
+    (Err (For (record { code = code.InheritedWithoutEquation; file = 1; at = column 12 })))
 unfolding chain max_attributes max_text max_parameters
 inherited_lacked = (None, (None, lacks_no_own, refl), (Some 0, ((_, refl, refl, (6, refl, use_exposed)), λ j l lacks. none_before j l), refl))
 
 -- the program alone may be the root
 abbrev covered : Rules
-covered = rules_of calc_classes has_one_above
+covered = rules_of Given calc_classes has_one_above
 
 root_alone : (c : ℕ) → fits calc_classes c 0 ≡ true → c ≡ 0
 unfolding chain
@@ -99,6 +102,6 @@ lacks_none k (a, there, on, (c, fit, exposed)) =
     let (name, class) = of_expressions covered.attributes _ refl refl refl k a there in
     root_apart c (only_root c (subst (λ n. Exposed covered n c) name exposed)) (ap (fits calc_classes c) (sym class) ∙ fit)
 
-pub nothing_lacked : Builds calc_classes has_one_above (Ok (rules_of calc_classes has_one_above))
+pub nothing_lacked : Builds Given calc_classes has_one_above (Ok (rules_of Given calc_classes has_one_above))
 unfolding chain max_attributes max_text max_parameters
 nothing_lacked = ((None, (None, lacks_no_own_either, refl), (None, lacks_none, refl)), refl)

@@ -6,6 +6,7 @@ use Rattle.at_model.specs.Classes.{Classes}
 use Rattle.at_model.specs.Rules.{Rules, own_equation}
 use Rattle.at_model.proofs.FirstGiven.{none_at, none_anywhere}
 use Rattle.at_complete.specs.Completing.{IsFirst, LacksInherited, LacksOwn}
+use Rattle.at_kinds.specs.declared.arguments.Arguments.{Arguments}
 use Rattle.at_kinds.specs.Judging.{Judgement, Is, Wrong}
 use Rattle.at_typing.specs.AspectRules.{AreCovered, HaveMeanings, HaveOwnEquations}
 use Rattle.at_typing.specs.Building.{refusal, refused, refused_at}
@@ -16,10 +17,11 @@ found : (d : Located) (j : Judgement Meaning) → refusal d j ≡ None → (m : 
 found d (Is m) e = (m, refl)
 found d (Wrong c at) e = absurd cc
 
-pub each_means : (classes : Classes) (ds : List Located) → (refused classes ds ≡ None) ↔ HaveMeanings classes ds
-each_means classes ds = (
-  λ none i d is. found d (meant classes ds d) (none_at (refused_at classes ds) ds none i d is),
-  λ h. none_anywhere (refused_at classes ds) ds (λ i d is. ap (refusal d) (h i d is).1),
+pub each_means : (allowed : Arguments) (classes : Classes) (ds : List Located) → (refused allowed classes ds ≡ None)
+    ↔ HaveMeanings allowed classes ds
+each_means allowed classes ds = (
+  λ none i d is. found d (meant allowed classes ds d) (none_at (refused_at allowed classes ds) ds none i d is),
+  λ h. none_anywhere (refused_at allowed classes ds) ds (λ i d is. ap (refusal d) (h i d is).1),
 )
 
 -- equations ------------------------------------------------------------------------------------------------------------

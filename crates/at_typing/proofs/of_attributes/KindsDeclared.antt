@@ -18,6 +18,8 @@ use Rattle.at_rules.specs.declared.body.Kind.{Kind}
 use Rattle.at_rules.specs.declared.body.Kind.TheVariants as kind
 use Rattle.at_typing.specs.Building.{meaning_if, meanings, refusal, refused_at}
 use Rattle.at_typing.specs.Declaring.{attributes, is_attribute, is_inherited, is_lazy, start_in, result_in, params_in, class_text, name_text, IsNotCircular}
+use Rattle.at_kinds.specs.declared.arguments.Arguments.{Arguments}
+use Rattle.at_kinds.specs.declared.arguments.Arguments.TheVariants.{Given, Computed}
 use Rattle.at_kinds.specs.Judging.{Judgement, Is, Wrong, and_then}
 use Rattle.at_typing.specs.Located.{Located, class_word}
 use Rattle.at_typing.specs.Meanings.{Meaning, attribute, attribute_with, attribute_for, attribute_meant, results, signature, signature_if, signatures, signatures_among, meant, with_body, below_class, below_component, form_meant, own_meant, inherited_meant, declared_alone, declared_with, own_alone, inherited_alone}
@@ -73,46 +75,59 @@ truth_named classes word k named is =
 -- parameters ------------------------------------------------------------------------------------------------------------
 
 -- it is named, can be passed, and is among the first ones
-pub record IsPassed (classes : Classes) (i : ℕ) (p : Param) (k : Kind) : Type 0 where
+pub record IsPassed (allowed : Arguments) (classes : Classes) (i : ℕ) (p : Param) (k : Kind) : Type 0 where
   pub named : IsNamed classes p.kind k
   pub passed : IsParameter classes (kind_view k)
-  pub early : i < max_parameters
+  pub early : i < max_parameters allowed
 
-passed_there : (classes : Classes) (k : Kind) → can_be_passed k ≡ true → IsKindThere classes (kind_view k) → IsParameter classes (kind_view k)
-passed_there classes kind.Int is there = absurd (true≢false (sym is))
-passed_there classes kind.Bool is there = absurd (true≢false (sym is))
-passed_there classes kind.Text is there = tt
-passed_there classes (kind.Class c) is there = there
+passed_there : (classes : Classes) (k : Kind) → IsKindThere classes (kind_view k) → IsParameter classes (kind_view k)
+passed_there classes kind.Int there = tt
+passed_there classes kind.Bool there = tt
+passed_there classes kind.Text there = tt
+passed_there classes (kind.Class c) there = there
 
-pub param_named_right : (classes : Classes) (i : ℕ) (p : Param) → Holds (IsPassed classes i p) (param_named classes i p)
-param_named_right classes i p = then_holds (IsNamed classes p.kind) (IsPassed classes i p)
-    (λ k. passed_if (can_be_passed k && nat_lt i max_parameters) p.kind.at k) (kind_named classes p.kind)
-    (kind_named_right classes p.kind) (λ k named. by k named (can_be_passed k && nat_lt i max_parameters) refl)
+pub param_named_right : (allowed : Arguments) (classes : Classes) (i : ℕ) (p : Param)
+    → Holds (IsPassed allowed classes i p) (param_named allowed classes i p)
+param_named_right allowed classes i p = then_holds (IsNamed classes p.kind) (IsPassed allowed classes i p)
+    (λ k. passed_if (can_be_passed allowed k && nat_lt i (max_parameters allowed)) p.kind.at k)
+    (kind_named classes p.kind)
+    (kind_named_right classes p.kind) (λ k named. by k named (can_be_passed allowed k && nat_lt i
+    (max_parameters allowed)) refl)
   where
-    by : (k : Kind) → IsNamed classes p.kind k → (b : Bool) → (can_be_passed k && nat_lt i max_parameters) ≡ b → Holds (IsPassed classes i p) (passed_if b p.kind.at k)
+    by : (k : Kind) → IsNamed classes p.kind k → (b : Bool) →
+        (can_be_passed allowed k && nat_lt i (max_parameters allowed)) ≡ b
+        → Holds (IsPassed allowed classes i p) (passed_if b p.kind.at k)
     by k named true is =
-        let (passes, early) = both (can_be_passed k) (nat_lt i max_parameters) is in
-        record { named = named; passed = passed_there classes k passes named.there; early = ltb-true i max_parameters early }
+        let (passes, early) = both (can_be_passed allowed k) (nat_lt i (max_parameters allowed)) is in
+        record {
+          named = named;
+          passed = passed_there classes k named.there;
+          early =
+              ltb-true i (max_parameters allowed) early;
+        }
     by k named false is = tt
 
 abbrev pub written_kinds : Classes → (words : List KindWord) → List Param → List WrittenKind
 written_kinds classes words ps = map (λ p. written_kind classes words p.kind.kind) ps
 
-pub record ArePassed (classes : Classes) (i : ℕ) (ps : List Param) (ks : List Kind) : Type 0 where
+pub record ArePassed (allowed : Arguments) (classes : Classes) (i : ℕ) (ps : List Param) (ks : List Kind) : Type 0 where
   pub named : (words : List KindWord) → AllZip IsKind (written_kinds classes words ps) (map kind_view ks)
   pub passed : AllByRecursion (IsParameter classes) (map kind_view ks)
-  pub few : i ≤ max_parameters → i + length (map kind_view ks) ≤ max_parameters
+  pub few : i ≤ max_parameters allowed → i + length (map kind_view ks) ≤ max_parameters allowed
 
-pub params_named_right : (classes : Classes) (i : ℕ) (ps : List Param) → Holds (ArePassed classes i ps) (params_named classes i ps)
-params_named_right classes i [] = record { named = λ words. tt; passed = tt; few = λ less. omega (arith, less) }
-params_named_right classes i (p ∷ ps) =
-    then_holds (IsPassed classes i p) (ArePassed classes i (p ∷ ps)) (λ k. and_then (λ ks. Is (k ∷ ks))
-    (params_named classes (i + 1) ps)) (param_named classes i p) (param_named_right classes i p) (λ k first.
-    then_holds (ArePassed classes (i + 1) ps) (ArePassed classes i (p ∷ ps)) (λ ks. Is (k ∷ ks)) (params_named classes (i + 1) ps) (params_named_right classes (i + 1) ps) (λ ks rest.
+pub params_named_right : (allowed : Arguments) (classes : Classes) (i : ℕ) (ps : List Param)
+    → Holds (ArePassed allowed classes i ps) (params_named allowed classes i ps)
+params_named_right allowed classes i [] = record { named = λ words. tt; passed = tt; few = λ less. omega (arith, less) }
+params_named_right allowed classes i (p ∷ ps) =
+    then_holds (IsPassed allowed classes i p) (ArePassed allowed classes i (p ∷ ps)) (λ k. and_then (λ ks. Is (k ∷ ks))
+    (params_named allowed classes (i + 1) ps)) (param_named allowed classes i p) (param_named_right allowed classes i p)
+    (λ k first.
+    then_holds (ArePassed allowed classes (i + 1) ps) (ArePassed allowed classes i (p ∷ ps)) (λ ks. Is (k ∷ ks))
+    (params_named allowed classes (i + 1) ps) (params_named_right allowed classes (i + 1) ps) (λ ks rest.
     record {
       named = λ words. (first.named.known (first_unless (is_some (known_kind classes p.kind.kind)) words p.kind.kind), rest.named words);
       passed = (first.passed, rest.passed);
-      few = λ less. counted i (length (map kind_view ks)) max_parameters first.early rest.few;
+      few = λ less. counted i (length (map kind_view ks)) (max_parameters allowed) first.early rest.few;
     }))
   where
     counted : (i n most : ℕ) → i < most → (i + 1 ≤ most → (i + 1) + n ≤ most) → i + suc n ≤ most
@@ -129,29 +144,32 @@ pub record IsOfWord (classes : Classes) (d : Located) (result : KindWord) (a : A
   pub starts : start_in d.decl.form ≡ a.start
   pub keeps : is_lazy d.decl.form ≡ a.is_lazy
 
-few_parameters : (n : ℕ) → 0 + n ≤ max_parameters → n ≤ 2
+few_parameters : (allowed : Arguments) (n : ℕ) → 0 + n ≤ max_parameters allowed → n ≤ 4
 unfolding max_parameters
-few_parameters n less = omega (arith, less)
+few_parameters Given n less = omega (arith, less)
+few_parameters Computed n less = omega (arith, less)
 
 within : (n : ℕ) → 0 ≤ n
 within n = omega arith
 
-pub attribute_right : (classes : Classes) (d : Located) (result : KindWord) → Holds (IsOfWord classes d result) (attribute_meant classes d result)
-attribute_right classes d result =
-    then_holds (IsNamed classes result) (IsOfWord classes d result) (attribute_for classes d) (kind_named classes result) (kind_named_right classes result) (λ k named.
+pub attribute_right : (allowed : Arguments) (classes : Classes) (d : Located) (result : KindWord)
+    → Holds (IsOfWord classes d result) (attribute_meant allowed classes d result)
+attribute_right allowed classes d result =
+    then_holds (IsNamed classes result) (IsOfWord classes d result) (attribute_for allowed classes d)
+    (kind_named classes result) (kind_named_right classes result) (λ k named.
     then_holds (λ c. class_of_name classes (class_text d) ≡ Some c) (IsOfWord classes d result)
-    (attribute_with classes d k) (class_named classes (class_word d.decl.form))
+    (attribute_with allowed classes d k) (class_named classes (class_word d.decl.form))
     (class_named_right classes (class_word d.decl.form)) (λ c class.
-    then_holds (ArePassed classes 0 (params_in d.decl.form).items) (IsOfWord classes d result)
-    (λ params. Is (attribute d c k params)) (params_named classes 0 (params_in d.decl.form).items)
-    (params_named_right classes 0 (params_in d.decl.form).items) (λ ks passed.
+    then_holds (ArePassed allowed classes 0 (params_in d.decl.form).items) (IsOfWord classes d result)
+    (λ params. Is (attribute d c k params)) (params_named allowed classes 0 (params_in d.decl.form).items)
+    (params_named_right allowed classes 0 (params_in d.decl.form).items) (λ ks passed.
     record {
       declared = λ words. record { class = class; parameters = passed.named words; result = named.known (first_unless (is_some (known_kind classes result.kind)) words result.kind) };
       typed = λ boolean. record {
         class = class_there classes (class_text d) c class;
         result = named.there;
         parameters = passed.passed;
-        few = few_parameters (length (map kind_view ks)) (passed.few (within max_parameters));
+        few = few_parameters allowed (length (map kind_view ks)) (passed.few (within (max_parameters allowed)));
         boolean = λ b at. truth_named classes result k named (boolean result b refl at);
       };
       same_name = refl;
@@ -170,24 +188,34 @@ IsMeant classes d (Some result) (Some a) = IsOfWord classes d result a
 abbrev Means' : Classes → Located → DeclForm → Meaning → Type 0
 Means' classes d form m = IsMeant classes d (result_in form) m.attribute
 
-form_right : (classes : Classes) (ds : List Located) (d : Located) (form : DeclForm) → Holds (Means' classes d form) (form_meant classes ds d form)
-form_right classes ds d (written.Synthesized lazy result class name params start ending) =
-    then_holds (IsOfWord classes d result) (λ (m : Meaning). IsMeant classes d (Some result) m.attribute) (with_body
-    classes ds d _) (attribute_meant classes d result) (attribute_right classes d result) (λ a of. by a of _)
+form_right : (allowed : Arguments) (classes : Classes) (ds : List Located) (d : Located) (form : DeclForm)
+    → Holds (Means' classes d form) (form_meant allowed classes ds d form)
+form_right allowed classes ds d (written.Synthesized lazy result class name params start ending) =
+    then_holds (IsOfWord classes d result) (λ (m : Meaning). IsMeant classes d (Some result) m.attribute)
+    (with_body allowed
+    classes ds d _) (attribute_meant allowed classes d result) (attribute_right allowed classes d result)
+    (λ a of. by a of _)
   where
-    by : (a : Attribute) → IsOfWord classes d result a → (o : Option written.Body) → Holds (λ (m : Meaning). IsMeant classes d (Some result) m.attribute) (with_body classes ds d o a)
+    by : (a : Attribute) → IsOfWord classes d result a → (o : Option written.Body)
+        → Holds (λ (m : Meaning). IsMeant classes d (Some result) m.attribute) (with_body allowed classes ds d o a)
     by a of None = of
-    by a of (Some body) = none_holds (λ (m : Meaning). IsMeant classes d (Some result) m.attribute) (declared_with a) (own_meant classes ds d body a.class) (λ e. of)
-form_right classes ds d (written.Inherited lazy result class name params start) =
+    by a of (Some body) = none_holds (λ (m : Meaning). IsMeant classes d (Some result) m.attribute) (declared_with a)
+        (own_meant allowed classes ds d body a.class) (λ e. of)
+form_right allowed classes ds d (written.Inherited lazy result class name params start) =
     then_holds (IsOfWord classes d result) (λ (m : Meaning). IsMeant classes d (Some result) m.attribute) declared_alone
-    (attribute_meant classes d result) (attribute_right classes d result) (λ a of. of)
-form_right classes ds d (written.Equation class name params body) =
-    none_holds (λ (m : Meaning). IsMeant classes d None m.attribute) (λ c. and_then own_alone (own_meant classes ds d body c)) (class_named classes class) (λ c.
-    none_holds (λ (m : Meaning). IsMeant classes d None m.attribute) own_alone (own_meant classes ds d body c) (λ e. tt))
-form_right classes ds d (written.InheritedEquation class getter index name params body) =
-    none_holds (λ (m : Meaning). IsMeant classes d None m.attribute) (below_class classes ds d getter index body) (class_named classes class) (λ c.
-    none_holds (λ (m : Meaning). IsMeant classes d None m.attribute) (below_component classes ds d index body c) (component_got classes c getter) (λ part.
-    none_holds (λ (m : Meaning). IsMeant classes d None m.attribute) inherited_alone (inherited_meant classes ds d index body c part) (λ e. tt)))
+    (attribute_meant allowed classes d result) (attribute_right allowed classes d result) (λ a of. of)
+form_right allowed classes ds d (written.Equation class name params body) =
+    none_holds (λ (m : Meaning). IsMeant classes d None m.attribute)
+    (λ c. and_then own_alone (own_meant allowed classes ds d body c)) (class_named classes class) (λ c.
+    none_holds (λ (m : Meaning). IsMeant classes d None m.attribute) own_alone (own_meant allowed classes ds d body c)
+    (λ e. tt))
+form_right allowed classes ds d (written.InheritedEquation class getter index name params body) =
+    none_holds (λ (m : Meaning). IsMeant classes d None m.attribute)
+    (below_class allowed classes ds d getter index body) (class_named classes class) (λ c.
+    none_holds (λ (m : Meaning). IsMeant classes d None m.attribute) (below_component allowed classes ds d index body c)
+    (component_got classes c getter) (λ part.
+    none_holds (λ (m : Meaning). IsMeant classes d None m.attribute) inherited_alone
+    (inherited_meant allowed classes ds d index body c part) (λ e. tt)))
 
 -- all of them -----------------------------------------------------------------------------------------------------------
 
@@ -202,13 +230,14 @@ declares_result (written.Equation class name params body) = refl
 declares_result (written.InheritedEquation class getter index name params body) = refl
 
 -- where no declaration has a fault, the attributes are those that are declared
-pub all_declared : (classes : Classes) (all : List Located) (k : ℕ) (some : List Located)
-    → first_given (refused_at classes all) k some ≡ None → AllZip (Declares classes) (attributes some)
-    (filter_map (λ (m : Meaning). m.attribute) (meanings classes all some))
-all_declared classes all k [] none = tt
-all_declared classes all k (d ∷ ds) none = by (meant classes all d) refl (form_right classes all d d.decl.form)
-    (first_none (refused_at classes all k d) _ none)
-    (all_declared classes all (k + 1) ds (other_none (refused_at classes all k d) _ none))
+pub all_declared : (allowed : Arguments) (classes : Classes) (all : List Located) (k : ℕ) (some : List Located)
+    → first_given (refused_at allowed classes all) k some ≡ None → AllZip (Declares classes) (attributes some)
+    (filter_map (λ (m : Meaning). m.attribute) (meanings allowed classes all some))
+all_declared allowed classes all k [] none = tt
+all_declared allowed classes all k (d ∷ ds) none = by (meant allowed classes all d) refl
+    (form_right allowed classes all d d.decl.form)
+    (first_none (refused_at allowed classes all k d) _ none)
+    (all_declared allowed classes all (k + 1) ds (other_none (refused_at allowed classes all k d) _ none))
   where
     with_one : (r : Option KindWord) → result_in d.decl.form ≡ r → (o : Option Attribute) → IsMeant classes d r o
         → (xs : List Located) (ys : List Attribute) → AllZip (Declares classes) xs ys
@@ -218,14 +247,14 @@ all_declared classes all k (d ∷ ds) none = by (meant classes all d) refl (form
     with_one (Some result) at None is xs ys rest = absurd is
     with_one (Some result) at (Some a) is xs ys rest = ((result, at, is), rest)
 
-    by : (j : Judgement Meaning) → meant classes all d ≡ j → Holds (Means' classes d d.decl.form) j
+    by : (j : Judgement Meaning) → meant allowed classes all d ≡ j → Holds (Means' classes d d.decl.form) j
         → refusal d j ≡ None → AllZip (Declares classes) (attributes ds)
-        (filter_map (λ (m : Meaning). m.attribute) (meanings classes all ds))
+        (filter_map (λ (m : Meaning). m.attribute) (meanings allowed classes all ds))
         → AllZip (Declares classes) (cond (is_attribute d.decl.form) (d ∷ attributes ds) (attributes ds))
-        (filter_map (λ (m : Meaning). m.attribute) (cons_option (meaning_if j) (meanings classes all ds)))
+        (filter_map (λ (m : Meaning). m.attribute) (cons_option (meaning_if j) (meanings allowed classes all ds)))
     by (Is m) is holds faultless rest =
         subst (λ b. AllZip (Declares classes) (cond b (d ∷ attributes ds) (attributes ds)) (cons_option m.attribute
-        (filter_map (λ (m : Meaning). m.attribute) (meanings classes all ds)))) (declares_result d.decl.form)
+        (filter_map (λ (m : Meaning). m.attribute) (meanings allowed classes all ds)))) (declares_result d.decl.form)
         (with_one (result_in d.decl.form) refl m.attribute holds (attributes ds) _ rest)
     by (Wrong c at) is holds faultless rest = absurd (none-some _ (sym faultless))
 

@@ -10,5 +10,6 @@ returns-in-Ok c = λ ds about. c.in-Ok.ensures ds about
 pub returns-in-Err : goal.returns-in-Err
 returns-in-Err c = λ ds about.
     let d = numbered_view c.args.numbered.now in
-    told d c.args.numbered.now.name (meant c.args.among.now.classes.now (map numbered_view ds) d) c.args.meant.now
+    told d c.args.numbered.now.name (meant c.args.among.now.arguments c.args.among.now.classes.now
+    (map numbered_view ds) d) c.args.meant.now
     c.add.new.meant c.in-Err.fault c.refusal.result c.refusal.ensures (c.in-Err.ensures ds about)

@@ -24,8 +24,10 @@ loop-numbered-preserved c =
     let i = c.loop-numbered.numbered-index in
     let d = c.numbered-item.result in
     let added = c.in_ok-add.ensures xs (is_about xs i d _ (omega arith) c.numbered-item.is c.in_ok-signatures.ensures c.requires.1 c.requires.0) in (
-      none_refused classes xs i d c.loop-numbered.meant c.add.new.meant tt (omega arith) c.numbered-item.is added c.loop-numbered.invariant.0,
-      stand_more classes xs i d c.loop-numbered.meant c.add.new.meant (omega arith) c.numbered-item.is c.requires.2 tt added c.loop-numbered.invariant.1,
+      none_refused c.args.arguments classes xs i d c.loop-numbered.meant c.add.new.meant tt
+          (omega arith) c.numbered-item.is added c.loop-numbered.invariant.0,
+      stand_more c.args.arguments classes xs i d c.loop-numbered.meant c.add.new.meant
+          (omega arith) c.numbered-item.is c.requires.2 tt added c.loop-numbered.invariant.1,
     )
 
 pub returns-in_err-add : goal.returns-in_err-add
@@ -35,9 +37,11 @@ returns-in_err-add c =
     let i = c.loop-numbered.numbered-index in
     let d = c.numbered-item.result in
     let p = err_from_is_err_and c.from_residual-in_err-add.result c.from_residual-in_err-add.ensures.1 in
-    rw (p.1, p.2) (refused_here classes xs i d c.loop-numbered.meant c.add.new.meant c.in_err-add.field-0.0
+    rw (p.1, p.2) (refused_here c.args.arguments classes xs i d c.loop-numbered.meant c.add.new.meant
+    c.in_err-add.field-0.0
     (omega arith) c.numbered-item.is (c.in_err-add.ensures xs (is_about xs i d _ (omega arith) c.numbered-item.is
     c.in_ok-signatures.ensures c.requires.1 c.requires.0)) c.loop-numbered.invariant.0)
 
 pub returns : goal.returns
-returns c = all_meant c.args.classes.now c.args.declared.now c.loop-numbered.numbered-index c.loop-numbered.meant (omega arith) c.loop-numbered.invariant.0 c.loop-numbered.invariant.1
+returns c = all_meant c.args.arguments c.args.classes.now c.args.declared.now c.loop-numbered.numbered-index
+    c.loop-numbered.meant (omega arith) c.loop-numbered.invariant.0 c.loop-numbered.invariant.1

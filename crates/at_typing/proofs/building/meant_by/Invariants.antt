@@ -7,5 +7,6 @@ use Rattle.at_class.proofs.Firsts.{NoneBefore}
 
 abbrev pub invariant-loop-numbered : goal.invariant-loop-numbered
 invariant-loop-numbered l =
-    NoneBefore (refused_at l.classes (map numbered_view l.declared)) numbered_view l.declared l.numbered-index
-    × StandBefore l.classes l.declared l.numbered-index l.meant
+    NoneBefore (refused_at l.among.arguments l.classes (map numbered_view l.declared)) numbered_view l.declared
+    l.numbered-index
+    × StandBefore l.among.arguments l.classes l.declared l.numbered-index l.meant

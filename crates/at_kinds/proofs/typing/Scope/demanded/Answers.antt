@@ -18,8 +18,9 @@ returns c =
     ≡ Call (body_view c.args.node.value) c.args.attribute (bodies_view c.in_ok-arguments.arguments.items) =
     call_seen c.args.node c.args.attribute c.in_ok-arguments.arguments in
     subst (λ j. Judges typed_view j c.of_kind.result)
-    (sym (demanded_there classes c.args.at c.args.attribute _ d (body_view c.args.node.value) ks (bodies_view
+    (sym (demanded_there c.args.self.now.arguments classes c.args.at c.args.attribute _ d
+    (body_view c.args.node.value) ks (bodies_view
     c.in_ok-arguments.arguments.items) (sym c.get.ensures ∙ ap (option_map (λ s. declared_view s.now)) c.in-Some.is)
-    (ap (fitted classes c.args.at ks) (sym c.deref.ensures.value) ∙ c.in_ok-arguments.ensures)
+    (ap (fitted c.args.self.now.arguments classes c.args.at ks) (sym c.deref.ensures.value) ∙ c.in_ok-arguments.ensures)
     ∙ ap₂ (λ k b. of_kind c.args.at k b) (sym c.written-kind.ensures) (sym same)))
     c.of_kind.ensures

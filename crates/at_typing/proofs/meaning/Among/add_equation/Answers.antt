@@ -13,7 +13,8 @@ returns-in_err-class c = λ ds about.
 pub returns : goal.returns
 returns c = λ ds about.
     let d = numbered_view c.args.numbered.now in
-    let equation = adds_equation c.args.self.now.classes.now (map numbered_view ds) d (body_view c.args.body.now)
+    let equation = adds_equation c.args.self.now.arguments c.args.self.now.classes.now (map numbered_view ds) d
+    (body_view c.args.body.now)
     c.args.self.now.signatures.now c.in_ok-class.class c.synthesized.result about.signatures
     c.args.numbered.now.name c.args.meant.now c.add_own.new.meant c.add_own.result (c.synthesized.ensures ds about)
     c.add_own.ensures.added c.add_own.ensures.attributes c.add_own.ensures.inherited in

@@ -17,9 +17,12 @@ pub returns-in-Some : goal.returns-in-Some
 returns-in-Some c = λ ds about.
     let classes = c.args.self.now.classes.now in
     let d = numbered_view c.args.numbered.now in
-    declares_with classes (map numbered_view ds) d (body_view c.in-Some.body.now) c.args.self.now.signatures.now c.in_ok-class.class c.synthesized.result about.signatures
+    declares_with c.args.self.now.arguments classes (map numbered_view ds) d
+    (body_view c.in-Some.body.now) c.args.self.now.signatures.now c.in_ok-class.class c.synthesized.result
+    about.signatures
     c.args.numbered.now.name c.args.meant.now c.declare.new.meant c.add_own.new.meant
-    (attribute_meant classes d (kind_word_view c.args.kind.now)) (body_in d.decl.form) c.add_own.result
+    (attribute_meant c.args.self.now.arguments classes d (kind_word_view c.args.kind.now))
+    (body_in d.decl.form) c.add_own.result
     (sym c.body_in.ensures ∙ ap (option_map (λ b. body_view b.now)) c.in-Some.is) (c.synthesized.ensures ds about)
     c.in_ok-class.ensures.declared c.in_ok-class.ensures.own c.in_ok-class.ensures.inherited c.add_own.ensures.added c.add_own.ensures.attributes c.add_own.ensures.inherited
 
@@ -28,6 +31,9 @@ returns-in-None c = λ ds about.
     let classes = c.args.self.now.classes.now in
     let d = numbered_view c.args.numbered.now in
     let none = sym c.body_in.ensures ∙ ap (option_map (λ b. body_view b.now)) c.in-None.is in
-    declares_alone d c.args.numbered.now.name c.args.meant.now c.declare.new.meant (with_body classes (map numbered_view
-    ds) d (body_in d.decl.form)) (attribute_meant classes d (kind_word_view c.args.kind.now)) c.in_ok-class.class tt
-    (λ a. ap (λ b. with_body classes (map numbered_view ds) d b a) none) c.in_ok-class.ensures.declared c.in_ok-class.ensures.own c.in_ok-class.ensures.inherited
+    declares_alone d c.args.numbered.now.name c.args.meant.now c.declare.new.meant
+    (with_body c.args.self.now.arguments classes (map numbered_view
+    ds) d (body_in d.decl.form)) (attribute_meant c.args.self.now.arguments classes d (kind_word_view c.args.kind.now))
+    c.in_ok-class.class tt
+    (λ a. ap (λ b. with_body c.args.self.now.arguments classes (map numbered_view ds) d b a) none)
+    c.in_ok-class.ensures.declared c.in_ok-class.ensures.own c.in_ok-class.ensures.inherited
