@@ -181,7 +181,9 @@ class Method:
 
 
 # What a parameter of each kind is called.
-NAMED = {"Item": "n", "String": "t"}
+NAMED = {"Item": "n", "String": "t", "int": "i", "boolean": "b"}
+# How many parameters a method has.
+PARAMETERS = (0, 0, 0, 1, 1, 1, 2, 2, 3, 4)
 
 
 Ways = Sequence[Callable[[], Optional[Expr]]]
@@ -283,13 +285,16 @@ class Making:
         if not known:
             return None
         asked = self.chance.choice(known)
-        given = [self.given_text() if it == "String" else self.of("Item", 0) for it in asked.parameters]
+        given = [self.given_text() if it == "String" and self.often(0.5) else self.of(it, 0 if it == "Item" else depth) for it in asked.parameters]
         return Expr("call", (self.node(depth), *given), asked.name)
 
     def given_text(self) -> Expr:
-        """A text that may be an argument: a token, a literal or a parameter."""
-        ways = [self.token("Name"), self.literal(*(f'"{it}"' for it in NAMES)), word("t")]
-        return self.chance.choice(ways if "String" in self.method.parameters else ways[:2])
+        """A text that isn't computed: a token, a literal or a parameter."""
+        return self.chance.choice([self.token("Name"), self.literal(*(f'"{it}"' for it in NAMES)), *self.passed("String")])
+
+    def passed(self, kind: str) -> List[Expr]:
+        """The parameter of the kind, where the method has one."""
+        return [word(NAMED[kind])] if kind in self.method.parameters else []
 
     def folded(self, form: str, depth: int) -> Optional[Expr]:
         """A fold, where one may stand."""
@@ -321,14 +326,14 @@ class Making:
 
     def number(self, depth: int) -> Expr:
         less = depth - 1
-        return self.made(depth, (lambda: self.token("Size", "NumItem"), lambda: self.literal(*SIZES)), (
+        return self.made(depth, (lambda: self.token("Size", "NumItem"), lambda: self.literal(*SIZES), *(lambda: it for it in self.passed("int"))), (
             *[lambda: self.joined(self.number, "+-*/%", less)] * 3, lambda: self.chosen(self.number, less),
             lambda: self.folded("sum", less), lambda: self.called("int", less), lambda: Expr("minus", (self.number(less),)),
         ))
 
     def boolean(self, depth: int) -> Expr:
         less = depth - 1
-        return self.made(depth, (lambda: self.token("On"), lambda: self.literal("true", "false")), (
+        return self.made(depth, (lambda: self.token("On"), lambda: self.literal("true", "false"), *(lambda: it for it in self.passed("boolean"))), (
             lambda: self.joined(self.number, ("<", "<=", ">", ">=", "==", "!="), less), lambda: self.called("boolean", less),
             *[lambda: self.joined(self.boolean, ("&&", "||", "&&", "||", "=="), less)] * 3, lambda: self.folded("exists", less),
             lambda: Expr("binary", (self.node(less), self.of("Item", less)), self.chance.choice(("==", "!="))),
@@ -348,7 +353,7 @@ def methods(chance: random.Random, most: int) -> List[Method]:
     """So many methods by chance, each of which may call those before it."""
     made: List[Method] = []
     for number in range(most):
-        parameters = chance.choice(((), (), ("Item",), ("String",), ("Item", "String")))
+        parameters = tuple(chance.sample(sorted(NAMED), chance.choice(PARAMETERS)))
         method = Method(f"m{number}", chance.choice(KINDS), parameters, chance.random() < 0.3)
         for of in ("Item", "Leaf") if chance.random() < 0.3 else ("Item",):
             method.bodies[of] = Making(chance, method, made).body()

@@ -8,6 +8,10 @@ from typing import Callable, Dict, Iterator, Optional, Sequence, Tuple, Union
 from tools.of_the_program.jastadd_bodies import FOLDS, NAMED, Expr, If, Method, Node, Return, Search, Statement, Value
 
 
+# What is computed and passed: an int is so far from 0, a text has so many bytes.
+MOST, LONGEST = 1_048_576, 4_096
+
+
 @dataclass(frozen=True)
 class Fault(Exception):
     """A fault, with the node and the attribute whose own body met it."""
@@ -41,6 +45,16 @@ def told(value: Value) -> str:
     if isinstance(value, Node):
         return value.path
     return "null" if value is None else f'"{value}"' if isinstance(value, str) else str(value)
+
+
+def is_number(e: Expr) -> bool:
+    """Whether the expression is a number as it is written; a minus in front belongs to it."""
+    return e.form == "word" and e.word.lstrip("-").isdigit() or e.form == "minus" and e.parts[0].form == "word" and e.parts[0].word.isdigit()
+
+
+def is_given(e: Expr) -> bool:
+    """Whether the text is a literal, a parameter or a token."""
+    return e.form in ("word", "token")
 
 
 class Java:
@@ -168,10 +182,20 @@ class Body:
         return receiver.items[at]
 
     def call(self, e: Expr) -> Value:
-        receiver, given = self.value(e.parts[0]), tuple(map(self.value, e.parts[1:]))
+        receiver, given = self.value(e.parts[0]), tuple(map(self.passed, e.parts[1:]))
         if not isinstance(receiver, Node):
             raise self.fault("null")
         return self.java.called(receiver, e.word, given)
+
+    def passed(self, e: Expr) -> Value:
+        """What is passed: of what is computed an int isn't too far from 0, and a text not too long. Raises Fault."""
+        value = self.value(e)
+        is_int = isinstance(value, int) and not isinstance(value, bool)
+        if is_int and not is_number(e) and not -MOST - 1 <= int(str(value)) <= MOST:
+            raise self.fault("long")
+        if isinstance(value, str) and not is_given(e) and len(value) > LONGEST:
+            raise self.fault("long")
+        return value
 
     def folded(self, e: Expr) -> Value:
         total = 0

@@ -2,7 +2,7 @@
 import os
 import random
 from collections import Counter
-from typing import List, NamedTuple, Sequence
+from typing import Dict, List, NamedTuple, Sequence
 
 from tools.of_the_program.jastadd_bodies import GRAMMAR, NAMES, Method, Node, Value, aspects, methods, tree
 from tools.of_the_program.jastadd_java import Java, told
@@ -15,7 +15,9 @@ FILES, METHODS, TREES, SEED = 40, 8, 3, 1958
 # Of a tree at most so many nodes are asked.
 ASKED = 8
 # What is answered somewhere: values of these kinds, and these faults.
-ANSWERED = {"int", "boolean", "String", "Item", "null", "zero", "index", "cast"}
+ANSWERED = {"int", "boolean", "String", "Item", "null", "zero", "index", "cast", "long"}
+# Ints that are passed by a line.
+GIVEN = (0, 0, 1, 2, 3, -1, 7, 65_536, 1_048_576, -1_048_577)
 
 
 class Sent(NamedTuple):
@@ -28,7 +30,8 @@ class Sent(NamedTuple):
 
 def argument(kind: str, root: Node, chance: random.Random) -> Value:
     """An argument for a parameter of the kind."""
-    return chance.choice(NAMES) if kind == "String" else chance.choice([None, *root.all()])
+    given: Dict[str, Sequence[Value]] = {"String": NAMES, "int": GIVEN, "boolean": (True, False), "Item": [None, *root.all()]}
+    return chance.choice(given[kind])
 
 
 def asked(java: Java, node: Node, method: Method, given: Sequence[Value]) -> Sent:
