@@ -9,7 +9,7 @@ from .paths import FromMark, Path
 from .terms import Node, Token, write_term, write_token
 
 Place = Union[str, Path, FromMark, Any]
-Argument = Union[str, Path, FromMark, None, Any]
+Argument = Union[str, bool, int, Path, FromMark, None, Any]
 
 
 def place_text(place: Place) -> str:
@@ -39,16 +39,19 @@ def name_text(name: str) -> str:
 
 
 def argument_text(argument: Argument) -> str:
-    """An argument: a `str` is a text, a place is a Path, a FromMark, a mark or a View, and None is null. Raises LineFault."""
+    """An argument: a `str` is a text, an `int` or a `bool` is one, a place is a Path, a FromMark, a mark or a View, and None is null. Raises
+    LineFault."""
     if argument is None:
         return "null"
     if isinstance(argument, str):
         return quoted(argument)
+    if isinstance(argument, int) and LEAST_INT <= argument <= GREATEST_INT:
+        return write_token(argument)
     try:
         return place_text(argument)
     except LineFault:
-        raise LineFault(f"an argument is a str (for a text), a Path, a mark or a View (for a node), or None (for null), and not {_told(argument)}: "
-                        "a parameter is a String or a class") from None
+        raise LineFault("an argument is a str (for a text), an int of 32 bits, a bool, a Path, a mark or a View (for a node), or None (for null), "
+                        f"and not {_told(argument)}") from None
 
 
 def index_text(index: int) -> str:

@@ -11,6 +11,10 @@ from .replies import AskValue
 from .terms import Node
 
 
+# The farthest from 0 that an int is that is computed and passed.
+MOST_PASSED = 1_048_576
+
+
 class Call(NamedTuple):
     """An attribute that is asked, and the stretch of the text in which it is written."""
 
@@ -129,6 +133,9 @@ class Evaluation:
         accessor = _accessor(self.grammar, self._node(receiver).name, name)
         if accessor is not None:
             return self._cell(receiver, accessor[0], accessor[1], arguments)
+        for part, value in zip(it.arguments, arguments):
+            if _is_too_far(part, value):
+                raise Stopped(f"{name} is passed the int {value}, which is too far from 0")
         return (yield Call(receiver, name, tuple(arguments), it.start, it.end))
 
     def _cell(self, path: Path, front: str, part: str, arguments: List[AskValue]) -> AskValue:
@@ -170,6 +177,13 @@ class Evaluation:
             return _wrapped(sum(map(_number, values)))
         is_found = bool(values and values[-1])
         return is_found if it.word.text == "exists" else self.bound[name] if is_found else None
+
+
+def _is_too_far(part: Expression, value: AskValue) -> bool:
+    """Whether an argument is an int that is computed and farther from 0 than one that may be passed."""
+    while part.form is Form.GROUP:
+        part = part.parts[0]
+    return type(value) is int and part.form is not Form.NUMBER and not -MOST_PASSED - 1 <= value <= MOST_PASSED
 
 
 def _accessor(grammar: Grammar, of: str, name: str) -> Optional[Tuple[str, str]]:

@@ -53,7 +53,8 @@ class Shown(ServerTest):
         self.assertEqual(self.session.value(tree.Block, "local", "x"), tree.Block.Stmt[0].place)
 
     def test_which_kinds_are_taken(self):
-        for call, told in ((lambda: self.session.ask("/Block", "local", 7), "an argument is a str (for a text), a Path, a mark or a View (for a node), or None"),
+        for call, told in ((lambda: self.session.ask("/Block", "local", 7.5), "an argument is a str (for a text), an int of 32 bits, a bool, a Path, a mark or"),
+                           (lambda: self.session.ask("/Block", "local", 2 ** 31), "and not int 2147483648"),
                            (lambda: self.session.ask(7, "local"), "a place is a str that spells one, a Path, a mark or a View, and not int 7"),
                            (lambda: self.session.token("/", "ID", 1.5), "a token is a str, an int of 32 bits or a bool, and not float 1.5"),
                            (lambda: self.session.set("/", None), "a term is a Node, or a str that spells one, and not None")):

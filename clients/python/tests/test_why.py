@@ -5,6 +5,7 @@ import attrd
 from attrd import Instance, Path, Why, read_term
 from attrd.authoring import Source, Specification
 from attrd.evaluating import Evaluation, Stopped
+from attrd.instances import read_call
 from support import CALCULATOR, PROGRAM, SAMPLES, page_files
 
 OBJECTS = SAMPLES / "objects"
@@ -56,6 +57,18 @@ class Reasons(OverFiles):
         self.assertEqual(self.told("/", "spin")[2:], ["  1. spin() circular /.spin   (/.spin())", "  /.spin() has no value, and so this has none"])
         self.assertEqual(self.told("/", "n8")[-1], "  getID is called on null")
         self.assertEqual(self.told("/", "n4")[-1], "  the cast of /Block/Stmt:1, a Print, to Decl fails")
+
+    def test_numbers_are_passed(self):
+        aspect = "aspect A { syn int P.a(int n, boolean b) = b ? n : c(n * 1000); syn int P.c(int n) = n + 1; }"
+        session, why = self.open("P ::= <X>;", read_term('P("")'), [("a.jrag", aspect)], "jastadd")
+        self.assertEqual([session.value("/", "a", 5, True), session.value("/", "a", -5, False)], [5, -4999])
+        for given, lines in (((-5, False), ["/.a(-5, false) = -4999", "  1. c(n * 1000) = -4999   (/.c(-5000))"]),
+                             ((5000, False), ["/.a(5000, false) fault long in /.a", "  c is passed the int 5000000, which is too far from 0"])):
+            found = str(run(session, why.reason(Instance(Path.read("/"), "a", given)))).splitlines()
+            self.assertEqual([found[0], found[-1]], lines)
+        self.assertEqual(read_call("a(-5,false)"), ("a", (-5, False)))
+        for wrong in ("a(05)", "a(-0)", "a(True)", "a(+1)"):
+            self.assertRaises(attrd.SyntaxFault, read_call, wrong)
 
     def test_what_is_not_there(self):
         for path, attribute in (("/Nix", "value"), ("/", "nix")):
