@@ -36,7 +36,8 @@ SENTENCES: Dict[str, Tuple[str, str]] = {
     "J4": ("What stands here is of another kind than is wanted.",
            "Texts are compared by `equals`; `(C) e` casts a node; a text stands on the left of `+`; lists are used in folds alone."),
     "J5": ("A parameter or an argument doesn't fit.",
-           "There are at most two parameters, of kind String or a class; a String argument is a token, a parameter or a text."),
+           "There are at most two parameters, of kind String or a class; a String argument is a token, a parameter or a text. With "
+           "`--forms jastadd` there are four, also of kind int and boolean, and a String argument is any text."),
     "J6": ("There are two equations for one attribute of one class.", "Take one of them out."),
     "J7": ("A class that isn't abstract has this attribute and comes to no equation.",
            "Give an equation for each class, or one with the declaration for all of them."),

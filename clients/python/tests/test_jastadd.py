@@ -54,6 +54,9 @@ aspect A {
   syn boolean A.i() { for (B b : getBList()) if (b.f()) return 1; return false; } //: J4/0
   coll Set<B> A.bs() [new HashSet<B>()]; //: J10/13 J10/1
   public int A.j() { return 1; }
+  syn int A.k(int a, boolean b, String c, B d, int e) = 1; //: J5/8
+  syn int A.l(int n) = n > 0 ? l(n - 1) : l(true); //: J5/0
+  syn int A.m(String s) = m(s + 1) + m(2); //: J5/0
 }
 """
 # The same of what is declared again for a class below: T and U are below S.

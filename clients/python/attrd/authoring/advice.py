@@ -154,7 +154,8 @@ class Advice:
 
     def _of_parameters(self, it: Declaration) -> Optional[str]:
         if it.form != "eq" or it.name is None or it.of is None:
-            return "A parameter is a String or a node of a class, and there are at most two."
+            return "A parameter is a String, an int, a boolean or a node of a class, and there are at most four." \
+                if "jastadd" in self.specification.forms else "A parameter is a String or a node of a class, and there are at most two."
         known = self.specification.attribute(it.of.text, it.name.text) if it.getter is None else None
         named = [known] if known is not None else self.specification.named(it.name.text)
         return f"The attribute is declared as {self._head(named[0])}." if named else None

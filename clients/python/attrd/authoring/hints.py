@@ -9,7 +9,7 @@ from ..grammar import Shape
 from .aspect_tree import Declaration, Expression, Form, Piece
 from .mending import Refused
 from .specification import NODES, Placed, Specification, is_java_kind
-from .ways import (COMPUTED, FORMS, JAVA_TYPES, NAMES, NO_VALUE, NUMBERS, OF_JAVA, OF_SETS, OTHER_KIND, OTHERWISE, OVERLOADED, OVERRIDDEN,
+from .ways import (COMPUTED, FIFTH, FORMS, JAVA_TYPES, NAMES, NO_VALUE, NUMBERS, OF_JAVA, OF_SETS, OTHER_KIND, OTHERWISE, OVERLOADED, OVERRIDDEN,
                    TOO_MANY, TWO_FORMS, TWO_TYPES, Way, way_of_body)
 
 _SEVERAL = re.compile(r"get(\w+)s")
@@ -64,7 +64,7 @@ class Hints:
     def _of_form(self, refused: Refused, text: str) -> Optional[Way]:
         sort, it, piece = refused.sort, refused.declaration, self.piece(refused)
         if piece is not None:
-            body = way_of_body(sort, text[piece.start:piece.end], "jastadd" in self.specification.forms)
+            body = way_of_body(sort, text[piece.start:piece.end], self._is_jastadd())
             if body is not None:
                 return body
         if sort == "method" and it is not None and it.kind is not None and it.kind.text == "void":
@@ -99,7 +99,12 @@ class Hints:
         place = next((at for at, kind in enumerate(kinds) if kind is not None and kind.at == refused.offset), None)
         if place is None or it.form == "eq":
             return None
+        if self._is_jastadd():
+            return FIFTH
         return TOO_MANY if place > 1 else NUMBERS if word in ("int", "boolean") else None
+
+    def _is_jastadd(self) -> bool:
+        return "jastadd" in self.specification.forms
 
     def _of_getter(self, name: str) -> Optional[Way]:
         """What helps where an equation is for a component that isn't there: for what `nta` declares, or `getStmts`."""
@@ -119,7 +124,7 @@ class Hints:
         if any(self.is_of_text(made, it) for made in calls):
             return OF_JAVA
         if code == "J5":
-            kind = self.specification.kind_of(expression, it)
+            kind = None if self._is_jastadd() else self.specification.kind_of(expression, it)
             return COMPUTED if kind == "String" else NUMBERS if kind in ("int", "boolean") and expression.form is not Form.CALL else None
         if code == "J4":
             whole = self.operation(expression, it)

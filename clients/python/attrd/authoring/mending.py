@@ -299,7 +299,7 @@ class Mending:
 
     def _put_parameters(self, file: int, it: Declaration, offset: int) -> None:
         """Gives a declaration parameters that may stand there: those of the attribute to an equation, else a String in the place of the one
-        that is refused, and none in that of a third one."""
+        that is refused, and none in that of one too many."""
         if it.name is None:
             return
         bindings = [(known.kind, known.name) for known in it.parameters if known.kind is not None]
@@ -317,9 +317,10 @@ class Mending:
         at = next((at for at, (kind, _) in enumerate(bindings) if kind.at == offset), None)
         if at is None:
             return
-        if at > 1:
-            self.patched[file].put(bindings[1][1].end, it.parameters_end, ")")
-            self._retype(it, {name.text for _, name in bindings[2:]})
+        most = self._most_parameters()
+        if at >= most:
+            self.patched[file].put(bindings[most - 1][1].end, it.parameters_end, ")")
+            self._retype(it, {name.text for _, name in bindings[most:]})
         else:
             self.patched[file].put(offset, bindings[at][0].end, "String")
             self._retype(it, {bindings[at][1].text})
@@ -327,7 +328,7 @@ class Mending:
     def _kinds_of(self, it: Declaration) -> List[str]:
         """The kinds of a declaration's parameters that may stand there."""
         kinds = [known.kind.text for known in it.parameters if known.kind is not None]
-        return [kind if self._is_parameter(kind) or kind in NODES else "String" for kind in kinds[:2]]
+        return [kind if self._is_parameter(kind) or kind in NODES else "String" for kind in kinds[:self._most_parameters()]]
 
     def _put_apart(self, file: int, it: Declaration) -> bool:
         """Has an equation declare an attribute of its own, so that its body is looked at; whether that could be done."""
@@ -339,15 +340,19 @@ class Mending:
         if kind is None or (is_class_kind(kind) and kind not in self.specification.grammar):
             told = self.specification.kind_of(it.body, it) or ""
             kind = self._kinds[id(it)] = told if told in KINDS or told in self.specification.grammar else "boolean"
-        allowed = [binding for binding in it.parameters if binding.kind is not None and self._is_parameter(binding.kind.text)][:2]
+        allowed = [binding for binding in it.parameters if binding.kind is not None and self._is_parameter(binding.kind.text)]
+        allowed = allowed[:self._most_parameters()]
         spelled = ", ".join(f"{_spelled(binding.kind.text)} {binding.name.text}" for binding in allowed if binding.kind is not None)
         head = f"syn {_spelled(kind)} {_spelled(it.of.text)}.{it.name.text}__{it.start}({spelled})"
         self._names_of(it).update(binding.name.text for binding in it.parameters if binding not in allowed)
         self.patched[file].put(it.start, it.parameters_end, head)
         return True
 
+    def _most_parameters(self) -> int:
+        return 4 if "jastadd" in self.specification.forms else 2
+
     def _is_parameter(self, kind: str) -> bool:
-        return kind == "String" or kind in self.specification.grammar
+        return kind == "String" or kind in self.specification.grammar or "jastadd" in self.specification.forms and kind in ("int", "boolean")
 
     def _mend_expression(self, refusal: Refusal, offset: int, it: Declaration) -> Optional[Expression]:
         patched = self.patched[refusal.file]
@@ -503,7 +508,7 @@ class Mending:
     def _has_other_parameters(self, name: str) -> bool:
         """Whether an attribute of this name is declared with parameters that aren't taken."""
         named = [placed.declaration.parameters for placed in self.specification.named(name)]
-        return any(len(them) > 2 or not all(it.kind is None or self._is_parameter(it.kind.text) for it in them) for them in named)
+        return any(len(them) > self._most_parameters() or not all(it.kind is None or self._is_parameter(it.kind.text) for it in them) for them in named)
 
     def _is_of_java(self, made: Expression, it: Declaration) -> bool:
         """Whether it is a call of a value whose type is one of Java."""

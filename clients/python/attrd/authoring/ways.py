@@ -98,6 +98,7 @@ TWO_TYPES = Way("All `inh` declarations of a name say the same types, and the sa
 NUMBERS = Way("A parameter is a String or a node: a number that is an index is the element, and one that grows on the way down is an "
               "inherited attribute.", 6)
 TOO_MANY = Way("There are two parameters at most: of three one is mostly a node that can be asked, with the others as its arguments.", 8)
+FIFTH = Way("There are four parameters at most: of five one is mostly a node that can be asked, with others as its arguments.", 8)
 COMPUTED = Way("A String argument is a token, a parameter or a text that is written out: pass the node, and let the other side ask it.", 7)
 OF_JAVA = Way("Java can't be called: what takes a library is computed by the client, which puts the result into the tree as a token.", 1)
 OF_SETS = Way("A set is the question whether something is in it: have the attribute take the element as its argument, and answer a "
