@@ -114,6 +114,13 @@ mark_there es slots slot p mark was h = subst (λ o. HasMark (option_map info o)
 pub free_slot : (es : List (Instance ℕ × Entry)) (slots : ℕ → Option ℕ) (slot : ℕ) → slots slot ≡ None → option_map info (at es slots slot) ≡ None
 free_slot es slots slot none = ap (option_map info) (at_none es slots slot none)
 
+-- nothing is written where no entry is
+pub unwritten : (m : Memory) (slot : ℕ) (f : Info → Info) → m slot ≡ None → (k : ℕ) → m k ≡ (if nat_eq k slot then option_map f (m k) else m k)
+unwritten m slot f none k = elim (cases_eq k slot) [
+  | inl same ↦ let gone : m k ≡ None = ap m same ∙ none in gone ∙ sym (ap (λ b. if b then option_map f (m k) else m k) (eq-eqb k slot same) ∙ ap (option_map f) gone)
+  | inr differs ↦ sym (ap (λ b. if b then option_map f (m k) else m k) (ne_eqb k slot differs))
+]
+
 pub value_taken : (o : Option (Instance ℕ × Entry)) (r : Option Entry) → r ≡ option_map (λ e. e.1) o → IfSome r (λ e. (i : Instance ℕ) × (option_map info o ≡ Some (info (i, e))))
 value_taken None r h = subst (λ q. IfSome q (λ e. (i : Instance ℕ) × (None ≡ Some (info (i, e))))) (sym h) tt
 value_taken (Some e) r h = subst (λ q. IfSome q (λ f. (i : Instance ℕ) × (Some (info e) ≡ Some (info (i, f))))) (sym h) (e.0, refl)

@@ -23,8 +23,8 @@ pub mod Noted
 pub mod RowEdges
 pub mod RowLists
 pub mod Replaced
+pub mod SameRows
 pub mod NoRows
 pub mod Came
 pub mod of_cut
-mod of_folding
-mod of_runs
+pub mod of_runs

@@ -12,7 +12,6 @@ pub mod Asking
 pub mod Runs
 pub mod Finding
 pub mod Keeping
-pub mod Folding
 pub mod Blocking
 pub mod Attributes
 pub mod Traced
@@ -21,6 +20,4 @@ pub mod Marking
 pub mod Settling
 pub mod Shedding
 pub mod Renewing
-pub mod Rerunning
-pub mod Joining
 pub mod Theirs

@@ -38,6 +38,10 @@ renewed value links stamp e = record e { value = value; links = links; stamp = s
 abbrev pub outdated : (links : List ℕ) (stamp : ℕ) → Info → Info
 outdated links stamp e = record e { links = links; stamp = stamp; since = stamp }
 
+-- an entry with other links and users
+abbrev pub relinked : (links : List ℕ) → (users : List Edge) → Info → Info
+relinked links users e = record e { links = links; users = users }
+
 -- the entry at the place is changed so
 abbrev pub HasWritten : (Entry → Entry) → ℕ → (old new : List (Instance ℕ × Entry)) → Type 0
 HasWritten f p old new = (e : Instance ℕ × Entry) → slice_get old p ≡ Some e → new ≡ set_value_at old p (f e.1)

@@ -66,8 +66,4 @@ impl<K: Keeper> Keeper for KeepInTurns<K> {
     fn flush<F: Fn(Loc) -> bool>(&mut self, places: &Places<'_>, touched: &F) {
         self.keeper.flush(places, touched);
     }
-
-    fn fit(&mut self, most: usize) {
-        self.keeper.fit(most);
-    }
 }

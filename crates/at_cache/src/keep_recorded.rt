@@ -15,13 +15,11 @@ ghost use Rattle.at_cache.specs.Traced.{FlushesTraces, SparesAtEdit, StayTraced,
 
 use crate::again::slot_by;
 use crate::blocking::blocking;
-use crate::choosing::choose;
 use crate::cut::Cut;
 use crate::cutting::take_away;
 use crate::edge::{Edge, Slot};
-use crate::entry::Links;
 use crate::facet::small;
-use crate::folding::fold;
+use crate::folding::{Fold, Last};
 use crate::keeper::{Keeper, Order};
 use crate::likely::Likely;
 use crate::renewing::{enter_held, outdate, slot_for};
@@ -35,13 +33,12 @@ use at_store::{Loc, Node, Places};
 use indexmap::IndexMap;
 use slab::Slab;
 use std::alloc::{AllocError, Global};
-use std::mem;
 
 /// Keeps each value with what was looked at and taken for it. What an edit takes from it stays in memory with its value; it is kept again
 /// without any evaluation once all that it used is, where it looked itself at nothing that was touched, and nothing that it used was put with
 /// another value since. What isn't kept leaves memory where an edit finds much more in it than is kept, and where there is a bound.
 pub struct KeepRecorded {
-    alloc: Global,
+    pub alloc: Global,
     cut: Cut,
     readers: AllReaders,
     // The nodes of which the index was ever read.
@@ -121,18 +118,17 @@ impl KeepRecorded {
         slot_by(&self.cut.entries, inst, self.likely.place_of(inst))
     }
 
-    // The same with no more in memory than what is kept; and where that is hardly fewer than so many, with entries folded into those that used
-    // them, so that about three quarters of that number are left, or fewer, of which none is traced. What nothing uses goes whole, where it
-    // came to be kept before the last edit. An error where memory is wanting.
-    fn shrunk(self, most: usize) -> Result<KeepRecorded, AllocError>
+    /// The same with no more in memory than what is kept; and where that is more than so many, with entries folded into those that used
+    /// them, of which none is traced then. An error where memory is wanting.
+    pub fn shrunk<F: Fold>(self, enough: usize, by: &F) -> Result<KeepRecorded, AllocError>
         ensures { IfOk result (λ k. Shrinks (edges_to self.readers) self.cut self.puts (edges_to k.readers) k.cut k.puts) }
     {
         let mut keeper = self;
         keeper.shed()?;
-        if keeper.len() <= most - most / 16 {
+        if keeper.len() <= enough {
             return Ok(keeper);
         }
-        keeper.folded(most - most / 4)
+        keeper.folded(by)
     }
 
     // What isn't kept leaves memory. An error where there are too many slots, and then all stays.
@@ -169,24 +165,7 @@ impl KeepRecorded {
     }
 
     // The same with entries folded into those that used them, all of which are kept. None is traced.
-    fn folded(self, target: usize) -> Result<KeepRecorded, AllocError>
-        requires { AreHeld self.cut.standings.items (memory_of self.cut.entries) }
-        ensures { IfOk result (λ k. Shrinks (edges_to self.readers) self.cut self.puts (edges_to k.readers) k.cut k.puts) }
-    {
-        let (plan, folds) = choose(
-            self.alloc,
-            &self.cut.entries,
-            self.cut.standings.as_slice(),
-            &self.readers,
-            target,
-            self.since,
-            self.folds,
-        )?;
-        self.folded_by(plan.as_slice(), folds)
-    }
-
-    // The same folded by that plan.
-    fn folded_by(self, plan: &[Links], folds: u32) -> Result<KeepRecorded, AllocError>
+    fn folded<F: Fold>(self, by: &F) -> Result<KeepRecorded, AllocError>
         requires { AreHeld self.cut.standings.items (memory_of self.cut.entries) }
         ensures { IfOk result (λ k. Shrinks (edges_to self.readers) self.cut self.puts (edges_to k.readers) k.cut k.puts) }
     {
@@ -200,9 +179,16 @@ impl KeepRecorded {
             doubtful: _,
             limit,
             since,
-            folds: _,
+            folds,
         } = self;
-        fold(alloc, &mut cut.entries, &mut readers, plan)?;
+        let last = Last { since, folds };
+        let folds = by.fold(
+            alloc,
+            &mut cut.entries,
+            cut.standings.as_slice(),
+            &mut readers,
+            last,
+        )?;
         lose_traces(&mut cut.standings)?;
         Ok(KeepRecorded {
             alloc,
@@ -375,19 +361,5 @@ impl Keeper for KeepRecorded {
         let readers = &self.readers;
         let index_read = self.index_read.as_slice();
         take_away(&mut self.cut, readers, index_read, places, touched);
-    }
-
-    fn fit(&mut self, most: usize) {
-        if self.len() <= most {
-            return;
-        }
-        let keeper = mem::replace(self, KeepRecorded::new(self.alloc));
-        let Ok(keeper) = keeper.shrunk(most) else {
-            return;
-        };
-        if keeper.len() > most {
-            return;
-        }
-        *self = keeper;
     }
 }

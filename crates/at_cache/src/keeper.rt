@@ -5,7 +5,7 @@ ghost use Rattle.std.specs.Option.{option_map};
 ghost use Rattle.at_model.specs.Run.{Instance, Value};
 ghost use Rattle.at_body.specs.Values.{value_view};
 ghost use Rattle.at_store.specs.Located.{loc_view};
-ghost use Rattle.at_cache.specs.Kept.{AreNamed, Kept, KeepsAll, Puts, AreKept, Answers, LeavesKept, LeavesUntouched, LosesTouched, value_at};
+ghost use Rattle.at_cache.specs.Kept.{AreNamed, Kept, KeepsAll, Puts, AreKept, Answers, LeavesUntouched, LosesTouched, value_at};
 ghost use Rattle.at_cache.specs.Traced.{AreAlike, FlushesTraces, IsNext, Memories, PutsTrace, Settled, SparesAtEdit, SparesOthers, StayTraced};
 
 use at_body::{Inst, Value};
@@ -99,12 +99,4 @@ pub trait Keeper: Drop {
         ensures traces { FlushesTraces (Answers (F.post touched.now)) (memories self.old) (memories self.new) }
         ensures spares { SparesAtEdit (Answers (F.post touched.now)) (crowded self.old) (memories self.old) (memories self.new) }
         ensures fewer { count self.new ≤ count self.old };
-
-    /// Has no more than so many entries in memory, kept or not. Where there are more, those go first that aren't kept; of the others
-    /// those stay as they were that stay.
-    fn fit(&mut self, most: usize)
-        ensures kept { LeavesKept (contents self.old) (contents self.new) }
-        ensures stay { StayTraced (memories self.old) (memories self.new) }
-        ensures within { count self.old ≤ most → self.new ≡ self.old }
-        ensures few { count self.new ≤ most };
 }

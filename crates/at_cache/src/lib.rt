@@ -7,16 +7,13 @@
 //! has, in `Rows`, `Readers` who read which location, `Runs` how one edge tells of many locations, and `Finding` both. `Putting` is one entry
 //! more, `Renewing` and `Theirs` a put over one, and `Slots` single writes; `Flushing` is a flush under way, `Asking` where one begins, and
 //! `Marking` what that takes away; `Settling` is what is kept again, and `Blocking` what stands in its way. `Shedding` is what
-//! leaves memory, `Folding` what becomes of entries that are folded into those that used them, `Rerunning` of edges of runs that tell of such,
-//! and `Joining` of lists that came to be the same.
+//! leaves memory, and what folding entries leaves.
 //!
 //! **Where to begin:** the trait in `keeper.rt`, then `keep_recorded.rt`: `table.rt` holds the entries, `cut.rt` and `standing.rt` how they
 //! stand, `row.rt` and `linking.rt` the edges; `run.rt` has runs, of which one edge tells of many locations: `seating.rt` makes them, and
 //! `stretch.rt` adds to them. `renewing.rt` is `put`, with `putting.rt`; `cutting.rt` is a flush, over what `forgetting.rt` and, by places,
 //! `places.rt` mark; `settling.rt` and `blocking.rt` are what a question keeps again. What isn't kept leaves memory by
-//! `shedding.rt`. Where that isn't enough for a bound, entries are folded (`folding.rt`) by a plan that is chosen (`choosing.rt`, by what is
-//! counted in `weighing.rt`) and tested (`checking.rt`); `lone.rt` tells which lists stay, `rewriting.rt` has their edges, `rerunning.rt` those
-//! of runs, `relinking.rt` the entries, and `joining.rt` makes one list of those of a node that came to have the same edges.
+//! `shedding.rt`. Where that isn't enough for a bound, entries are folded by what `folding.rt` asks for, which is `at_evict`.
 //! `keep_in_turns.rt` is a keeper over another one, of which turns keep values again, too.
 //!
 //! **What it keeps true:** what an entry read is said by the edges of locations alone; each entry is found from those
@@ -27,43 +24,34 @@
 mod again;
 mod attributes;
 mod blocking;
-mod checking;
-mod choosing;
 mod cut;
 mod cutting;
-mod edge;
-mod entry;
-mod facet;
+pub mod edge;
+pub mod entry;
+pub mod facet;
 mod facets;
-mod folding;
+pub mod folding;
 mod forgetting;
-mod joining;
 mod keep_in_turns;
 mod keep_recorded;
 mod keeper;
 mod likely;
-mod linking;
-mod lone;
+pub mod linking;
 mod mark;
 mod noting;
 mod places;
 mod putting;
-mod relinking;
 mod renewing;
-mod rerunning;
-mod rewriting;
-mod room;
-mod row;
-mod run;
+pub mod row;
+pub mod run;
 mod scope;
 mod seating;
 mod settling;
 mod shedding;
-mod slots;
-mod standing;
+pub mod slots;
+pub mod standing;
 mod stretch;
-mod table;
-mod weighing;
+pub mod table;
 
 pub use keep_in_turns::KeepInTurns;
 pub use keep_recorded::KeepRecorded;

@@ -1,7 +1,6 @@
 //! Runs: nodes that were looked at one after the other, as a fold over a list looks at its elements.
 
 ghost use Rattle.std.specs.Prelude.{◌≡◌, ◌≤◌, ◌^◌, [], length};
-ghost use Rattle.at_cache.specs.Rerunning.{is_as_wide};
 ghost use Rattle.at_cache.specs.Runs.{AreSeated, lies};
 
 use crate::edge::Edge;
@@ -58,24 +57,6 @@ impl Seat {
 }
 
 impl Reach {
-    /// The same to another entry.
-    pub fn to(&self, edge: Edge) -> Reach
-        ensures { result ≡ record self.now { edge = edge } }
-    {
-        Reach {
-            edge,
-            behind: self.behind,
-            last: self.last,
-        }
-    }
-
-    /// Whether it tells of the same entry as the other one, over that part of the run or more.
-    pub fn is_as_wide(&self, other: &Reach) -> bool
-        ensures { result ≡ is_as_wide self.now other.now }
-    {
-        self.edge.is_same(&other.edge) && !(other.behind < self.behind) && !(self.last < other.last)
-    }
-
     /// Whether it is over the place.
     pub fn is_over(&self, place: u32) -> bool
         ensures { result ≡ lies self.now.behind self.now.last place }

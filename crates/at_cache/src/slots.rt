@@ -14,8 +14,7 @@ ghost use Rattle.at_cache.specs.Info.{Info, info, is_going, memory_of, table_len
 ghost use Rattle.at_cache.specs.Placed.{IsMoved, IsPlaced, at};
 ghost use Rattle.at_cache.specs.Marking.{HasMark, unmarked};
 ghost use Rattle.at_cache.specs.Putting.{Enters, is_current, reused, users_at};
-ghost use Rattle.at_cache.specs.Slots.{HasWritten, renewed, outdated, with_entry, with_list, with_mark, with_number, with_rest};
-ghost use Rattle.at_cache.specs.Folding.{relinked};
+ghost use Rattle.at_cache.specs.Slots.{HasWritten, renewed, outdated, relinked, with_entry, with_list, with_mark, with_number, with_rest};
 
 use crate::attributes::{has_come, note_attribute};
 use crate::edge::{Edge, Edges, Slot};

@@ -1,6 +1,7 @@
 -- What isn't kept leaves memory.
-use Rattle.std.proofs.Common.{◌≡◌, inl, inr, ℕ, ◌<◌, ◌≤◌, ◌+◌, List, [], ◌∷◌, ◌++◌, ◌||◌, if◌then◌else◌, length, option_map, Bool, true, false, true≢false, Option, None, Some, is_some, IfNone, OnSome, nat_eq, Contains, refl, sym, ap, ◌∙◌, subst, arith}
+use Rattle.std.proofs.Common.{◌≡◌, inl, inr, ℕ, zero, suc, ◌<◌, ◌≤◌, ◌+◌, List, [], ◌∷◌, ◌++◌, ◌||◌, if◌then◌else◌, length, option_map, Bool, true, false, true≢false, Option, None, Some, is_some, IfNone, OnSome, nat_eq, Contains, slice_index_or, refl, sym, ap, ◌∙◌, subst, arith}
 use Rattle.std.specs.List.{list_any}
+use Rattle.slab.specs.Slab.{get}
 use Rattle.std.specs.Option.{option_and_then}
 use Rattle.std.proofs.lemmas.Bool.{cases_eq, cases_lt, eq-eqb, ne_eqb}
 use Rattle.std.proofs.lemmas.Option.{none-some}
@@ -9,21 +10,34 @@ use Rattle.at_cache.specs.declared.cut.Cut.{Cut}
 use Rattle.at_cache.specs.declared.edge.Edge.{Edge}
 use Rattle.at_cache.specs.declared.standing.Standing.{Standing}
 use Rattle.at_cache.specs.declared.table.Table.{Table}
-use Rattle.at_cache.specs.Info.{Info, Memory, memory_of}
+use Rattle.at_cache.specs.Info.{Info, Memory, info, memory_of}
 use Rattle.at_cache.specs.Kept.{KeepsAll}
 use Rattle.at_cache.specs.Recorded.{IsIndexed, edge_to, is_listed}
 use Rattle.at_cache.specs.Shedding.{AreHeld, LosesTraces, Sheds, ShedsAt, Shrinks}
 use Rattle.at_cache.specs.Standings.{AreValued, IsChanged, IsTied, held, instances_in, is_tied, kept_held, nothing, remembered, shown, standing_of, trace_of, untraced}
 use Rattle.at_cache.specs.Traced.{FlushesTraces, IsStill, Memories, StayTraced, Trace}
+use Rattle.at_cache.proofs.Came.{none_by}
 use Rattle.at_cache.proofs.Ending.{on_right}
 use Rattle.at_cache.proofs.Index.{kept_at}
+use Rattle.at_cache.proofs.Moving.{at_none}
 use Rattle.at_cache.proofs.Showing.{same_of}
 use Rattle.at_cache.proofs.of_cut.Again.{held_as, held_from, held_off, held_on, tied_there, used_there}
 use Rattle.at_cache.proofs.of_cut.Alive.{by_holding}
 use Rattle.at_cache.proofs.of_cut.Flushed.{shown_held}
 use Rattle.at_cache.proofs.of_cut.Retraced.{last_slot, names, slot_among, trace_is, traced_in, traced_slot}
 use Rattle.at_cache.proofs.of_cut.Seeing.{past_nothing}
-use Rattle.at_cache.proofs.of_folding.Relinking.{no_entry, slot_within}
+
+-- an entry's slot is one of those of the slab
+slot_within : (t : Table) (k : ℕ) (f : Info) → memory_of t k ≡ Some f → k < length t.places.slots
+slot_within t k f h = elim (cases_lt k (length t.places.slots)) [
+  | inl is ↦ is
+  | inr over ↦ absurd (none-some f (sym (ap (option_map info) (at_none t.entries.entries (get t.places) k (past t.places.slots k over))) ∙ h))
+]
+  where
+    past : {T : Type 0} (xs : List (Option T)) (k : ℕ) → length xs ≤ k → slice_index_or xs k None ≡ None
+    past [] k over = refl
+    past (x ∷ xs) zero over = absurd (omega (arith, over))
+    past (x ∷ xs) (suc k) over = past xs k (omega (arith, over))
 
 module _ (st : List Standing) where
   -- one slot
@@ -32,7 +46,7 @@ module _ (st : List Standing) where
 
   pub sheds_none : (slot : ℕ) (m : Memory) → is_some (m slot) ≡ false → ShedsAt st slot m m
   sheds_none slot m none = record {
-    gone = λ e h. absurd (none-some e (sym (no_entry (m slot) none) ∙ h));
+    gone = λ e h. absurd (none-some e (sym (none_by (m slot) none) ∙ h));
     stays = λ k h. refl;
     from = λ k e h. h;
   }

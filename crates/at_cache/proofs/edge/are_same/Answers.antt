@@ -1,4 +1,4 @@
-use Rattle.at_cache.proofs.of_folding.SameRows.{same_all, same_more}
+use Rattle.at_cache.proofs.SameRows.{same_all, same_more}
 use Rattle.at_cache.proofs.edge.are_same.Goals as goal
 
 pub loop-place-preserved : goal.loop-place-preserved

@@ -1,12 +1,10 @@
 use Rattle.std.proofs.Common.{ap, option_map, refl, sym}
 use Rattle.slab.specs.Slab.{get}
 use Rattle.at_cache.specs.Edges.{edges_in}
-use Rattle.at_cache.specs.Folding.{relinked}
 use Rattle.at_cache.specs.Info.{info, memory_of}
-use Rattle.at_cache.specs.Slots.{with_rest}
-use Rattle.at_cache.proofs.Changing.{still, memory_changed, place_within}
+use Rattle.at_cache.specs.Slots.{relinked, with_rest}
+use Rattle.at_cache.proofs.Changing.{still, memory_changed, place_within, unwritten}
 use Rattle.at_cache.proofs.Moving.{at_none}
-use Rattle.at_cache.proofs.of_folding.Relinking.{unwritten}
 use Rattle.at_cache.proofs.table.Table.relink.Goals as goal
 
 pub write_rest-requires : goal.write_rest-requires

@@ -4,8 +4,7 @@ use Rattle.at_cache.specs.declared.mark.Mark.TheVariants as mark
 use Rattle.at_cache.specs.Info.{memory_of}
 use Rattle.at_cache.specs.Marking.{unmarked}
 use Rattle.at_cache.specs.Slots.{with_mark}
-use Rattle.at_cache.proofs.Changing.{still, free_slot, length_changed, mark_there, memory_changed, place_within}
-use Rattle.at_cache.proofs.of_folding.Relinking.{unwritten}
+use Rattle.at_cache.proofs.Changing.{still, free_slot, length_changed, mark_there, memory_changed, place_within, unwritten}
 use Rattle.at_cache.proofs.table.Table.unmark.Goals as goal
 
 pub exchange_mark-requires : goal.exchange_mark-requires

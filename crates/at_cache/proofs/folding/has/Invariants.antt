@@ -1,6 +1,0 @@
-use Rattle.std.proofs.Common.{◌≡◌, false, nat_eq, take}
-use Rattle.std.specs.List.{list_any}
-use Rattle.at_cache.proofs.folding.has.Given as goal
-
-abbrev pub invariant-loop-other : goal.invariant-loop-other
-invariant-loop-other l = list_any (nat_eq l.slot) (take l.other-index l.slots) ≡ false

@@ -1,9 +1,0 @@
-use Rattle.std.proofs.Common.{◌-◌, length}
-use Rattle.at_cache.specs.Joining.{HaveSame}
-use Rattle.at_cache.proofs.joining.join_all.Given as goal
-
-abbrev pub invariant-loop-place : goal.invariant-loop-place
-invariant-loop-place l = HaveSame l.initial.readers.items l.readers.items
-
-abbrev pub decreases-loop-place : goal.decreases-loop-place
-decreases-loop-place l = length l.readers.items - l.place

@@ -1,7 +1,0 @@
-use Rattle.at_cache.specs.Folding.{AreLone, slots_at}
-use Rattle.at_cache.specs.Info.{memory_of}
-use Rattle.at_cache.specs.Putting.{is_current}
-use Rattle.at_cache.proofs.lone.numbers_of.Given as goal
-
-abbrev pub invariant-loop-slot : goal.invariant-loop-slot
-invariant-loop-slot l = AreLone (is_current (memory_of l.entries)) (slots_at l.plan) l.none l.numbers.items

@@ -1,6 +1,0 @@
-use Rattle.std.proofs.Common.{◌≡◌, ℕ, []}
-use Rattle.at_cache.specs.Folding.{slots_at}
-use Rattle.at_cache.proofs.relinking.empty_lists.Given as goal
-
-abbrev pub invariant-loop : goal.invariant-loop
-invariant-loop l = (r : ℕ) → slots_at l.lists.items r ≡ []

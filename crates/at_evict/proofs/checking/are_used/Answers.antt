@@ -1,0 +1,21 @@
+use Rattle.std.proofs.Common.{◌≡◌, ◌⊎◌, ℕ, Contains, subst, take_all}
+use Rattle.at_cache.specs.Edges.{edges_in}
+use Rattle.at_evict.specs.Folding.{HasUser, slots_at}
+use Rattle.at_cache.specs.Info.{memory_of}
+use Rattle.at_cache.specs.Putting.{is_current}
+use Rattle.at_cache.proofs.Taking.{none_in}
+use Rattle.at_evict.proofs.of_folding.Walking.{all_more}
+use Rattle.at_evict.proofs.checking.are_used.Goals as goal
+
+pub loop-target-init : goal.loop-target-init
+loop-target-init c r h = absurd (none_in r h)
+
+pub loop-target-preserved : goal.loop-target-preserved
+loop-target-preserved c =
+    all_more (λ r. (r ≡ c.args.slot) ⊎ HasUser (is_current (memory_of c.args.entries.now)) (slots_at c.args.plan.now) (edges_in c.args.users.now) r)
+    c.args.targets.now c.loop-target.target-index 0 c.loop-target-test.true c.loop-target.invariant (c.is_used.ensures c.if-not-is_used.false)
+
+pub returns : goal.returns
+returns c t = subst (λ xs. (r : ℕ) → Contains xs r
+    → (r ≡ c.args.slot) ⊎ HasUser (is_current (memory_of c.args.entries.now)) (slots_at c.args.plan.now) (edges_in c.args.users.now) r)
+    (take_all c.loop-target.target-index c.args.targets.now c.loop-target-test.false) c.loop-target.invariant

@@ -1,0 +1,47 @@
+use Rattle.std.proofs.Common.{◌≤◌, ◌^◌, subst, sym}
+use Rattle.slab.specs.Slab.{get}
+use Rattle.at_cache.specs.Finding.{edges_to}
+use Rattle.at_evict.specs.Folding.{AreOrdered, AreTaken, Relinks, listed_at, slots_at}
+use Rattle.at_cache.specs.Info.{memory_of}
+use Rattle.at_evict.proofs.of_folding.Nodes.{noted_still}
+use Rattle.at_evict.proofs.of_folding.Reheld.{folds_held}
+use Rattle.at_evict.proofs.of_folding.Rerun.{all_rerun}
+use Rattle.at_evict.proofs.folding.fold.Goals as goal
+
+pub is_sound-requires : goal.is_sound-requires
+is_sound-requires c = record { lone = c.in_ok-lone.ensures; taken = subst (AreTaken (memory_of c.args.entries.now)) (sym c.as_slice-slots.ensures.value) c.in_ok-taken.ensures.taken }
+
+pub links_of-requires : goal.links_of-requires
+links_of-requires c = record { taken = subst (AreTaken (memory_of c.args.entries.now)) (sym c.as_slice-slots.ensures.value) c.in_ok-taken.ensures.taken }
+
+pub relink-requires : goal.relink-requires
+relink-requires c = record {
+  lone = c.in_ok-lone.ensures;
+  taken = subst (AreTaken (memory_of c.args.entries.now)) (sym c.as_slice-slots.ensures.value) c.in_ok-taken.ensures.taken;
+  ordered = subst (AreOrdered (get c.args.entries.now.places)) (sym c.as_slice-slots.ensures.value) c.in_ok-taken.ensures.ordered;
+}
+
+pub remove_folded-requires : goal.remove_folded-requires
+remove_folded-requires c = record { taken = c.in_ok-relink.ensures.taken }
+
+pub invariant_of-readers-2 : goal.invariant_of-readers-2
+invariant_of-readers-2 c = record {
+  seated = c.rerun.ensures.seated c.args.readers.now.seats.items c.args.readers.now.seated;
+  short = subst (λ n. n ≤ 2 ^ 32) (sym c.rewrite.ensures.len) c.args.readers.now.short;
+  few = c.args.readers.now.few;
+}
+
+pub returns-clause-held : goal.returns-clause-held
+returns-clause-held c standings puts on indexed =
+    let relinked = subst (λ ls. Relinks (slots_at c.args.plan.now) (listed_at (get c.args.entries.now.places) ls) (memory_of c.args.entries.now)
+    (memory_of c.relink.new.entries)) c.as_slice.ensures.value c.in_ok-relink.ensures.relinked in
+    let lists = all_rerun (memory_of c.args.entries.now) (slots_at c.args.plan.now) _ _ c.args.readers.now.seats.items _ _ c.in_ok-rewrite.ensures.lists
+    c.in_ok-rerun.ensures.edges in
+    folds_held standings (edges_to c.args.readers.now) _ puts c.args.entries.now c.remove_folded.new.entries _ (slots_at c.args.plan.now) _ on indexed
+    (c.is_sound.ensures c.if-not-is_sound.false) lists c.in_ok-links.ensures relinked c.remove_folded.ensures
+
+pub returns-clause-noted : goal.returns-clause-noted
+returns-clause-noted c nodes h =
+    let lists = all_rerun (memory_of c.args.entries.now) (slots_at c.args.plan.now) _ _ c.args.readers.now.seats.items _ _ c.in_ok-rewrite.ensures.lists
+    c.in_ok-rerun.ensures.edges in
+    noted_still _ _ (edges_to c.args.readers.now) _ nodes lists h

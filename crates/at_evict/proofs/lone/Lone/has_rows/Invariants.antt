@@ -1,0 +1,9 @@
+use Rattle.std.proofs.Common.{ℕ, Bool, List, take}
+use Rattle.at_cache.specs.declared.edge.Edge.{Edge}
+use Rattle.at_evict.specs.Folding.{AreAlone, AreLone}
+use Rattle.at_cache.specs.Rows.{edges_along}
+use Rattle.at_evict.proofs.lone.Lone.has_rows.Given as goal
+
+abbrev pub invariant-loop-row : goal.invariant-loop-row
+invariant-loop-row l = (there : Edge → Bool) (into : ℕ → List ℕ) → AreLone there into l.self.none l.self.stamps.items
+    → AreAlone there into (edges_along (take l.row-index l.rows))

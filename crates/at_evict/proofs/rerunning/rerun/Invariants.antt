@@ -1,0 +1,14 @@
+use Rattle.std.proofs.Common.{List}
+use Rattle.at_cache.specs.declared.run.Seat.{Seat}
+use Rattle.at_evict.specs.Folding.{slots_at}
+use Rattle.at_cache.specs.Info.{memory_of}
+use Rattle.at_evict.specs.Rerunning.{IsRerun}
+use Rattle.at_cache.specs.Runs.{AreSeated}
+use Rattle.at_evict.proofs.of_folding.Places.{Below}
+use Rattle.at_evict.proofs.rerunning.rerun.Given as goal
+
+abbrev pub invariant-loop-number : goal.invariant-loop-number
+invariant-loop-number l = record {
+  below : Below (IsRerun (memory_of l.entries) (slots_at l.plan)) l.number l.initial.runs.items l.runs.items;
+  seated : (seats : List Seat) → AreSeated seats l.initial.runs.items → AreSeated seats l.runs.items;
+}
