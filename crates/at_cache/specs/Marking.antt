@@ -9,16 +9,11 @@ use Rattle.at_cache.specs.declared.mark.Mark.{Mark}
 use Rattle.at_cache.specs.declared.standing.Standing.{Standing}
 use Rattle.at_cache.specs.Info.{Info, Memory, is_going, memory_of, next_of, table_len}
 use Rattle.at_cache.specs.Flushing.{Begins, Work}
-use Rattle.at_cache.specs.Standings.{held, standing_of, untraced}
+use Rattle.at_cache.specs.Standings.{held, held_among, standing_of, untraced}
 
 -- an entry but for its mark
 abbrev pub unmarked : Info → Info
 unmarked e = record e { going = false; next = None }
-
--- how many of these are kept
-abbrev pub held_among : List Standing → ℕ
-held_among [] = zero
-held_among (s ∷ ss) = if s.holds then suc (held_among ss) else held_among ss
 
 abbrev pub held_count : Cut → ℕ
 held_count c = held_among c.standings.items

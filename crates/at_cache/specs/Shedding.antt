@@ -6,7 +6,6 @@ use Rattle.at_cache.specs.declared.edge.Edge.{Edge}
 use Rattle.at_cache.specs.declared.standing.Standing.{Standing}
 use Rattle.at_cache.specs.declared.table.Table.{Table}
 use Rattle.at_cache.specs.Info.{Info, Memory, memory_of, table_len}
-use Rattle.at_cache.specs.Marking.{held_among}
 use Rattle.at_cache.specs.Recorded.{IsIndexed}
 use Rattle.at_cache.specs.Standings.{held, kept_held, remembered, standing_of, untraced}
 use Rattle.at_cache.specs.Kept.{Entries, LeavesKept}
@@ -26,14 +25,6 @@ pub record ShedsAt (standings : List Standing) (slot : ℕ) (old new : Memory) :
 pub record Sheds (standings : List Standing) (old new : Memory) : Type 0 where
   pub stays : (k : ℕ) → (standing_of standings k).holds ≡ true → new k ≡ old k
   pub only : AreHeld standings new
-
--- how many entries may be in memory where so many are kept: an eighth of these beside them, and some
-abbrev pub most_beside : ℕ → ℕ
-most_beside kept = kept + kept / 8 + 2048
-
--- whether more are in memory: an edit lets go of what isn't kept
-abbrev pub is_crowded : Cut → Bool
-is_crowded c = nat_lt (most_beside (held_among c.standings.items)) (table_len c.entries)
 
 -- no entry is traced, and each stands as it did but for that
 abbrev pub LosesTraces : (old new : List Standing) → Type 0

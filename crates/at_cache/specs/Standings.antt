@@ -1,5 +1,5 @@
 -- What entries that stay in memory show, by how they stand: what is kept, and what can be kept again.
-use Rattle.std.specs.Prelude.{◌≡◌, ◌<◌, ◌||◌, ℕ, List, [], ◌∷◌, Bool, true, false, Option, None, Some, is_some, get_or, nat_eq, option_map, if◌then◌else◌}
+use Rattle.std.specs.Prelude.{◌≡◌, ◌<◌, ◌||◌, ◌+◌, ◌/◌, ℕ, zero, suc, List, [], ◌∷◌, Bool, true, false, Option, None, Some, is_some, get_or, nat_eq, nat_lt, option_map, if◌then◌else◌}
 use Rattle.std.specs.List.{flat_map, list_any}
 use Rattle.std.specs.Map.{lookup}
 use Rattle.std.specs.Option.{option_and_then}
@@ -11,7 +11,7 @@ use Rattle.at_cache.specs.declared.edge.Edge.{Edge}
 use Rattle.at_cache.specs.declared.entry.Entry.{Entry}
 use Rattle.at_cache.specs.declared.standing.Standing.{Standing}
 use Rattle.at_cache.specs.declared.table.Table.{Table}
-use Rattle.at_cache.specs.Info.{Info, Memory, memory_of}
+use Rattle.at_cache.specs.Info.{Info, Memory, memory_of, table_len}
 use Rattle.at_cache.specs.Kept.{Entries, Kept, value_at}
 use Rattle.at_cache.specs.Recorded.{covers, edge_to, is_listed}
 use Rattle.at_cache.specs.Traced.{Memories, Trace}
@@ -83,12 +83,24 @@ trace_at lists standings m s = option_and_then (λ e. if (standing_of standings 
 abbrev pub last_of : Option Entry → Option (Value ℕ)
 last_of o = option_and_then (λ e. option_map value_view e.value) o
 
--- what is remembered: the trace of an instance's entry, and its value
+-- how many of these are kept
+abbrev pub held_among : List Standing → ℕ
+held_among [] = zero
+held_among (s ∷ ss) = if s.holds then suc (held_among ss) else held_among ss
+
+-- how many entries may be in memory where so many are kept: an eighth of these beside them, and some
+abbrev pub most_beside : ℕ → ℕ
+most_beside kept = kept + kept / 8 + 2048
+
+-- what is remembered: the trace of an instance's entry, and its value; and where more is in memory than may be, an edit lets go of what
+-- isn't kept
 abbrev pub remembered : (lists : Location ℕ → List Edge) → Table → List Standing → Memories
 remembered lists t standings = record {
   traced = λ i. option_and_then (λ e. trace_at lists standings (memory_of t) e.slot) (lookup (same_instance i) t.entries.entries);
   last = λ i. last_of (lookup (same_instance i) t.entries.entries);
   in_turns = false;
+  count = table_len t;
+  crowded = nat_lt (most_beside (held_among standings)) (table_len t);
 }
 
 -- whether an entry is in the slot p, and has an edge to the one in s

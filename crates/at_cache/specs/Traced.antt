@@ -12,12 +12,14 @@ pub record Trace : Type 0 where
   pub reads : Location ℕ → Bool
   pub uses : List (Instance ℕ)
 
--- what can be kept again, each with its trace, and the last value that an instance was put with; and whether turns of posted questions keep
--- again what can be, too
+-- what can be kept again, each with its trace, and the last value that an instance was put with; whether turns of posted questions keep
+-- again what can be, too; and how many entries are in memory, kept or not, and whether these are much more than what is kept
 pub record Memories : Type 0 where
   pub traced : Instance ℕ → Option Trace
   pub last : Instance ℕ → Option (Value ℕ)
   pub in_turns : Bool
+  pub count : ℕ
+  pub crowded : Bool
 
 -- nothing is traced
 abbrev pub TracesNothing : Memories → Type 0

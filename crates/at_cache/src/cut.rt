@@ -7,9 +7,9 @@ ghost use Rattle.at_body.specs.Same.{same_instance};
 ghost use Rattle.at_cache.specs.declared.edge.Edge.{Edge};
 ghost use Rattle.at_cache.specs.Flushing.{is_fresh};
 ghost use Rattle.at_cache.specs.Info.{Info, memory_of};
-ghost use Rattle.at_cache.specs.Marking.{held_among, held_in};
+ghost use Rattle.at_cache.specs.Marking.{held_in};
 ghost use Rattle.at_cache.specs.Putting.{is_current};
-ghost use Rattle.at_cache.specs.Standings.{IsChanged, alive_in, held_of, remembered, standing_of, unheld, untraced};
+ghost use Rattle.at_cache.specs.Standings.{IsChanged, alive_in, held_among, held_of, remembered, standing_of, unheld, untraced};
 
 use crate::again::slot_by;
 use crate::edge::{Edge, Slot};

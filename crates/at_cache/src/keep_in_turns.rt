@@ -20,10 +20,6 @@ impl<K: Keeper> Keeper for KeepInTurns<K> {
 
     ghost memories = { λ k. record (K.memories k.keeper) { in_turns = true } };
 
-    ghost crowded = { λ k. K.crowded k.keeper };
-
-    ghost count = { λ k. K.count k.keeper };
-
     ghost always_in_turns = { λ k l. refl };
 
     ghost kept_last = { λ k i v kept. K.kept_last k.keeper i v kept };

@@ -7,9 +7,8 @@ ghost use Rattle.at_cache.specs.Info.{memory_of, table_len};
 ghost use Rattle.at_cache.specs.Kept.{Answers, AreNamed, KeepsAll, LeavesUntouched, LosesTouched};
 ghost use Rattle.at_cache.specs.Finding.{edges_to};
 ghost use Rattle.at_cache.specs.Recorded.{IsIndexed};
-ghost use Rattle.at_cache.specs.Shedding.{AreHeld, Shrinks, is_crowded, kept_cut, most_beside as most, remembered_cut};
-ghost use Rattle.at_cache.specs.Marking.{held_among};
-ghost use Rattle.at_cache.specs.Standings.{AreValued, IsTied, held, kept_held, last_is, remembered};
+ghost use Rattle.at_cache.specs.Shedding.{AreHeld, Shrinks, kept_cut, remembered_cut};
+ghost use Rattle.at_cache.specs.Standings.{AreValued, IsTied, held, held_among, kept_held, last_is, most_beside as most, remembered};
 ghost use Rattle.at_cache.specs.Theirs.{HasSlot};
 ghost use Rattle.at_cache.specs.Traced.{FlushesTraces, SparesAtEdit, StayTraced, TracesKept, TracesNothing};
 
@@ -150,7 +149,7 @@ impl KeepRecorded {
         ensures kept { KeepsAll (kept_cut (edges_to self.old.readers) self.old.cut self.old.puts)
             (kept_cut (edges_to self.new.readers) self.new.cut self.new.puts) }
         ensures stay { StayTraced (remembered_cut (edges_to self.old.readers) self.old.cut) (remembered_cut (edges_to self.new.readers) self.new.cut) }
-        ensures spares { is_crowded self.old.cut ≡ false → remembered_cut (edges_to self.new.readers) self.new.cut
+        ensures spares { (remembered_cut (edges_to self.old.readers) self.old.cut).crowded ≡ false → remembered_cut (edges_to self.new.readers) self.new.cut
             ≡ remembered_cut (edges_to self.old.readers) self.old.cut }
         ensures fewer { table_len self.new.cut.entries ≤ table_len self.old.cut.entries }
     {
@@ -236,10 +235,6 @@ impl Keeper for KeepRecorded {
     ghost contents = { λ k. kept_held (edges_to k.readers) k.cut.entries k.cut.standings.items k.puts };
 
     ghost memories = { λ k. remembered (edges_to k.readers) k.cut.entries k.cut.standings.items };
-
-    ghost crowded = { λ k. is_crowded k.cut };
-
-    ghost count = { λ k. table_len k.cut.entries };
 
     ghost always_in_turns = { λ k l. refl };
 
@@ -351,8 +346,8 @@ impl Keeper for KeepRecorded {
             (kept_cut (edges_to self.new.readers) self.new.cut self.new.puts) }
         ensures traces { FlushesTraces (Answers (F.post touched.now)) (remembered_cut (edges_to self.old.readers) self.old.cut)
             (remembered_cut (edges_to self.new.readers) self.new.cut) }
-        ensures spares { SparesAtEdit (Answers (F.post touched.now)) (is_crowded self.old.cut) (remembered_cut (edges_to self.old.readers) self.old.cut)
-            (remembered_cut (edges_to self.new.readers) self.new.cut) }
+        ensures spares { SparesAtEdit (Answers (F.post touched.now)) (remembered_cut (edges_to self.old.readers) self.old.cut).crowded
+            (remembered_cut (edges_to self.old.readers) self.old.cut) (remembered_cut (edges_to self.new.readers) self.new.cut) }
         ensures fewer { table_len self.new.cut.entries ≤ table_len self.old.cut.entries }
     {
         self.let_go();

@@ -1,6 +1,6 @@
 //! What every keeper does.
 
-ghost use Rattle.std.specs.Prelude.{◌≡◌, ◌≤◌, ◌+◌, ◌-◌, ◌^◌, ℕ, Option, None, Some, Bool, IfSome, OnErr, OnOk, false, is_some, map, min};
+ghost use Rattle.std.specs.Prelude.{◌≡◌, ◌≤◌, ◌+◌, ◌-◌, ◌^◌, ℕ, Option, None, Some, IfSome, OnErr, OnOk, false, is_some, map, min};
 ghost use Rattle.std.specs.Option.{option_map};
 ghost use Rattle.at_model.specs.Run.{Instance, Value};
 ghost use Rattle.at_body.specs.Values.{value_view};
@@ -27,14 +27,8 @@ pub trait Keeper: Drop {
     /// The entries, as a finite map.
     ghost contents: { Self → Instance ℕ → Option Kept };
 
-    /// What it remembers beside them.
+    /// What it remembers beside them, and how much is in memory.
     ghost memories: { Self → Memories };
-
-    /// Whether much more is in memory than is kept: then an edit may let go of what isn't.
-    ghost crowded: { Self → Bool };
-
-    /// How many entries are in memory, kept or not.
-    ghost count: { Self → ℕ };
 
     /// Whether turns keep again what can be kept so is the same at any time.
     ghost always_in_turns: { (k l : Self) → (memories l).in_turns ≡ (memories k).in_turns };
@@ -97,6 +91,6 @@ pub trait Keeper: Drop {
         ensures leaves { LeavesUntouched (Answers (F.post touched.now)) (contents self.old) (contents self.new) }
         ensures loses { LosesTouched (Answers (F.post touched.now)) (contents self.old) (contents self.new) }
         ensures traces { FlushesTraces (Answers (F.post touched.now)) (memories self.old) (memories self.new) }
-        ensures spares { SparesAtEdit (Answers (F.post touched.now)) (crowded self.old) (memories self.old) (memories self.new) }
-        ensures fewer { count self.new ≤ count self.old };
+        ensures spares { SparesAtEdit (Answers (F.post touched.now)) (memories self.old).crowded (memories self.old) (memories self.new) }
+        ensures fewer { (memories self.new).count ≤ (memories self.old).count };
 }

@@ -1,5 +1,5 @@
 -- What a question is answered, and what becomes of what is kept.
-use Rattle.std.specs.Prelude.{◌≡◌, ◌||◌, ◌+◌, ◌^◌, ℕ, Bool, false, [], Option, Some, None, IfNone, IfOk, IfSome, IsSome, OnErr, Result, nat_lt}
+use Rattle.std.specs.Prelude.{◌≡◌, ◌+◌, ◌^◌, ℕ, Bool, false, [], Option, Some, None, IfNone, IfOk, IfSome, IsSome, OnErr, Result}
 use Rattle.std.specs.Option.{option_map}
 use Rattle.at_model.specs.Run.{Contents, Instance, Location}
 use Rattle.at_model.specs.Rules.{Rules}
@@ -15,7 +15,7 @@ use Rattle.at_cache.specs.Traced.{FlushesTraces, Memories, SparesAtEdit, StayTra
 use Rattle.at_demand.specs.declared.answer.Answer.{Answer as AnswerCode}
 use Rattle.at_demand.specs.declared.question.Question.{Question}
 use Rattle.at_demand.specs.declared.trials.Trials.{Trials}
-use Rattle.at_demand.specs.State.{State}
+use Rattle.at_demand.specs.State.{State, is_over, lets_go}
 use Rattle.at_demand.specs.Went.{IsAsked, Went}
 use Rattle.at_evaluate.specs.Valued.{equations, meaning, kept_values, ArePlain, IsKept}
 use Rattle.at_demand.specs.Known.{answer_view}
@@ -169,18 +169,13 @@ pub record TracesNothing (Turns : Type 0) (old new : State) : Type 0 where
   pub traces : StayTraced old.memories new.memories
   pub went : Went old [] new
 
--- whether more entries are in memory than a bound allows
-abbrev pub is_over : (most : Option ℕ) → (count : ℕ) → Bool
-is_over None count = false
-is_over (Some most) count = nat_lt most count
-
 -- An edit leaves all that it doesn't touch, and loses the rest alone, unless more was in memory than a bound allows. It takes traces for which
 -- what it touches was looked at, and others where more was in memory than that, or much more than is kept. The work stays as it was, and
 -- nothing is made.
-pub record Forgets (says : Location ℕ → Bool → Type 0) (over crowded : Bool) (old new : State) : Type 0 where
+pub record Forgets (says : Location ℕ → Bool → Type 0) (most : Option ℕ) (old new : State) : Type 0 where
   pub leaves : LeavesUntouched says old.entries new.entries
-  pub loses : over ≡ false → LosesTouched says old.entries new.entries
+  pub loses : is_over most old.memories.count ≡ false → LosesTouched says old.entries new.entries
   pub traces : FlushesTraces says old.memories new.memories
-  pub spares : SparesAtEdit says (over || crowded) old.memories new.memories
+  pub spares : SparesAtEdit says (lets_go most old.memories) old.memories new.memories
   pub work : new.work ≡ old.work
   pub made : new.made ≡ old.made

@@ -11,8 +11,8 @@ ghost use Rattle.at_demand.specs.Answerable.{CanBeAsked, CanBeKept, CanBeKeptLaz
 ghost use Rattle.at_evaluate.specs.Valued.{meaning};
 ghost use Rattle.at_evaluate.specs.Made.{Makes};
 ghost use Rattle.at_demand.specs.Keeping.{IsKeptWhereLazy, IsPlaced, IsPut};
-ghost use Rattle.at_demand.specs.Answered.{Forgets, IsAnswered, is_over};
-ghost use Rattle.at_demand.specs.State.{state_by};
+ghost use Rattle.at_demand.specs.Answered.{Forgets, IsAnswered};
+ghost use Rattle.at_demand.specs.State.{is_over, state_by};
 ghost use Rattle.at_evaluate.specs.Led.{AreLed};
 ghost use Rattle.at_evaluate.specs.Sparing.{AreSpare, HasWorthy};
 ghost use Rattle.at_evaluate.specs.Inner.{Gains};
@@ -230,10 +230,10 @@ impl<K: Keeper> Demand<K> {
     )
         requires callable { F.IsAlwaysCallable touched.now }
         requires named { AreNamed places.now (F.post touched.now) }
-        ensures forgets { Forgets (Says (F.post touched.now)) (is_over most (K.count self.old.keeper)) (K.crowded self.old.keeper)
+        ensures forgets { Forgets (Says (F.post touched.now)) most
             (state_by K.contents K.memories self.old.keeper self.old.work self.old.made)
             (state_by K.contents K.memories self.new.keeper self.new.work self.new.made) }
-        ensures bound { IfSome most (λ m. K.count self.new.keeper ≤ m) }
+        ensures bound { IfSome most (λ m. (K.memories self.new.keeper).count ≤ m) }
     {
         fit(&mut self.keeper, most);
         self.keeper.flush(places, touched);
@@ -340,8 +340,8 @@ impl<K: Keeper> Demand<K> {
 fn fit<K: Keeper>(keeper: &mut K, most: Option<usize>)
     ensures kept { LeavesKept (K.contents keeper.old) (K.contents keeper.new) }
     ensures stay { StayTraced (K.memories keeper.old) (K.memories keeper.new) }
-    ensures within { is_over most (K.count keeper.old) ≡ false → keeper.new ≡ keeper.old }
-    ensures few { IfSome most (λ m. K.count keeper.new ≤ m) }
+    ensures within { is_over most (K.memories keeper.old).count ≡ false → keeper.new ≡ keeper.old }
+    ensures few { IfSome most (λ m. (K.memories keeper.new).count ≤ m) }
 {
     match most {
         Some(most) => keeper.fit(most),

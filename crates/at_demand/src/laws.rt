@@ -29,7 +29,7 @@ ghost use Rattle.at_demand.specs.Touched.{Touches};
 ghost use Rattle.at_evaluate.specs.Traces.{AreJustified, AreOfTree, IsRemembered};
 ghost use Rattle.at_cache.specs.Traced.{FlushesTraces, Memories, StayTraced, Trace};
 ghost use Rattle.at_demand.specs.State.{State as Now};
-ghost use Rattle.at_demand.specs.Went.{HasCause, IsAsked, Went, asked};
+ghost use Rattle.at_demand.specs.Went.{EditMade, HasCause, IsAsked, Went, asked};
 
 /// Over an edit that is done, what is kept stays right where it stands for no location that the edit touches.
 pub fn what_is_kept_stays_right()
@@ -86,10 +86,10 @@ pub fn what_stays_traced_is_right()
 {}
 
 /// What could be kept again is made by a question only if, since then, an edit touched what was looked at for its value, or something that was
-/// used for it was put with another value, or a turn put it itself, or an edit let go of it, whatever it touched: where an edit may do that,
-/// `Forgets` says.
+/// used for it was put with another value, or a turn put it itself; or an edit let go of it, whatever it touched, where more was in memory than
+/// its bound allows or much more than was kept.
 pub fn what_is_made_again_has_a_cause()
-    ensures { (old new later : Now) (es : List (Shown × Edit)) (w : Went old es new) (x : IsAsked new later)
+    ensures { (old new later : Now) (es : List EditMade) (w : Went old es new) (x : IsAsked new later)
         → (i : Instance ℕ) (t : Trace) → old.memories.traced i ≡ Some t → Among i x.makes.made → HasCause old i t es later (asked new later es w x) }
 {}
 

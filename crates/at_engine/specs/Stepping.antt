@@ -1,9 +1,8 @@
 -- What an engine has gone through: lines that were served, and turns that were given.
 use Rattle.std.specs.Prelude.{ℕ, Bool, List, [], ◌++◌, Option}
-use Rattle.at_model.specs.Edits.{Edit}
-use Rattle.at_store.specs.Shown.{Shown}
 use Rattle.at_cache.specs.Kept.{Entries}
 use Rattle.at_cache.specs.Traced.{Memories}
+use Rattle.at_demand.specs.Went.{EditMade}
 use Rattle.at_engine.specs.Serving.{IsServed}
 use Rattle.at_engine.specs.Turned.{Spends}
 use Rattle.at_engine.specs.declared.engine.Engine.{Engine}
@@ -18,9 +17,9 @@ pub data GoesBy {K : Type 0} (entries : K → Entries) (memories : K → Memorie
   by_turns : (mid new : Engine K) (limit : Option ℕ) (before after : List ℕ) (spent : Spent) → GoesBy entries memories old mid
       → Spends entries memories limit mid new before after spent → GoesBy entries memories old new
 
--- the edits that these lines made, the last one first, each with the store whose tree it was made of
+-- the edits that these lines made, the last one first
 abbrev pub edits_in : {K : Type 0} → (entries : K → Entries) → (memories : K → Memories) → (old new : Engine K) → GoesBy entries memories old new
-    → List (Shown × Edit)
+    → List EditMade
 edits_in entries memories old _ nowhere = []
 edits_in entries memories old _ (by_line mid new line before after wants by served) = served.went.0 ++ edits_in entries memories old mid by
 edits_in entries memories old _ (by_turns mid new limit before after spent by spends) = edits_in entries memories old mid by

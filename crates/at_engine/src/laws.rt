@@ -43,7 +43,7 @@ pub fn where_none_is_circular()
 
 /// What could be kept again before lines and turns is made by a question behind them only if an edit that one of these lines made touched what
 /// was looked at for its value, of the tree as it was then; or something that was used for it was put with another value, or a turn put it
-/// itself; or one of these edits let go of it.
+/// itself; or one of these edits let go of it, where more was in memory than the engine's bound allowed, or much more than was kept.
 pub fn what_is_made_behind_lines_has_a_cause<K: Keeper>()
     ensures { (old new : Engine K) (by : GoesBy K.contents K.memories old new) (later : State)
         (x : IsAsked (questions_of K.contents K.memories new) later) (i : Instance ℕ) (t : Trace)

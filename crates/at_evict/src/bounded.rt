@@ -21,8 +21,8 @@ pub trait Bounded: Keeper {
     fn fit(&mut self, most: usize)
         ensures kept { LeavesKept (Self.contents self.old) (Self.contents self.new) }
         ensures stay { StayTraced (Self.memories self.old) (Self.memories self.new) }
-        ensures within { Self.count self.old ≤ most → self.new ≡ self.old }
-        ensures few { Self.count self.new ≤ most };
+        ensures within { (Self.memories self.old).count ≤ most → self.new ≡ self.old }
+        ensures few { (Self.memories self.new).count ≤ most };
 }
 
 // By the plan that is chosen, so that about so many are left.

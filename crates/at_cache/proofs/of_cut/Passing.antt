@@ -16,9 +16,9 @@ use Rattle.at_cache.specs.declared.standing.Standing.{Standing}
 use Rattle.at_cache.specs.declared.table.Table.{Table}
 use Rattle.at_cache.specs.Flushing.{Begins, IsIdle, Work, dooms, first_after}
 use Rattle.at_cache.specs.Info.{Info, Memory, memory_of, table_len}
-use Rattle.at_cache.specs.Marking.{Aside, GoesOver, HasMark, IsQuiet, Passes, TakesAway, Untraces, aside_cut, beside, held_among, held_in, of_trace, of_value, stamps_of, unmarked}
+use Rattle.at_cache.specs.Marking.{Aside, GoesOver, HasMark, IsQuiet, Passes, TakesAway, Untraces, aside_cut, beside, held_in, of_trace, of_value, stamps_of, unmarked}
 use Rattle.at_cache.specs.Putting.{is_current, reused, users_at, with_users}
-use Rattle.at_cache.specs.Standings.{IsChanged, held, shape, shown, standing_of, unheld, untraced}
+use Rattle.at_cache.specs.Standings.{IsChanged, held, held_among, shape, shown, standing_of, unheld, untraced}
 use Rattle.at_cache.proofs.Ending.{none_goes}
 use Rattle.at_cache.proofs.Dooming.{dooming, head_of}
 use Rattle.at_cache.proofs.of_cut.Again.{held_from, held_off, held_on}

@@ -6,8 +6,8 @@ use Rattle.at_cache.specs.declared.edge.Edge.{Edge}
 use Rattle.at_cache.specs.declared.standing.Standing.{Standing}
 use Rattle.at_cache.specs.Flushing.{doomed, is_fresh}
 use Rattle.at_cache.specs.Info.{Info, Memory}
-use Rattle.at_cache.specs.Marking.{beside, held_among, unmarked}
-use Rattle.at_cache.specs.Standings.{IsChanged, held, nothing, shape, shown, standing_of}
+use Rattle.at_cache.specs.Marking.{beside, unmarked}
+use Rattle.at_cache.specs.Standings.{IsChanged, held, held_among, nothing, shape, shown, standing_of}
 
 -- what is kept is there
 pub seen_there : (s : Standing) (o : Option Info) → IsSome (option_and_then (shown s) o) → IsSome o

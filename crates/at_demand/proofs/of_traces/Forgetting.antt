@@ -5,7 +5,8 @@ use Rattle.std.proofs.lemmas.Bool.{ltb-false}
 use Rattle.at_model.specs.Run.{Instance, Location}
 use Rattle.at_cache.specs.Kept.{Entries, LeavesKept, LeavesUntouched, LosesTouched}
 use Rattle.at_cache.specs.Traced.{FlushesTraces, IsStill, Memories, SparesAtEdit, StayTraced, Trace}
-use Rattle.at_demand.specs.Answered.{Forgets, is_over}
+use Rattle.at_demand.specs.Answered.{Forgets}
+use Rattle.at_demand.specs.State.{is_over}
 
 -- where a bound allows as much as there is
 pub within : (m : Option ℕ) (most count : ℕ) → m ≡ Some most → is_over m count ≡ false → count ≤ most
@@ -19,9 +20,9 @@ still_on m n o i t b a = record {
 }
 
 -- the entries and memories go from those that were there to those that are left by the bound, and from them to the new ones
-module _ (says : Location ℕ → Bool → Type 0) (crowded late : Bool) (old mid new : Entries) (m n o : Memories)
+module _ (says : Location ℕ → Bool → Type 0) (old mid new : Entries) (m n o : Memories)
     (kept : LeavesKept old mid) (stay : StayTraced m n) (leaves : LeavesUntouched says mid new)
-    (loses : LosesTouched says mid new) (traces : FlushesTraces says n o) (spares : SparesAtEdit says late n o) where
+    (loses : LosesTouched says mid new) (traces : FlushesTraces says n o) (spares : SparesAtEdit says n.crowded n o) where
   -- where more was in memory, a trace is there still, or gone
   spares_over : SparesAtEdit says true m o
   spares_over i t was = by (o.traced i) refl
@@ -35,18 +36,17 @@ module _ (says : Location ℕ → Bool → Type 0) (crowded late : Bool) (old mi
           inl (is ∙ sym first.traced ∙ was)
 
   -- where no more was, nothing changes before
-  spares_within : (over : Bool) → (over ≡ false → n ≡ m) → (over ≡ false → late ≡ crowded) → SparesAtEdit says (over || crowded) m o
-  spares_within true same alike = spares_over
-  spares_within false same alike =
-      subst (λ z. SparesAtEdit says crowded z o) (same refl) (subst (λ b. SparesAtEdit says b n o) (alike refl) spares)
+  spares_within : (over : Bool) → (over ≡ false → n ≡ m) → SparesAtEdit says (over || m.crowded) m o
+  spares_within true same = spares_over
+  spares_within false same = subst (λ z. SparesAtEdit says z.crowded z o) (same refl) spares
 
-  pub forgets : (over : Bool) (w k : ℕ) → (over ≡ false → mid ≡ old) → (over ≡ false → n ≡ m) → (over ≡ false → late ≡ crowded) →
-      Forgets says over crowded (record { entries = old; memories = m; work = w; made = k }) (record { entries = new; memories = o; work = w; made = k })
-  forgets over w k all same alike = record {
+  pub forgets : (most : Option ℕ) (w k : ℕ) → (is_over most m.count ≡ false → mid ≡ old) → (is_over most m.count ≡ false → n ≡ m)
+      → Forgets says most (record { entries = old; memories = m; work = w; made = k }) (record { entries = new; memories = o; work = w; made = k })
+  forgets most w k all same = record {
     leaves = λ i e is. let (there, free) = leaves i e is in (kept i e there, free);
     loses = λ off. subst (λ z. LosesTouched says z new) (all off) loses;
     traces = λ i t is. let (still, free) = traces i t is in (still_on m n o i t still (stay i t still.traced), free);
-    spares = spares_within over same alike;
+    spares = spares_within (is_over most m.count) same;
     work = refl;
     made = refl;
   }

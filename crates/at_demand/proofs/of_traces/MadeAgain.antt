@@ -1,12 +1,11 @@
 -- What could be kept again is made for a cause alone.
-use Rattle.std.proofs.Common.{◌≡◌, ◌⊎◌, inl, inr, ℕ, Bool, List, ◌∷◌, Some}
-use Rattle.at_model.specs.Edits.{Edit}
+use Rattle.std.proofs.Common.{◌≡◌, ◌⊎◌, inl, inr, ℕ, List, ◌∷◌, Some}
 use Rattle.at_model.specs.Run.{Instance}
 use Rattle.at_model.specs.Meaning.{Among}
-use Rattle.at_store.specs.Shown.{Shown}
 use Rattle.at_cache.specs.Traced.{Trace}
 use Rattle.at_demand.specs.State.{State}
 use Rattle.at_demand.specs.Went.{
+  EditMade,
   HasCause,
   IsAsked,
   IsEdited,
@@ -31,7 +30,7 @@ module _ (old : State) (i : Instance ℕ) (t : Trace) (before : old.memories.tra
   abbrev IsThere : State → Type 0
   IsThere n = n.memories.traced i ≡ Some t
 
-  at_question : (n o : State) (es : List (Shown × Edit)) (w : Went old es n) (x : IsAsked n o) → IsThere n ⊎ HasCause old i t es n w
+  at_question : (n o : State) (es : List EditMade) (w : Went old es n) (x : IsAsked n o) → IsThere n ⊎ HasCause old i t es n w
       → IsThere o ⊎ HasCause old i t es o (asked n o es w x)
   at_question n o es w x (inl there) = elim (x.makes.spares i t there) [
     | inl still ↦ inl still
@@ -39,7 +38,7 @@ module _ (old : State) (i : Instance ℕ) (t : Trace) (before : old.memories.tra
   ]
   at_question n o es w x (inr cause) = inr (before_question n o es w x cause)
 
-  at_turns : (n o : State) (es : List (Shown × Edit)) (w : Went old es n) (x : IsTurned n o) → IsThere n ⊎ HasCause old i t es n w
+  at_turns : (n o : State) (es : List EditMade) (w : Went old es n) (x : IsTurned n o) → IsThere n ⊎ HasCause old i t es n w
       → IsThere o ⊎ HasCause old i t es o (turned n o es w x)
   at_turns n o es w x (inl there) = elim (spared_in_turns i t n.memories o.memories x.puts there) [
     | inl still ↦ inl still
@@ -47,26 +46,26 @@ module _ (old : State) (i : Instance ℕ) (t : Trace) (before : old.memories.tra
   ]
   at_turns n o es w x (inr cause) = inr (before_turns n o es w x cause)
 
-  at_edit : (n o : State) (es : List (Shown × Edit)) (s : Shown) (e : Edit) (b : Bool) (w : Went old es n) (h : IsEdited s e b n o)
-      → IsThere n ⊎ HasCause old i t es n w → IsThere o ⊎ HasCause old i t ((s, e) ∷ es) o (edited n o es s e b w h)
-  at_edit n o es s e b w h (inl there) = elim (h.spares i t there) [
+  at_edit : (n o : State) (es : List EditMade) (e : EditMade) (w : Went old es n) (h : IsEdited e n o)
+      → IsThere n ⊎ HasCause old i t es n w → IsThere o ⊎ HasCause old i t (e ∷ es) o (edited n o es e w h)
+  at_edit n o es e w h (inl there) = elim (h.spares i t there) [
     | inl still ↦ inl still
     | inr gone ↦ elim gone [
-      | inl at ↦ (let (l, looked, said) = at in inr (touched n o es s e b w h l looked said))
-      | inr off ↦ inr (let_go n o es s e b w h there off.0 off.1)
+      | inl at ↦ (let (l, looked, said) = at in inr (touched n o es e w h l looked said))
+      | inr off ↦ inr (let_go n o es e w h there off.0 off.1)
     ]
   ]
-  at_edit n o es s e b w h (inr cause) = inr (before_edit n o es s e b w h cause)
+  at_edit n o es e w h (inr cause) = inr (before_edit n o es e w h cause)
 
   -- it still can be, or there was a cause
-  pub spared_over : (es : List (Shown × Edit)) (new : State) (w : Went old es new) → IsThere new ⊎ HasCause old i t es new w
+  pub spared_over : (es : List EditMade) (new : State) (w : Went old es new) → IsThere new ⊎ HasCause old i t es new w
   spared_over _ _ begun = inl before
   spared_over _ _ (asked n o es w x) = at_question n o es w x (spared_over es n w)
   spared_over _ _ (turned n o es w x) = at_turns n o es w x (spared_over es n w)
-  spared_over _ _ (edited n o es s e b w h) = at_edit n o es s e b w h (spared_over es n w)
+  spared_over _ _ (edited n o es e w h) = at_edit n o es e w h (spared_over es n w)
 
   -- a question that makes it has a cause itself, or there was one
-  pub made_for_a_cause : (new later : State) (es : List (Shown × Edit)) (w : Went old es new) (x : IsAsked new later) → Among i x.makes.made
+  pub made_for_a_cause : (new later : State) (es : List EditMade) (w : Went old es new) (x : IsAsked new later) → Among i x.makes.made
       → HasCause old i t es later (asked new later es w x)
   made_for_a_cause new later es w x among = by (spared_over es new w)
     where

@@ -2,9 +2,7 @@
 use Rattle.std.proofs.Common.{◌≡◌, ◌≤◌, ◌<◌, ◌+◌, ◌-◌, ◌^◌, ◌⊎◌, min, inl, inr, ℕ, Bool, true, false, List, [], ◌++◌, length, Option, Some, refl, arith, subst, sym, ◌∙◌, ap, true≢false}
 use Rattle.std.specs.Prelude.{nat_lt}
 use Rattle.std.proofs.lemmas.Bool.{ltb-false, ltb-true}
-use Rattle.at_model.specs.Edits.{Edit}
 use Rattle.at_model.specs.Run.{Instance, Location, Value}
-use Rattle.at_store.specs.Shown.{Shown}
 use Rattle.at_body.specs.Same.{same_instance}
 use Rattle.at_cache.specs.Kept.{Entries}
 use Rattle.at_cache.specs.Traced.{Memories, PutsTrace, SparesOthers, StayTraced, Trace}
@@ -13,7 +11,7 @@ use Rattle.at_demand.specs.InTurns.{CountsKept, PutsInTurns, WasPut, another, ea
 use Rattle.at_evaluate.specs.Sparing.{Counts}
 use Rattle.at_demand.specs.Again.{HasKeptAgain}
 use Rattle.at_demand.specs.State.{State}
-use Rattle.at_demand.specs.Went.{IsAsked, IsTurned, Went, asked, begun, edited, turned}
+use Rattle.at_demand.specs.Went.{EditMade, IsAsked, IsTurned, Went, asked, begun, edited, turned}
 use Rattle.at_evaluate.proofs.Sameness.{same_refl, same_true}
 use Rattle.at_evaluate.proofs.of_traces.Justified.{stay_any, stay_same, stay_then}
 use Rattle.at_evaluate.proofs.of_traces.Making.{makes_as, makes_none, makes_settled}
@@ -77,12 +75,12 @@ since_then k w x l most other d less is n more =
     summed k n (k + d) l most (omega (arith, all, less)) is (nat_lt (k + d) most) refl
 
 -- steps behind steps
-pub steps_then : (old mid : State) (es : List (Shown × Edit)) → Went old es mid → (new : State) (fs : List (Shown × Edit)) → Went mid fs new
+pub steps_then : (old mid : State) (es : List EditMade) → Went old es mid → (new : State) (fs : List EditMade) → Went mid fs new
     → Went old (fs ++ es) new
 steps_then old mid es w _ _ begun = w
 steps_then old mid es w _ _ (asked n o fs v h) = asked n o (fs ++ es) (steps_then old mid es w n fs v) h
 steps_then old mid es w _ _ (turned n o fs v h) = turned n o (fs ++ es) (steps_then old mid es w n fs v) h
-steps_then old mid es w _ _ (edited n o fs s e b v h) = edited n o (fs ++ es) s e b (steps_then old mid es w n fs v) h
+steps_then old mid es w _ _ (edited n o fs e v h) = edited n o (fs ++ es) e (steps_then old mid es w n fs v) h
 
 pub went_then : (old mid new : State) → Went old [] mid → Went mid [] new → Went old [] new
 went_then old mid new w v = steps_then old mid [] w new [] v

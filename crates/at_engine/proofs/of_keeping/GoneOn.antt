@@ -1,6 +1,5 @@
 -- How what can be kept again came to be what it is, over what an engine does.
-use Rattle.std.proofs.Common.{◌≡◌, List, [], refl, sym, subst}
-use Rattle.at_model.specs.Edits.{Edit}
+use Rattle.std.proofs.Common.{◌≡◌, ℕ, List, [], Option, refl, sym, subst}
 use Rattle.at_model.specs.Machine.{Verdict}
 use Rattle.at_model.specs.Machine as machine
 use Rattle.at_store.specs.Shown.{Shown}
@@ -8,8 +7,9 @@ use Rattle.at_cache.specs.Kept.{Entries}
 use Rattle.at_cache.specs.Traced.{Memories}
 use Rattle.at_demand.specs.declared.demand.Demand.{Demand}
 use Rattle.at_demand.specs.StateOf.{state_of}
-use Rattle.at_demand.specs.Went.{Went, begun}
+use Rattle.at_demand.specs.Went.{EditMade, Went, begun}
 use Rattle.at_demand.proofs.of_traces.TurnsPut.{steps_then}
+use Rattle.at_engine.specs.Engines.{most_of}
 use Rattle.at_engine.specs.Making.{AreEditsOf, WentFor, WentOn, none_made, one_made, questions_of}
 use Rattle.at_engine.specs.Stepping.{GoesBy, by_line, by_turns, edits_in, nowhere}
 use Rattle.at_engine.specs.declared.engine.Engine.{Engine}
@@ -21,7 +21,7 @@ module _ {K : Type 0} (entries : K → Entries) (memories : K → Memories) wher
       subst (λ (d : Demand K). Went (questions_of entries memories old) [] (state_of entries memories d)) (sym same) begun
 
   -- and behind that
-  pub went_along : (es : List (Shown × Edit)) (old mid new : Engine K) → new.demand ≡ mid.demand → WentOn entries memories es old mid
+  pub went_along : (es : List EditMade) (old mid new : Engine K) → new.demand ≡ mid.demand → WentOn entries memories es old mid
       → WentOn entries memories es old new
   went_along es old mid new same went =
       subst (λ (d : Demand K). Went (questions_of entries memories old) es (state_of entries memories d)) (sym same) went
@@ -36,12 +36,12 @@ module _ {K : Type 0} (entries : K → Entries) (memories : K → Memories) wher
   -- for other verdicts
   pub went_as : (May Other : Verdict → Type 0) (old new : Engine K) → ((v : Verdict) → May v → Other v) → WentFor entries memories May old new
       → WentFor entries memories Other old new
-  went_as May Other old new so went = (went.0, edits_as old.store _ _ went.0 went.1, went.2)
+  went_as May Other old new so went = (went.0, edits_as old.store (most_of old) _ _ went.0 went.1, went.2)
     where
-      edits_as : (s : Shown) (before after : machine.State) (es : List (Shown × Edit)) → AreEditsOf May s before after es
-          → AreEditsOf Other s before after es
-      edits_as s before after _ none_made = none_made
-      edits_as s before after _ (one_made e t may is) = one_made e t (so _ may) is
+      edits_as : (s : Shown) (most : Option ℕ) (before after : machine.State) (es : List EditMade) → AreEditsOf May s most before after es
+          → AreEditsOf Other s most before after es
+      edits_as s most before after _ none_made = none_made
+      edits_as s most before after _ (one_made e t may is) = one_made e t (so _ may) is
 
   -- over all lines and turns
   pub went_over : (old new : Engine K) (by : GoesBy entries memories old new) → WentOn entries memories (edits_in entries memories old new by) old new

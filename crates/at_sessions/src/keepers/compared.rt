@@ -2,9 +2,7 @@
 
 ghost use Rattle.std.proofs.Common.{refl};
 ghost use Rattle.at_cache.specs.Finding.{edges_to};
-ghost use Rattle.at_cache.specs.Info.{table_len};
 ghost use Rattle.at_cache.specs.Keeping.{recorded_by, remembered_by};
-ghost use Rattle.at_cache.specs.Shedding.{is_crowded};
 ghost use Rattle.at_cache.specs.Standings.{last_is};
 ghost use Rattle.at_engine.specs.Engines.{KeepsNothing};
 
@@ -57,10 +55,6 @@ impl Keeper for KeepCompared {
     ghost contents = { λ k. recorded_by k.keeper };
 
     ghost memories = { λ k. remembered_by k.keeper };
-
-    ghost crowded = { λ k. is_crowded k.keeper.cut };
-
-    ghost count = { λ k. table_len k.keeper.cut.entries };
 
     ghost always_in_turns = { λ k l. refl };
 

@@ -1,7 +1,6 @@
 use Rattle.std.proofs.Common.{◌∙◌, ◌+◌, ◌<◌, ◌≤◌, length, ap, sym, arith, refl, true≢false}
 use Rattle.at_cache.specs.declared.standing.Standing.{Standing}
-use Rattle.at_cache.specs.Marking.{held_among}
-use Rattle.at_cache.specs.Standings.{unheld}
+use Rattle.at_cache.specs.Standings.{held_among, unheld}
 use Rattle.at_cache.proofs.of_cut.Seeing.{changed_past, changed_set, past_nothing, set_fewer}
 use Rattle.at_cache.proofs.cut.take_value.Goals as goal
 

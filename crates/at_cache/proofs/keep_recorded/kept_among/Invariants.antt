@@ -1,5 +1,5 @@
 use Rattle.std.specs.Prelude.{◌≡◌, ◌≤◌, ◌+◌, drop}
-use Rattle.at_cache.specs.Marking.{held_among}
+use Rattle.at_cache.specs.Standings.{held_among}
 use Rattle.at_cache.proofs.keep_recorded.kept_among.Given as goal
 
 abbrev pub invariant-loop-standing : goal.invariant-loop-standing

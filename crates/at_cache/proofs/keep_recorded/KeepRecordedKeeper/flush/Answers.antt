@@ -1,7 +1,7 @@
 use Rattle.std.proofs.Common.{arith, true≢false}
 use Rattle.at_cache.specs.Kept.{Answers}
 use Rattle.at_cache.specs.Finding.{edges_to}
-use Rattle.at_cache.specs.Shedding.{is_crowded}
+use Rattle.at_cache.specs.Shedding.{remembered_cut}
 use Rattle.at_cache.proofs.of_cut.Flushed.{flushes_traces, held_after, leaves_held, loses_held, spares_edit, tied_after, valued_after}
 use Rattle.at_cache.proofs.of_cut.Shed.{flushes_then}
 use Rattle.at_cache.proofs.of_cut.LetGo.{leaves_then, loses_then, spares_then}
@@ -24,6 +24,7 @@ invariant_of-self g c =
 pub returns : goal.returns
 returns g c =
     let says = Answers (goal.F-post g c.args.touched.now) in
+    let old = c.args.self.now in
     let k = c.let_go.new.self in
     let lists = edges_to k.readers in
     let t = c.take_away.ensures.takes in
@@ -32,7 +33,7 @@ returns g c =
       leaves = leaves_then says c.let_go.ensures.kept (leaves_held says lists k.puts k.cut c.take_away.new.cut t k.indexed);
       loses = loses_then says c.let_go.ensures.kept (loses_held says lists k.puts k.cut c.take_away.new.cut t k.indexed);
       traces = flushes_then says _ _ _ c.let_go.ensures.stay traces;
-      spares = spares_then says (is_crowded c.args.self.now.cut) _ _ _ c.let_go.ensures.stay c.let_go.ensures.spares traces
+      spares = spares_then says (remembered_cut (edges_to old.readers) old.cut).crowded _ _ _ c.let_go.ensures.stay c.let_go.ensures.spares traces
           (spares_edit says lists k.puts k.cut c.take_away.new.cut t);
       fewer = omega (arith, c.take_away.ensures.len, c.let_go.ensures.fewer);
     }
