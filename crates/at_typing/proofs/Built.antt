@@ -60,7 +60,7 @@ all_declared allowed classes all k (d ∷ ds) none = by (meant allowed classes a
 pub are_declared : (allowed : Arguments) (classes : Classes) (ds : List Located) (rules : Rules)
     → first_fault allowed classes ds ≡ None → rules ≡ rules_of allowed classes ds → AreDeclared rules ds
 are_declared allowed classes ds rules none is = subst (λ r. AreDeclared r ds) (sym is)
-    (all_declared allowed classes ds 0 ds (other_none (fault_together classes ds) _ none))
+    (all_declared allowed classes ds 0 ds (other_none (fault_together allowed classes ds) _ none))
 
 -- the rules themselves
 pub same_rules : (allowed : Arguments) (classes : Classes) (ds : List Located) (names : List (String Global))

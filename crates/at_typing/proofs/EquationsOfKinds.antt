@@ -267,7 +267,7 @@ pub none_circular : (allowed : Arguments) (classes : Classes) (ds : List Located
 none_circular allowed classes ds none plain =
     none_starts classes (attributes ds) (rules_of allowed classes ds).attributes
     (all_filter IsNotCircular (λ d. is_attribute d.decl.form) ds plain)
-    (all_declared allowed classes ds 0 ds (other_none (fault_together classes ds) _ none))
+    (all_declared allowed classes ds 0 ds (other_none (fault_together allowed classes ds) _ none))
 
 -- and those that are circular are lazy
 pub circular_kept : (allowed : Arguments) (classes : Classes) (ds : List Located)
@@ -275,7 +275,7 @@ pub circular_kept : (allowed : Arguments) (classes : Classes) (ds : List Located
     → AreCircularLazy (rules_of allowed classes ds)
 circular_kept allowed classes ds none =
     circular_lazy classes (attributes ds) (rules_of allowed classes ds).attributes
-    (all_declared allowed classes ds 0 ds (other_none (fault_together classes ds) _ none))
+    (all_declared allowed classes ds 0 ds (other_none (fault_together allowed classes ds) _ none))
 
 -- the rules of declarations without a fault are typed
 pub typed : (allowed : Arguments) (classes : Classes) (ds : List Located) → first_fault allowed classes ds ≡ None
@@ -283,10 +283,10 @@ pub typed : (allowed : Arguments) (classes : Classes) (ds : List Located) → fi
     → AllByRecursion IsBooleanIn ds
     → AreTyped (rules_of allowed classes ds)
 typed allowed classes ds none ints booleans =
-    let zip = all_declared allowed classes ds 0 ds (other_none (fault_together classes ds) _ none) in
-    let together = first_none (fault_together classes ds) _ none in
-    let twice = first_none (declared_twice classes ds) _ (other_none (accessor_named classes ds) _ (other_none (over_limit ds) _ together)) in
-    let alike = inherited_alike (rules_of allowed classes ds) ds twice zip in
+    let zip = all_declared allowed classes ds 0 ds (other_none (fault_together allowed classes ds) _ none) in
+    let together = first_none (fault_together allowed classes ds) _ none in
+    let twice = first_none (declared_twice allowed classes ds) _ (other_none (accessor_named classes ds) _ (other_none (over_limit ds) _ together)) in
+    let alike = inherited_alike allowed (rules_of allowed classes ds) ds twice zip in
     let rules = rules_of allowed classes ds in
     record {
       attributes = all_typed classes (attributes ds) rules.attributes

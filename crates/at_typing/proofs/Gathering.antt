@@ -23,7 +23,7 @@ use Rattle.at_rules.specs.declared.body.Body.{Body as BodyValue}
 use Rattle.at_rules.specs.declared.rules.Attribute.{Attribute as AttributeValue}
 use Rattle.at_rules.specs.declared.rules.Equations.{Equations}
 use Rattle.at_typing.specs.Building.{meaning_if, meanings}
-use Rattle.at_typing.specs.Declaring.{fault_if, is_attribute, is_own_equation, getter_in, differs, is_on_one_line, is_below, is_sub_or_none, is_same_getter, clashes, is_same_equation, declared_twice, twice_at, equation_twice, equation_at, binds_twice, class_text, name_text}
+use Rattle.at_typing.specs.Declaring.{fault_if, is_attribute, is_own_equation, getter_in, disagrees, is_on_one_line, is_below, is_sub_or_none, is_same_getter, clashes, is_same_equation, declared_twice, twice_at, equation_twice, equation_at, binds_twice, class_text, name_text}
 use Rattle.at_kinds.specs.declared.arguments.Arguments.{Arguments}
 use Rattle.at_kinds.specs.Judging.{Judgement, Is, Wrong}
 use Rattle.at_typing.specs.Located.{Located}
@@ -97,13 +97,13 @@ no_fault true c d is = absurd (none-some _ (sym is))
 no_fault false c d is = refl
 
 -- an attribute clashes with none before it
-pub no_clash : (classes : Classes) (ds : List Located) (i : ℕ) (d : Located) → i < length ds → d ≡ get_or ds i d
-    → declared_twice classes ds ≡ None → is_attribute d.decl.form ≡ true
-    → list_any (clashes classes d) (take i ds) ≡ false
-no_clash classes ds i d less at none declares =
-    by (is_attribute d.decl.form) declares (list_any (clashes classes d) (take i ds)) (binds_twice d.decl.form)
-    (no_fault ((is_attribute d.decl.form && list_any (clashes classes d) (take i ds)) || binds_twice d.decl.form)
-    code.AttributeTwice d (ap (twice_at classes ds i) at ∙ given_at (twice_at classes ds) ds i d less none))
+pub no_clash : (allowed : Arguments) (classes : Classes) (ds : List Located) (i : ℕ) (d : Located) → i < length ds → d ≡ get_or ds i d
+    → declared_twice allowed classes ds ≡ None → is_attribute d.decl.form ≡ true
+    → list_any (clashes allowed classes d) (take i ds) ≡ false
+no_clash allowed classes ds i d less at none declares =
+    by (is_attribute d.decl.form) declares (list_any (clashes allowed classes d) (take i ds)) (binds_twice d.decl.form)
+    (no_fault ((is_attribute d.decl.form && list_any (clashes allowed classes d) (take i ds)) || binds_twice d.decl.form)
+    code.AttributeTwice d (ap (twice_at allowed classes ds i) at ∙ given_at (twice_at allowed classes ds) ds i d less none))
   where
     by : (a : Bool) → a ≡ true → (b c : Bool) → ((a && b) || c) ≡ false → b ≡ false
     by true is true c off = absurd (true≢false off)
@@ -238,14 +238,14 @@ same_inherited classes d e a b of other same =
     (is_same_getter (getter_in d.decl.form) (getter_in e.decl.form)) getters)
 
 module _ (allowed : Arguments) (classes : Classes) (ds : List Located) (i : ℕ) (d : Located) (less : i < length ds) (at : d ≡ get_or ds i d) where
-  attribute_clashes : declared_twice classes ds ≡ None → (a : Attribute) → OfAttribute classes d a
+  attribute_clashes : declared_twice allowed classes ds ≡ None → (a : Attribute) → OfAttribute classes d a
       → list_any (λ (b : Attribute). nat_eq a.class b.class && bytes_eq a.name b.name)
       (filter_map (λ (m : Meaning). m.attribute) (meanings allowed classes ds (take i ds))) ≡ false
-  attribute_clashes none a of = none_meant allowed classes ds (λ (m : Meaning). m.attribute) _ (clashes classes d) too
-      (take i ds) (no_clash classes ds i d less at none of.0)
+  attribute_clashes none a of = none_meant allowed classes ds (λ (m : Meaning). m.attribute) _ (clashes allowed classes d) too
+      (take i ds) (no_clash allowed classes ds i d less at none of.0)
     where
       too : (e : Located) (m : Meaning) (b : Attribute) → meant allowed classes ds e ≡ Is m → m.attribute ≡ Some b
-          → (nat_eq a.class b.class && bytes_eq a.name b.name) ≡ true → clashes classes d e ≡ true
+          → (nat_eq a.class b.class && bytes_eq a.name b.name) ≡ true → clashes allowed classes d e ≡ true
       too e m b is there same =
           let other = said (OfAttribute classes e) m.attribute b there (of_words allowed classes ds e m is).attribute in
           let class : a.class ≡ b.class = eqb-true a.class b.class (first_of (nat_eq a.class b.class) (bytes_eq a.name b.name) same) in
@@ -259,8 +259,8 @@ module _ (allowed : Arguments) (classes : Classes) (ds : List Located) (i : ℕ)
           and_true (is_attribute e.decl.form) (bytes_eq (name_text d) (name_text e)) other.0
           (equal (name_text d) (name_text e) (sym of.2 ∙ name ∙ other.2)) in
           and_true (is_attribute e.decl.form && bytes_eq (name_text d) (name_text e))
-          (differs d.decl.form e.decl.form || is_on_one_line classes (class_text d) (class_text e)) names
-          (or_right (differs d.decl.form e.decl.form) (is_on_one_line classes (class_text d) (class_text e)) line)
+          (disagrees allowed d.decl.form e.decl.form || is_on_one_line classes (class_text d) (class_text e)) names
+          (or_right (disagrees allowed d.decl.form e.decl.form) (is_on_one_line classes (class_text d) (class_text e)) line)
 
   own_clashes : equation_twice ds ≡ None → (a : OwnEquation) → OfOwn classes ds d a
       → list_any (λ (b : OwnEquation). nat_eq a.class b.class && nat_eq a.attribute b.attribute)
@@ -316,7 +316,7 @@ module _ (allowed : Arguments) (classes : Classes) (ds : List Located) (i : ℕ)
   same_text : text_of names n ≡ name_text d
   same_text = (name_at names (name_text d) n named_so).1
 
-  attributes_more : declared_twice classes ds ≡ None → (es : List ((ℕ × ℕ) × AttributeValue))
+  attributes_more : declared_twice allowed classes ds ≡ None → (es : List ((ℕ × ℕ) × AttributeValue))
       → map (attribute_view names) es ≡ filter_map (λ (m : Meaning). m.attribute)
       (meanings allowed classes ds (take i ds))
       → (o : Option (ℕ × AttributeValue)) → IfSome (option_map (attribute_of d) o) (OfAttribute classes d)
@@ -390,7 +390,7 @@ module _ (allowed : Arguments) (classes : Classes) (ds : List Located) (i : ℕ)
       ∙ ap₂ (λ l t. l ++ (record (inherited_of d e) { name = t }) ∷ []) is same_text
 
   -- what a declaration means is added to what those before it mean
-  pub stands_more : (old new : Equations) (m : Added) → declared_twice classes ds ≡ None → equation_twice ds ≡ None
+  pub stands_more : (old new : Equations) (m : Added) → declared_twice allowed classes ds ≡ None → equation_twice ds ≡ None
       → meant allowed classes ds d ≡ Is (meaning_of d m) → Inserts n m old new
       → Stands names (meanings allowed classes ds (take i ds)) old
       → Stands names (meanings allowed classes ds (take (i + 1) ds)) new

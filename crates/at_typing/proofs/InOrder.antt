@@ -41,10 +41,10 @@ told d n j old new (type_fault.Refused c at) r is adds = subst (λ x. AddsOrTell
 told d n j old new type_fault.Memory r is adds = subst (λ x. AddsOrTells d n j old new (Err x)) (sym is) tt
 
 -- of no fault together none is one of several
-several : (classes : Classes) (ds : List Located) → fault_together classes ds ≡ None → (declared_twice classes ds ≡ None) × (equation_twice ds ≡ None)
-several classes ds none =
+several : (allowed : Arguments) (classes : Classes) (ds : List Located) → fault_together allowed classes ds ≡ None → (declared_twice allowed classes ds ≡ None) × (equation_twice ds ≡ None)
+several allowed classes ds none =
     let others = other_none (accessor_named classes ds) _ (other_none (over_limit ds) _ none) in
-    (first_none (declared_twice classes ds) _ others, other_none (without_attribute classes ds) _ (other_none (declared_twice classes ds) _ others))
+    (first_none (declared_twice allowed classes ds) _ others, other_none (without_attribute classes ds) _ (other_none (declared_twice allowed classes ds) _ others))
 
 -- the numbers of one of them are right
 among_all : (classes : Classes) (xs : List NumberedValue) (i : ℕ) (d : NumberedValue) → i < length xs → d ≡ get_or xs i d → AreNumbered classes xs → IsAmong classes xs d
@@ -63,11 +63,11 @@ StandBefore allowed classes xs i e = (names : List (String Global)) → All (IsN
 
 module _ (allowed : Arguments) (classes : Classes) (xs : List NumberedValue) (i : ℕ) (d : NumberedValue) (old new : Equations) where
   -- one declaration more
-  pub stand_more : i < length xs → d ≡ get_or xs i d → fault_together classes (views xs) ≡ None → (u : Unit {0})
+  pub stand_more : i < length xs → d ≡ get_or xs i d → fault_together allowed classes (views xs) ≡ None → (u : Unit {0})
       → AddsOrTells (numbered_view d) d.name (meant allowed classes (views xs) (numbered_view d)) old new (Ok u)
       → StandBefore allowed classes xs i old → StandBefore allowed classes xs (i + 1) new
   stand_more less at none u (m, is, added) so_far names all =
-      let faultless = several classes (views xs) none in
+      let faultless = several allowed classes (views xs) none in
       subst (λ ds. Stands names (meanings allowed classes (views xs) ds) new) (take-map numbered_view (i + 1) xs)
       (stands_more allowed classes (views xs) i (numbered_view d) d.name names
       (subst (λ n. i < n) (sym (length-map xs numbered_view)) less)
@@ -106,13 +106,13 @@ all_meant allowed classes xs i e past none stand = (
 -- without a fault of several together
 pub together : (allowed : Arguments) (classes : Classes) (xs : List NumberedValue)
     (r : Result Equations (Failure Breach))
-    → fault_together classes (views xs) ≡ None → Means allowed classes xs (refused allowed classes (views xs)) r
+    → fault_together allowed classes (views xs) ≡ None → Means allowed classes xs (refused allowed classes (views xs)) r
     → Means allowed classes xs (first_fault allowed classes (views xs)) r
 together allowed classes xs r none means =
     subst (λ f. Means allowed classes xs (option_or f (refused allowed classes (views xs))) r) (sym none) means
 
 -- the first fault of several together
 pub told_together : (allowed : Arguments) (classes : Classes) (xs : List NumberedValue) (f : Breach)
-    → fault_together classes (views xs) ≡ Some f → Means allowed classes xs (first_fault allowed classes (views xs))
+    → fault_together allowed classes (views xs) ≡ Some f → Means allowed classes xs (first_fault allowed classes (views xs))
     (Err (failure.For f))
 told_together allowed classes xs f is = ap (λ o. option_or o (refused allowed classes (views xs))) is

@@ -14,7 +14,7 @@ use Rattle.at_kinds.specs.declared.arguments.Arguments.{Arguments}
 use Rattle.at_kinds.specs.Judging.{Judgement, Is, Wrong}
 use Rattle.at_text.specs.declared.fault.Failure.{Failure}
 use Rattle.at_typing.specs.Building.{Builds, IsFault, first_fault, meaning_if, meanings, rules_of}
-use Rattle.at_typing.specs.Declaring.{accessor_named, clashes, class_text, declared_twice, differs, equation_twice, is_attribute, is_below, is_on_one_line, is_same_equation, is_sub_or_none, name_text, over_limit, without_attribute, fault_together}
+use Rattle.at_typing.specs.Declaring.{accessor_named, clashes, class_text, declared_twice, disagrees, equation_twice, is_attribute, is_below, is_on_one_line, is_same_equation, is_sub_or_none, name_text, over_limit, without_attribute, fault_together}
 use Rattle.at_typing.specs.Located.{Located}
 use Rattle.at_typing.specs.Meanings.{Meaning, meant}
 use Rattle.at_typing.specs.Single.{AreSingle}
@@ -108,8 +108,8 @@ module _ (allowed : Arguments) {A : Type 0} (classes : Classes) (ds : List Locat
 abbrev is_again : Classes → Attribute → Attribute → Bool
 is_again classes a b = bytes_eq a.name b.name && (is_sub classes a.class b.class || is_sub classes b.class a.class)
 
-clash_on_line : (classes : Classes) (d e : Located) (a b : Attribute) → OfAttribute classes d a → OfAttribute classes e b → is_again classes a b ≡ true → clashes classes e d ≡ true
-clash_on_line classes d e a b of other so = by (bytes_eq a.name b.name) refl (is_sub classes a.class b.class) refl (is_sub classes b.class a.class) refl so
+clash_on_line : (allowed : Arguments) (classes : Classes) (d e : Located) (a b : Attribute) → OfAttribute classes d a → OfAttribute classes e b → is_again classes a b ≡ true → clashes allowed classes e d ≡ true
+clash_on_line allowed classes d e a b of other so = by (bytes_eq a.name b.name) refl (is_sub classes a.class b.class) refl (is_sub classes b.class a.class) refl so
   where
     sub_there : (v w : List ℕ) (x y : ℕ) → class_of_name classes v ≡ Some x → class_of_name classes w ≡ Some y → is_sub classes x y ≡ true → is_below classes v w ≡ true
     sub_there v w x y is at sub = or_right (bytes_eq v w) (is_sub_or_none classes (class_of_name classes v) (class_of_name classes w)) (ap₂ (is_sub_or_none classes) is at ∙ sub)
@@ -118,13 +118,13 @@ clash_on_line classes d e a b of other so = by (bytes_eq a.name b.name) refl (is
     names same = and_true (is_attribute d.decl.form) (bytes_eq (name_text e) (name_text d)) of.0
         (equal (name_text e) (name_text d) (sym other.2 ∙ sym ((bytes_eq-Decides a.name b.name).0 same) ∙ of.2))
 
-    whole : bytes_eq a.name b.name ≡ true → is_on_one_line classes (class_text e) (class_text d) ≡ true → clashes classes e d ≡ true
+    whole : bytes_eq a.name b.name ≡ true → is_on_one_line classes (class_text e) (class_text d) ≡ true → clashes allowed classes e d ≡ true
     whole same line = and_true (is_attribute d.decl.form && bytes_eq (name_text e) (name_text d))
-        (differs e.decl.form d.decl.form || is_on_one_line classes (class_text e) (class_text d)) (names same)
-        (or_right (differs e.decl.form d.decl.form) (is_on_one_line classes (class_text e) (class_text d)) line)
+        (disagrees allowed e.decl.form d.decl.form || is_on_one_line classes (class_text e) (class_text d)) (names same)
+        (or_right (disagrees allowed e.decl.form d.decl.form) (is_on_one_line classes (class_text e) (class_text d)) line)
 
     by : (n : Bool) → bytes_eq a.name b.name ≡ n → (s : Bool) → is_sub classes a.class b.class ≡ s → (t : Bool)
-        → is_sub classes b.class a.class ≡ t → (n && (s || t)) ≡ true → clashes classes e d ≡ true
+        → is_sub classes b.class a.class ≡ t → (n && (s || t)) ≡ true → clashes allowed classes e d ≡ true
     by true n true s t u h = whole n (or_right (is_below classes (class_text e) (class_text d)) (is_below classes
         (class_text d) (class_text e)) (sub_there (class_text d) (class_text e) a.class b.class of.1 other.1 s))
     by true n false s true u h = whole n (or_left (is_below classes (class_text e) (class_text d)) (is_below classes
@@ -144,15 +144,15 @@ option_turned None (Some j) = refl
 option_turned (Some i) None = refl
 option_turned (Some i) (Some j) = nat_eq_equiv.symm i j
 
-pub singles : (allowed : Arguments) (classes : Classes) (ds : List Located) → declared_twice classes ds ≡ None
+pub singles : (allowed : Arguments) (classes : Classes) (ds : List Located) → declared_twice allowed classes ds ≡ None
     → equation_twice ds ≡ None → AreSingle (rules_of allowed classes ds)
 singles allowed classes ds once single = record {
   attributes = λ i j a b less is at name. second_true (bytes_eq a.name b.name) (is_sub classes a.class b.class || is_sub classes b.class a.class) name
       (never_both allowed classes ds (λ (m : Meaning). m.attribute) (OfAttribute classes)
       (λ d m a is there. said (OfAttribute classes d) m.attribute a there
       (of_words allowed classes ds d m is).attribute)
-      (is_again classes) (clashes classes) (clash_on_line classes)
-      (λ j e b there of. no_clash classes ds j e (slice_get_within ds j e there) (sym (get_or_from_slice_get ds j e e there)) once of.0) i j a b less is at);
+      (is_again classes) (clashes allowed classes) (clash_on_line allowed classes)
+      (λ j e b there of. no_clash allowed classes ds j e (slice_get_within ds j e there) (sym (get_or_from_slice_get ds j e e there)) once of.0) i j a b less is at);
   own = never_both allowed classes ds (λ (m : Meaning). m.own) (OfOwn classes ds)
       (λ d m a is there. said (OfOwn classes ds d) m.own a there (of_words allowed classes ds d m is).own)
       (λ (e f : OwnEquation). nat_eq e.class f.class && nat_eq e.attribute f.attribute) is_same_equation
@@ -181,11 +181,11 @@ single_if_ok allowed classes ds (Ok rules) (fault, is) = by (first_fault allowed
   where
     by : (o : Option Breach) → first_fault allowed classes ds ≡ o → IsFault allowed classes ds o None → AreSingle rules
     by None none lack =
-        let together : fault_together classes ds ≡ None = first_none (fault_together classes ds) _ none in
+        let together : fault_together allowed classes ds ≡ None = first_none (fault_together allowed classes ds) _ none in
         let behind_limit = other_none (over_limit ds) _ together in
         let behind_names = other_none (accessor_named classes ds) _ behind_limit in
-        let behind_twice = other_none (declared_twice classes ds) _ behind_names in
-        subst AreSingle (sym is) (singles allowed classes ds (first_none (declared_twice classes ds) _ behind_names)
+        let behind_twice = other_none (declared_twice allowed classes ds) _ behind_names in
+        subst AreSingle (sym is) (singles allowed classes ds (first_none (declared_twice allowed classes ds) _ behind_names)
         (other_none (without_attribute classes ds) _ behind_twice))
     by (Some f) some lack = absurd (none-some f lack)
 single_if_ok allowed classes ds (Err e) built = tt

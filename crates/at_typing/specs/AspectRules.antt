@@ -8,6 +8,7 @@ use Rattle.at_text.specs.declared.place.Place.{Place}
 use Rattle.at_jrag.specs.Syntax.{Word, Params, Body, Equation, InheritedEquation}
 use Rattle.at_jrag.specs.Syntax as written
 use Rattle.at_kinds.specs.declared.arguments.Arguments.{Arguments}
+use Rattle.at_kinds.specs.declared.arguments.Arguments.TheVariants.{Given}
 use Rattle.at_kinds.specs.Accessors.{accessor_named}
 use Rattle.at_kinds.specs.Judging.{Is}
 use Rattle.at_kinds.specs.declared.accessors.Accessor.{Accessor}
@@ -70,19 +71,19 @@ AreNoAccessors classes ds =
 
 -- J2 -------------------------------------------------------------------------------------------------------------------
 
--- two attributes of one name are both synthesized, or both inherited with the same kinds and the same start, if any; and neither
--- class is the other's or above it
-pub record AreApart (classes : Classes) (d e : Located) : Type 0 where
-  pub alike : is_inherited d.decl.form ≡ is_inherited e.decl.form
-  pub kinds : is_inherited d.decl.form ≡ true → has_same_signature d.decl.form e.decl.form ≡ true
-  pub starts : is_inherited d.decl.form ≡ true → start_in d.decl.form ≡ start_in e.decl.form
+-- Two attributes of one name are both synthesized or both inherited, unless what is computed may be an argument. Inherited ones have the
+-- same kinds and the same start, if any. And neither class is the other's or above it.
+pub record AreApart (allowed : Arguments) (classes : Classes) (d e : Located) : Type 0 where
+  pub alike : allowed ≡ Given → is_inherited d.decl.form ≡ is_inherited e.decl.form
+  pub kinds : is_inherited d.decl.form ≡ true → is_inherited e.decl.form ≡ true → has_same_signature d.decl.form e.decl.form ≡ true
+  pub starts : is_inherited d.decl.form ≡ true → is_inherited e.decl.form ≡ true → start_in d.decl.form ≡ start_in e.decl.form
   pub below : is_below classes (class_text d) (class_text e) ≡ false
   pub above : is_below classes (class_text e) (class_text d) ≡ false
 
 -- so it is of each two attributes of one name; and no name is bound where it is bound already
-pub record AreDeclaredOnce (classes : Classes) (ds : List Located) : Type 0 where
+pub record AreDeclaredOnce (allowed : Arguments) (classes : Classes) (ds : List Located) : Type 0 where
   pub attributes : (i j : ℕ) (d e : Located) → i < j → slice_get ds i ≡ Some d → slice_get ds j ≡ Some e → is_attribute d.decl.form ≡ true
-      → is_attribute e.decl.form ≡ true → name_text e ≡ name_text d → AreApart classes e d
+      → is_attribute e.decl.form ≡ true → name_text e ≡ name_text d → AreApart allowed classes e d
   pub names : (i : ℕ) (d : Located) → slice_get ds i ≡ Some d → binds_twice d.decl.form ≡ false
 
 -- J9 -------------------------------------------------------------------------------------------------------------------
@@ -148,7 +149,7 @@ AreCovered rules = (c attribute : ℕ) (a : Attribute) → slice_get rules.attri
 abbrev pub Keeps : Arguments → Classes → List Located → RuleCode → Type 0
 Keeps allowed classes ds Limit = AreFew ds
 Keeps allowed classes ds NameOfAccessor = AreNoAccessors classes ds
-Keeps allowed classes ds AttributeTwice = AreDeclaredOnce classes ds
+Keeps allowed classes ds AttributeTwice = AreDeclaredOnce allowed classes ds
 Keeps allowed classes ds EquationWithoutAttribute = AreOfAttributes classes ds
 Keeps allowed classes ds EquationTwice = AreEquationsOnce ds
 Keeps allowed classes ds UnknownName = HaveMeanings allowed classes ds

@@ -33,7 +33,7 @@ refused allowed classes ds = first_given (refused_at allowed classes ds) 0 ds
 
 -- the first fault before any class is looked at for what it lacks
 abbrev pub first_fault : Arguments → Classes → List Located → Option Breach
-first_fault allowed classes ds = option_or (fault_together classes ds) (refused allowed classes ds)
+first_fault allowed classes ds = option_or (fault_together allowed classes ds) (refused allowed classes ds)
 
 -- J8, where J7 has no fault
 abbrev pub IsLackBehind : Rules → List Located → Option Breach → Option Breach → Type 0

@@ -11,6 +11,8 @@ use Rattle.at_text.specs.declared.place.Place.{Place}
 use Rattle.at_jrag.specs.Syntax.{Word, Kind, Int, Bool', Text, Class, KindWord, Param, Params, Ending, With, Semicolon, Body, DeclForm, Synthesized, Inherited, Equation, InheritedEquation, Decl}
 use Rattle.at_jrag.specs.Syntax as written
 use Rattle.at_kinds.specs.Accessors.{is_accessor}
+use Rattle.at_kinds.specs.declared.arguments.Arguments.{Arguments}
+use Rattle.at_kinds.specs.declared.arguments.Arguments.TheVariants.{Given, Computed}
 use Rattle.at_typing.specs.Located.{Located, class_word, name_word}
 use Rattle.at_typing.specs.declared.fault.Breach.{Breach}
 use Rattle.at_kinds.specs.declared.code.RuleCode.{RuleCode}
@@ -200,14 +202,24 @@ has_same_start d e = option_eq beq (start_in d) (start_in e)
 abbrev pub differs : DeclForm → DeclForm → Bool
 differs d e = if is_inherited d then not (is_inherited e && (has_same_signature d e && has_same_start d e)) else is_inherited e
 
+-- It is compared with others of its name: an inherited one, since inherited equations go by names alone; and each one, unless what is
+-- computed may be an argument. Then a name may be synthesized in one class and inherited in another.
+abbrev pub is_compared : Arguments → DeclForm → Bool
+is_compared Given form = true
+is_compared Computed form = is_inherited form
+
+-- both are compared, and differ
+abbrev pub disagrees : Arguments → DeclForm → DeclForm → Bool
+disagrees allowed d e = (is_compared allowed d && is_compared allowed e) && differs d e
+
 abbrev pub is_on_one_line : Classes → List ℕ → List ℕ → Bool
 is_on_one_line classes v w = is_below classes v w || is_below classes w v
 
 -- attributes of one name that can't both be declared
-abbrev pub clashes : Classes → Located → Located → Bool
-clashes classes d e =
+abbrev pub clashes : Arguments → Classes → Located → Located → Bool
+clashes allowed classes d e =
     (is_attribute e.decl.form && bytes_eq (name_text d) (name_text e))
-    && (differs d.decl.form e.decl.form || is_on_one_line classes (class_text d) (class_text e))
+    && (disagrees allowed d.decl.form e.decl.form || is_on_one_line classes (class_text d) (class_text e))
 
 abbrev mutual
   -- a fold in the expression has a name that is bound where it stands: by one of these, or by a fold around it in its braces
@@ -251,12 +263,12 @@ binds_twice form =
     is_repeated (index_names form) (param_names form)
     || elim (body_in form) [ None ↦ false | Some b ↦ is_bound_again (param_names form ++ index_names form) b.expr ]
 
-abbrev pub twice_at : Classes → List Located → ℕ → Located → Option Breach
-twice_at classes ds i d = fault_if ((is_attribute d.decl.form && list_any (clashes classes d) (take i ds)) || binds_twice d.decl.form) code.AttributeTwice d
+abbrev pub twice_at : Arguments → Classes → List Located → ℕ → Located → Option Breach
+twice_at allowed classes ds i d = fault_if ((is_attribute d.decl.form && list_any (clashes allowed classes d) (take i ds)) || binds_twice d.decl.form) code.AttributeTwice d
 
 -- an attribute clashes with one before it, or a name is bound twice
-abbrev pub declared_twice : Classes → List Located → Option Breach
-declared_twice classes ds = first_given (twice_at classes ds) 0 ds
+abbrev pub declared_twice : Arguments → Classes → List Located → Option Breach
+declared_twice allowed classes ds = first_given (twice_at allowed classes ds) 0 ds
 
 -- J9 -----------------------------------------------------------------------------------------------------------------
 
@@ -323,10 +335,10 @@ equation_twice ds = first_given (equation_at ds) 0 ds
 -- ---------------------------------------------------------------------------------------------------------------------
 
 -- the first fault of the declarations together, before any is looked at by itself
-abbrev pub fault_together : Classes → List Located → Option Breach
-fault_together classes ds =
+abbrev pub fault_together : Arguments → Classes → List Located → Option Breach
+fault_together allowed classes ds =
     option_or (over_limit ds)
     (option_or (accessor_named classes ds)
-    (option_or (declared_twice classes ds)
+    (option_or (declared_twice allowed classes ds)
     (option_or (without_attribute classes ds)
     (equation_twice ds))))

@@ -130,3 +130,20 @@ has_one_above =
     inherits
     ∷ declared 30 (InheritedEquation (word (codes "Program") 33) (word (codes "getChild") 41) None (word (codes "q") 52) (no_params 54) (equals 56 (one 58)))
     ∷ []
+
+-- syn int C.q() = 1;, where it, its class and its name stand in these columns
+abbrev pub gives_q : (class : List ℕ) → (at class_at name_at : ℕ) → Located
+gives_q class n m k =
+    declared n (Synthesized None (kind Int (n + 4)) (word class m) (word (codes "q") k) (no_params (k + 2)) None (With (equals (k + 4) (one (k + 6)))))
+
+-- inh int Expr.q(); syn int C.q() = 1;
+abbrev pub is_both : (class : List ℕ) → (name_at : ℕ) → List Located
+is_both class k = inherits ∷ gives_q class 30 38 k ∷ []
+
+-- syn int Stmt.q() = 1; inh int Expr.q(); inh boolean Program.q();
+abbrev pub differs_behind : List Located
+differs_behind =
+    gives_q (codes "Stmt") 12 20 25
+    ∷ declared 34 (Inherited None (kind Int 38) (word (codes "Expr") 42) (word (codes "q") 47) (no_params 49) None)
+    ∷ declared 52 (Inherited None (kind Bool' 56) (word (codes "Program") 64) (word (codes "q") 72) (no_params 74) None)
+    ∷ []

@@ -12,6 +12,7 @@ ghost use Rattle.at_typing.specs.Building.{first_fault, rules_of, Builds};
 ghost use Rattle.at_typing.specs.SampleAspects.{
   calls_nothing,
   compares_texts,
+  differs_behind,
   four,
   has_no_equation,
   has_none_above,
@@ -19,6 +20,7 @@ ghost use Rattle.at_typing.specs.SampleAspects.{
   has_two_equations,
   is_a_boolean,
   is_an_accessor,
+  is_both,
   is_circular,
   is_declared_twice,
   is_of_no_attribute,
@@ -85,6 +87,15 @@ pub fn circular_attributes()
     ensures agree { first_fault Given calc_classes (with_starts (Some false)) ≡ None }
     ensures differ { first_fault Given calc_classes (with_starts (Some true)) ≡ Some (record { code = code.AttributeTwice; file = 1; at = column 51 }) }
     ensures one { first_fault Given calc_classes (with_starts None) ≡ Some (record { code = code.AttributeTwice; file = 1; at = column 51 }) }
+{}
+
+/// Where what is computed may be an argument, a name is synthesized in one class and inherited in another, but not on one line of
+/// classes; and inherited ones are compared with each other, though a synthesized one stands before them. Else the later one is told.
+pub fn names_of_both_sorts()
+    ensures apart { first_fault Computed calc_classes (is_both (codes "Stmt") 43) ≡ None }
+    ensures line { first_fault Computed calc_classes (is_both (codes "Use") 42) ≡ Some (record { code = code.AttributeTwice; file = 1; at = column 30 }) }
+    ensures inherited { first_fault Computed calc_classes differs_behind ≡ Some (record { code = code.AttributeTwice; file = 1; at = column 52 }) }
+    ensures given { first_fault Given calc_classes (is_both (codes "Stmt") 43) ≡ Some (record { code = code.AttributeTwice; file = 1; at = column 30 }) }
 {}
 
 /// The declarations of calc.jrag and probe.jrag make just the rules that stand as `calc`: each attribute with its kinds and whether

@@ -89,7 +89,7 @@ fn meant_together(
     ensures { Means arguments classes.now declared.now (first_fault arguments classes.now (map numbered_view declared.now)) result }
 {
     let attributes = Attributes::of(alloc, declared)?;
-    let fault = fault_together(alloc, classes, &attributes, declared)?;
+    let fault = fault_together(alloc, classes, arguments, &attributes, declared)?;
     match fault {
         Some(fault) => Err(Failure::For(fault)),
         None => meant_by(alloc, classes, arguments, &attributes, declared),
@@ -125,7 +125,7 @@ fn meant_by(
     declared: &[Numbered],
 ) -> Result<Equations, RuleFault>
     requires { AreNumbered classes.now declared.now × AreAttributes declared.now attributes.now
-        × (fault_together classes.now (map numbered_view declared.now) ≡ None) }
+        × (fault_together arguments classes.now (map numbered_view declared.now) ≡ None) }
     ensures { Means arguments classes.now declared.now (refused arguments classes.now (map numbered_view declared.now)) result }
 {
     let signatures = signatures_of(alloc, classes, declared)?;

@@ -17,7 +17,7 @@ use crate::fault::Breach;
 use crate::numbered::Numbered;
 use accessor_names::accessor_named;
 use at_class::ClassTable;
-use at_kinds::RuleCode;
+use at_kinds::{Arguments, RuleCode};
 use at_text::place::Place;
 pub use completeness::fault_of;
 use equations::{equation_twice, without_attribute};
@@ -30,11 +30,12 @@ use twice::declared_twice;
 pub fn fault_together(
     alloc: Global,
     classes: &ClassTable,
+    arguments: Arguments,
     attributes: &Attributes,
     declared: &[Numbered],
 ) -> Result<Option<Breach>, AllocError>
     requires { AreNumbered classes.now declared.now × AreAttributes declared.now attributes.now }
-    ensures { IfOk result (λ fault. fault ≡ fault_together classes.now (map numbered_view declared.now)) }
+    ensures { IfOk result (λ fault. fault ≡ fault_together arguments classes.now (map numbered_view declared.now)) }
 {
     if let Some(fault) = over_limit(declared) {
         return Ok(Some(fault));
@@ -42,7 +43,7 @@ pub fn fault_together(
     if let Some(fault) = accessor_named(alloc, classes, declared)? {
         return Ok(Some(fault));
     }
-    if let Some(fault) = declared_twice(alloc, classes, declared)? {
+    if let Some(fault) = declared_twice(alloc, classes, arguments, declared)? {
         return Ok(Some(fault));
     }
     if let Some(fault) = without_attribute(classes, attributes, declared) {

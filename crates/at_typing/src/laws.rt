@@ -28,7 +28,8 @@ pub fn what_is_built_is_well_formed()
 pub fn each_test_says_its_rule()
     ensures limit { (ds : List Located) → (over_limit ds ≡ None) ↔ AreFew ds }
     ensures name_of_accessor { (classes : Classes) (ds : List Located) → (accessor_named classes ds ≡ None) ↔ AreNoAccessors classes ds }
-    ensures attribute_twice { (classes : Classes) (ds : List Located) → (declared_twice classes ds ≡ None) ↔ AreDeclaredOnce classes ds }
+    ensures attribute_twice { (allowed : Arguments) (classes : Classes) (ds : List Located)
+        → (declared_twice allowed classes ds ≡ None) ↔ AreDeclaredOnce allowed classes ds }
     ensures without_attribute { (classes : Classes) (ds : List Located) → (without_attribute classes ds ≡ None) ↔ AreOfAttributes classes ds }
     ensures equation_twice { (ds : List Located) → (equation_twice ds ≡ None) ↔ AreEquationsOnce ds }
     ensures by_itself { (allowed : Arguments) (classes : Classes) (ds : List Located)

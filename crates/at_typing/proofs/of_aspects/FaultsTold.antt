@@ -65,7 +65,7 @@ module _ (allowed : Arguments) (classes : Classes) (ds : List Located) where
   abbrev AtStage : ℕ → Type 0
   AtStage zero = AreFew ds
   AtStage (suc zero) = AreNoAccessors classes ds
-  AtStage (suc (suc zero)) = AreDeclaredOnce classes ds
+  AtStage (suc (suc zero)) = AreDeclaredOnce allowed classes ds
   AtStage (suc (suc (suc zero))) = AreOfAttributes classes ds
   AtStage (suc (suc (suc (suc zero)))) = AreEquationsOnce ds
   AtStage (suc (suc (suc (suc (suc zero))))) = HaveMeanings allowed classes ds
@@ -148,7 +148,7 @@ module _ (allowed : Arguments) (classes : Classes) (ds : List Located) where
       )
 
   abbrev Whole : Option Breach
-  Whole = option_or (over_limit ds) (option_or (accessor_named classes ds) (option_or (declared_twice classes ds) (option_or (without_attribute classes ds)
+  Whole = option_or (over_limit ds) (option_or (accessor_named classes ds) (option_or (declared_twice allowed classes ds) (option_or (without_attribute classes ds)
       (option_or (equation_twice ds) (refused allowed classes ds)))))
 
   next : (a b c : Option Breach) → option_or (option_or a b) c ≡ option_or a (option_or b c)
@@ -163,7 +163,7 @@ module _ (allowed : Arguments) (classes : Classes) (ds : List Located) where
       assoc e =
           sym (next (over_limit ds) _ (refused allowed classes ds) ∙ ap (option_or (over_limit ds))
           (next (accessor_named classes ds) _ (refused allowed classes ds) ∙ ap (option_or (accessor_named classes ds))
-          (next (declared_twice classes ds) _ (refused allowed classes ds) ∙ ap (option_or (declared_twice classes ds))
+          (next (declared_twice allowed classes ds) _ (refused allowed classes ds) ∙ ap (option_or (declared_twice allowed classes ds))
           (next (without_attribute classes ds) (equation_twice ds) (refused allowed classes ds)))))
           ∙ e
 
@@ -173,8 +173,8 @@ module _ (allowed : Arguments) (classes : Classes) (ds : List Located) where
           (λ kept. stage 1 (accessor_named classes ds) _ (names_free classes ds)
           (λ f e. let (i, d, at, gives) = given_at (accessor_at classes) ds f e in
           in_order code.NameOfAccessor f (coded _ code.NameOfAccessor d f gives)) kept
-          (λ kept. stage 2 (declared_twice classes ds) _ (declared_once classes ds)
-          (λ f e. let (i, d, at, gives) = given_at (twice_at classes ds) ds f e in
+          (λ kept. stage 2 (declared_twice allowed classes ds) _ (declared_once allowed classes ds)
+          (λ f e. let (i, d, at, gives) = given_at (twice_at allowed classes ds) ds f e in
           in_order code.AttributeTwice f (coded _ code.AttributeTwice d f gives)) kept
           (λ kept. stage 3 (without_attribute classes ds) _ (equations_declared classes ds)
           (λ f e. let (i, d, at, gives) = given_at (undeclared_at classes ds) ds f e in
@@ -186,26 +186,26 @@ module _ (allowed : Arguments) (classes : Classes) (ds : List Located) where
   -- where none of these has a fault, each of them is kept
   all_kept : first_fault allowed classes ds ≡ None → Kept 6
   all_kept none =
-      let alone = other_none (fault_together classes ds) (refused allowed classes ds) none in
-      let first = first_none (fault_together classes ds) (refused allowed classes ds) none in
+      let alone = other_none (fault_together allowed classes ds) (refused allowed classes ds) none in
+      let first = first_none (fault_together allowed classes ds) (refused allowed classes ds) none in
       let names = other_none (over_limit ds) _ first in
       let twice = other_none (accessor_named classes ds) _ names in
-      let declared = other_none (declared_twice classes ds) _ twice in
+      let declared = other_none (declared_twice allowed classes ds) _ twice in
       let once = other_none (without_attribute classes ds) (equation_twice ds) declared in
       one_more 5 (one_more 4 (one_more 3 (one_more 2 (one_more 1 (one_more 0 none_kept
       ((limits ds).0 (first_none (over_limit ds) _ first)))
       ((names_free classes ds).0 (first_none (accessor_named classes ds) _ names)))
-      ((declared_once classes ds).0 (first_none (declared_twice classes ds) _ twice)))
+      ((declared_once allowed classes ds).0 (first_none (declared_twice allowed classes ds) _ twice)))
       ((equations_declared classes ds).0 (first_none (without_attribute classes ds) (equation_twice ds) declared)))
       ((equations_once ds).0 once))
       ((each_means allowed classes ds).0 alone)
 
   none_first : Kept 6 → first_fault allowed classes ds ≡ None
   none_first kept =
-      both_none (fault_together classes ds) (refused allowed classes ds)
+      both_none (fault_together allowed classes ds) (refused allowed classes ds)
       (both_none (over_limit ds) _ ((limits ds).1 (kept 0 (omega arith)))
       (both_none (accessor_named classes ds) _ ((names_free classes ds).1 (kept 1 (omega arith)))
-      (both_none (declared_twice classes ds) _ ((declared_once classes ds).1 (kept 2 (omega arith)))
+      (both_none (declared_twice allowed classes ds) _ ((declared_once allowed classes ds).1 (kept 2 (omega arith)))
       (both_none (without_attribute classes ds) (equation_twice ds) ((equations_declared classes ds).1 (kept 3 (omega arith)))
       ((equations_once ds).1 (kept 4 (omega arith)))))))
       ((each_means allowed classes ds).1 (kept 5 (omega arith)))

@@ -10,16 +10,17 @@ use Rattle.std.proofs.lemmas.Bool.{and_parts, eqb-true}
 use Rattle.std.proofs.lemmas.Cmp.{nat_eq_equiv, nat_list_eq_equiv}
 use Rattle.std.proofs.lemmas.List.Folds.{list_any_more}
 use Rattle.std.proofs.lemmas.Slice.Eq.{bytes_eq-Decides}
-use Rattle.indexmap.specs.IndexMap.{get}
+use Rattle.indexmap.specs.IndexMap.{IndexMap, get}
 use Rattle.at_model.specs.Classes.{Classes}
 use Rattle.at_model.proofs.Options.{or_false}
+use Rattle.at_kinds.specs.declared.arguments.Arguments.{Arguments}
 use Rattle.at_jrag.specs.declared.syntax.DeclForm.{DeclForm as FormValue}
 use Rattle.at_jrag.specs.Syntax.{Kind, Int, Bool', Text, Class, KindWord, Param, DeclForm}
 use Rattle.at_jrag.specs.View.{decl_form_view}
 use Rattle.at_typing.specs.AttributeKeys.{is_key, IsAmong}
-use Rattle.at_typing.specs.Declaring.{is_attribute, is_inherited, result_in, params_in, is_same_kind, have_same_kinds, has_same_result, has_same_signature, has_same_start, start_in, differs, clashes, is_below, is_on_one_line, class_text, name_text}
+use Rattle.at_typing.specs.Declaring.{is_attribute, is_inherited, result_in, params_in, is_same_kind, have_same_kinds, has_same_result, has_same_signature, has_same_start, start_in, differs, disagrees, is_compared, clashes, is_below, is_on_one_line, class_text, name_text}
 use Rattle.at_typing.specs.Numbering.{numbered_view, parent_class, same_class, is_class_below, line, IsOfItsClass, AreAlike}
-use Rattle.at_typing.specs.Twice.{differs_from, first_form, has_key, declares, AreBefore, Adds, InsertsKeys}
+use Rattle.at_typing.specs.Twice.{differs_from, disagrees_from, form_of, first_form, has_key, declares, compares, AreBefore, Adds, InsertsKeys, NotesCompared}
 use Rattle.at_typing.specs.declared.checks.twice.Before.{Before}
 use Rattle.at_typing.specs.declared.numbered.NamedClass.{NamedClass}
 use Rattle.at_typing.specs.declared.numbered.NamedClass.TheVariants.{Known, Unknown}
@@ -50,6 +51,12 @@ any_none p (x ∷ xs) = ap (λ b. b || list_any (λ y. p y && false) xs) (by (p 
     by : (b : Bool) → (b && false) ≡ false
     by true = refl
     by false = refl
+
+-- behind a condition that isn't theirs
+any_if : {A : Type 0} (c : Bool) (p : A → Bool) (xs : List A) → list_any (λ x. c && p x) xs ≡ (c && list_any p xs)
+any_if true p xs = refl
+any_if false p [] = refl
+any_if false p (x ∷ xs) = any_if false p xs
 
 -- the same, looked for the other way round
 any_turned : {A C : Type 0} (n : A → Bool) (s : C → A → Bool) (xs : List A) (cs : List C) → list_any (λ c. list_any (λ x. n x && s c x) xs) cs ≡ list_any (λ x. n x && list_any (λ c. s c x) cs) xs
@@ -136,16 +143,16 @@ differs_more form own None false fits = refl
 differs_more form own (Some first) true fits = or_twice (differs form first) ∙ ap (λ c. differs form first || c) (sym (differs_like form own first (fits refl)))
 differs_more form own (Some first) false fits = sym (or_false (differs form first))
 
--- where it doesn't differ from the first of its name
-pub one_added : (classes : Classes) (ds : List NumberedValue) (k : ℕ) (d : NumberedValue) (old new : Before)
-    → k < length ds → d ≡ get_or ds k d → AreBefore classes (take k ds) old → Adds classes d old new
-    → (is_attribute (numbered_view d).decl.form ≡ true → differs_from (numbered_view d).decl.form (first_form old d.name) ≡ false) → AreBefore classes (take (k + 1) ds) new
-one_added classes ds k d old new less is are adds fits = record {
+-- where it is compared it doesn't differ from the first of its name
+pub one_added : (allowed : Arguments) (classes : Classes) (ds : List NumberedValue) (k : ℕ) (d : NumberedValue) (old new : Before)
+    → k < length ds → d ≡ get_or ds k d → AreBefore allowed classes (take k ds) old → Adds allowed classes d old new
+    → (is_attribute (numbered_view d).decl.form ≡ true → disagrees_from allowed (numbered_view d).decl.form (first_form old d.name) ≡ false) → AreBefore allowed classes (take (k + 1) ds) new
+one_added allowed classes ds k d old new less is are adds fits = record {
   first = λ form name.
       ap (differs_from form) (adds.first name)
-      ∙ differs_more form (numbered_view d).decl.form (first_form old name) (declares name d) (same_name name)
-      ∙ ap (λ b. b || (declares name d && differs form (numbered_view d).decl.form)) (are.first form name)
-      ∙ sym (any_more (λ e. declares name e && differs form (numbered_view e).decl.form) ds k d less is);
+      ∙ differs_more form (numbered_view d).decl.form (first_form old name) (compares allowed name d) (same_name name)
+      ∙ ap (λ b. b || (compares allowed name d && differs form (numbered_view d).decl.form)) (are.first form name)
+      ∙ sym (any_more (λ e. compares allowed name e && differs form (numbered_view e).decl.form) ds k d less is);
   declared = λ class name. adds.declared class name ∙ ap (λ b. b || (declares name d && same_class class d.class))
       (are.declared class name) ∙ sym (any_more (λ e. declares name e && same_class class e.class) ds k d less is);
   above = λ class name. adds.above class name
@@ -153,13 +160,19 @@ one_added classes ds k d old new less is are adds fits = record {
       ∙ sym (any_more (λ e. declares name e && is_class_below classes e.class class) ds k d less is);
 }
   where
-    same_name : (name : ℕ) → declares name d ≡ true → differs_from (numbered_view d).decl.form (first_form old name) ≡ false
-    same_name name e =
-        let (test, same) = and_parts (is_attribute (numbered_view d).decl.form) (nat_eq name d.name) e in
-        ap (λ n. differs_from (numbered_view d).decl.form (first_form old n)) (eqb-true name d.name same) ∙ fits test
+    second : (a b : Bool) → a ≡ true → (a && b) ≡ false → b ≡ false
+    second true b is off = off
+    second false b is off = absurd (true≢false (sym is))
 
-pub none_added : (classes : Classes) (ds : List NumberedValue) (b : Before) → b.first.entries ≡ [] → b.declared.keys ≡ [] → b.above.keys ≡ [] → AreBefore classes (take 0 ds) b
-none_added classes ds b first declared above = record {
+    same_name : (name : ℕ) → compares allowed name d ≡ true → differs_from (numbered_view d).decl.form (first_form old name) ≡ false
+    same_name name e =
+        let (named, compared) = and_parts (declares name d) (is_compared allowed (numbered_view d).decl.form) e in
+        let (test, same) = and_parts (is_attribute (numbered_view d).decl.form) (nat_eq name d.name) named in
+        ap (λ n. differs_from (numbered_view d).decl.form (first_form old n)) (eqb-true name d.name same)
+        ∙ second (is_compared allowed (numbered_view d).decl.form) (differs_from (numbered_view d).decl.form (first_form old d.name)) compared (fits test)
+
+pub none_added : (allowed : Arguments) (classes : Classes) (ds : List NumberedValue) (b : Before) → b.first.entries ≡ [] → b.declared.keys ≡ [] → b.above.keys ≡ [] → AreBefore allowed classes (take 0 ds) b
+none_added allowed classes ds b first declared above = record {
   first = λ form name. ap (λ es. differs_from form (option_map (λ f. decl_form_view f.now) (lookup (nat_eq name) es))) first;
   declared = λ class name. ap (list_any (is_key class name)) declared;
   above = λ class name. ap (list_any (is_key class name)) above;
@@ -180,72 +193,84 @@ alike_back d e like = record {
 }
 
 -- the attribute clashes with that one, by numbers
-abbrev pub clashes_by_number : Classes → NumberedValue → NumberedValue → Bool
-clashes_by_number classes d e = (declares d.name e && differs (numbered_view d).decl.form (numbered_view e).decl.form)
+abbrev pub clashes_by_number : Arguments → Classes → NumberedValue → NumberedValue → Bool
+clashes_by_number allowed classes d e = (is_compared allowed (numbered_view d).decl.form && (compares allowed d.name e && differs (numbered_view d).decl.form (numbered_view e).decl.form))
     || ((declares d.name e && is_class_below classes e.class d.class)
     || (declares d.name e && is_class_below classes d.class e.class))
 
-by_numbers : (classes : Classes) (d e : NumberedValue) → IsOfItsClass classes d → IsOfItsClass classes e → AreAlike d e
-    → clashes classes (numbered_view d) (numbered_view e) ≡ clashes_by_number classes d e
-by_numbers classes d e own other like =
+by_numbers : (allowed : Arguments) (classes : Classes) (d e : NumberedValue) → IsOfItsClass classes d → IsOfItsClass classes e → AreAlike d e
+    → clashes allowed classes (numbered_view d) (numbered_view e) ≡ clashes_by_number allowed classes d e
+by_numbers allowed classes d e own other like =
     ap (λ b. (is_attribute (numbered_view e).decl.form && b) && (apart || is_on_one_line classes (class_text (numbered_view d)) (class_text (numbered_view e)))) (sym like.name)
     ∙ ap (λ b. declares d.name e && (apart || (b || is_below classes (class_text (numbered_view e)) (class_text (numbered_view d))))) (sym (below classes d e own other like))
     ∙ ap (λ b. declares d.name e && (apart || (is_class_below classes d.class e.class || b))) (sym (below classes e d other own (alike_back d e like)))
-    ∙ by (declares d.name e) apart (is_class_below classes d.class e.class) (is_class_below classes e.class d.class)
+    ∙ by (declares d.name e) (is_compared allowed (numbered_view d).decl.form) (is_compared allowed (numbered_view e).decl.form)
+    (differs (numbered_view d).decl.form (numbered_view e).decl.form) (is_class_below classes d.class e.class) (is_class_below classes e.class d.class)
   where
     apart : Bool
-    apart = differs (numbered_view d).decl.form (numbered_view e).decl.form
+    apart = disagrees allowed (numbered_view d).decl.form (numbered_view e).decl.form
 
-    by : (n x y z : Bool) → (n && (x || (y || z))) ≡ ((n && x) || ((n && z) || (n && y)))
-    by false x y z = refl
-    by true true y z = refl
-    by true false true true = refl
-    by true false true false = refl
-    by true false false z = sym (or_false z)
+    turned : (y z : Bool) → (y || z) ≡ (z || y)
+    turned true true = refl
+    turned true false = refl
+    turned false z = sym (or_false z)
+
+    by : (n c k x y z : Bool) → (n && (((c && k) && x) || (y || z))) ≡ ((c && ((n && k) && x)) || ((n && z) || (n && y)))
+    by false true k x y z = refl
+    by false false k x y z = refl
+    by true true true true y z = refl
+    by true true true false y z = turned y z
+    by true true false x y z = turned y z
+    by true false k x y z = turned y z
 
 -- a class above the attribute's, or its own, declares the name
 abbrev pub is_declared_above : Classes → List NumberedValue → NumberedValue → Bool
 is_declared_above classes ds d = list_any (λ e. declares d.name e && is_class_below classes d.class e.class) ds
 
--- the first of its name differs, or the class or one below it declares the name, or one above it
-abbrev pub is_clash : Classes → List NumberedValue → Before → NumberedValue → Bool
-is_clash classes ds b d = differs_from (numbered_view d).decl.form (first_form b d.name) || (has_key b.above.keys d.name d.class || is_declared_above classes ds d)
+-- it is compared and differs from the first of its name, or the class or one below it declares the name, or one above it
+abbrev pub is_clash : Arguments → Classes → List NumberedValue → Before → NumberedValue → Bool
+is_clash allowed classes ds b d = disagrees_from allowed (numbered_view d).decl.form (first_form b d.name) || (has_key b.above.keys d.name d.class || is_declared_above classes ds d)
 
-pub declared_above : (classes : Classes) → 0 < length classes → (ds : List NumberedValue) (b : Before) → AreBefore classes ds b → (class : NamedClass) (name : ℕ)
+pub declared_above : (allowed : Arguments) (classes : Classes) → 0 < length classes → (ds : List NumberedValue) (b : Before) → AreBefore allowed classes ds b → (class : NamedClass) (name : ℕ)
     → list_any (has_key b.declared.keys name) (line classes class) ≡ list_any (λ e. declares name e && is_class_below classes class e.class) ds
-declared_above classes some ds b are class name =
+declared_above allowed classes some ds b are class name =
     list_any-same (has_key b.declared.keys name) (λ c. list_any (λ e. declares name e && same_class c e.class) ds) (line classes class) (λ c. are.declared c name)
     ∙ any_turned (declares name) (λ c e. same_class c e.class) ds (line classes class)
     ∙ list_any-same _ _ ds (λ e. ap (λ x. declares name e && x) (on_line classes some class e.class))
 
-clash : (classes : Classes) (ds : List NumberedValue) (b : Before) (d : NumberedValue) → AreBefore classes ds b →
-    IsAmong classes ds d → list_any (clashes classes (numbered_view d)) (map numbered_view ds) ≡ is_clash classes ds b d
-clash classes ds b d are among =
-    list_any-map (clashes classes (numbered_view d)) numbered_view ds
+clash : (allowed : Arguments) (classes : Classes) (ds : List NumberedValue) (b : Before) (d : NumberedValue) → AreBefore allowed classes ds b
+    → IsAmong classes ds d → list_any (clashes allowed classes (numbered_view d)) (map numbered_view ds) ≡ is_clash allowed classes ds b d
+clash allowed classes ds b d are among =
+    list_any-map (clashes allowed classes (numbered_view d)) numbered_view ds
     ∙ list_any-where (λ e. IsOfItsClass classes e × AreAlike d e)
-    (λ e. clashes classes (numbered_view d) (numbered_view e)) (clashes_by_number classes d) ds
-    (λ k x less. (among.others k x less, among.alike k x less)) (λ e h. by_numbers classes d e among.class h.0 h.1)
-    ∙ list_any-or (λ e. declares d.name e && differs (numbered_view d).decl.form (numbered_view e).decl.form)
+    (λ e. clashes allowed classes (numbered_view d) (numbered_view e)) (clashes_by_number allowed classes d) ds
+    (λ k x less. (among.others k x less, among.alike k x less)) (λ e h. by_numbers allowed classes d e among.class h.0 h.1)
+    ∙ list_any-or (λ e. compared && (compares allowed d.name e && differs (numbered_view d).decl.form (numbered_view e).decl.form))
     (λ e. (declares d.name e && is_class_below classes e.class d.class)
     || (declares d.name e && is_class_below classes d.class e.class)) ds
-    ∙ ap₂ (λ x y. x || y) (sym (are.first (numbered_view d).decl.form d.name))
+    ∙ ap₂ (λ x y. x || y) (any_if compared (λ e. compares allowed d.name e && differs (numbered_view d).decl.form (numbered_view e).decl.form) ds
+    ∙ ap (λ x. compared && x) (sym (are.first (numbered_view d).decl.form d.name)))
     (list_any-or (λ e. declares d.name e && is_class_below classes e.class d.class) (λ e. declares d.name e && is_class_below classes d.class e.class) ds
     ∙ ap (λ x. x || is_declared_above classes ds d) (sym (are.above d.class d.name)))
+  where
+    compared : Bool
+    compared = is_compared allowed (numbered_view d).decl.form
 
-pub tells_clash : (classes : Classes) (ds : List NumberedValue) (b : Before) (d : NumberedValue)
-    → AreBefore classes ds b → IsAmong classes ds d → (r : Bool) → is_attribute (numbered_view d).decl.form ≡ true
-    → is_clash classes ds b d ≡ r
-    → r ≡ (is_attribute (numbered_view d).decl.form && list_any (clashes classes (numbered_view d)) (map numbered_view ds))
-tells_clash classes ds b d are among r test found = sym (ap (λ a. a && list_any (clashes classes (numbered_view d)) (map numbered_view ds)) test ∙ clash classes ds b d are among ∙ found)
+pub tells_clash : (allowed : Arguments) (classes : Classes) (ds : List NumberedValue) (b : Before) (d : NumberedValue)
+    → AreBefore allowed classes ds b → IsAmong classes ds d → (r : Bool) → is_attribute (numbered_view d).decl.form ≡ true
+    → is_clash allowed classes ds b d ≡ r
+    → r ≡ (is_attribute (numbered_view d).decl.form && list_any (clashes allowed classes (numbered_view d)) (map numbered_view ds))
+tells_clash allowed classes ds b d are among r test found =
+    sym (ap (λ a. a && list_any (clashes allowed classes (numbered_view d)) (map numbered_view ds)) test ∙ clash allowed classes ds b d are among ∙ found)
 
--- where nothing clashes, it doesn't differ from the first of its name
-pub fits : (classes : Classes) (ds : List NumberedValue) (b : Before) (d : NumberedValue) → AreBefore classes ds b
+-- where nothing clashes and it is compared, it doesn't differ from the first of its name
+pub fits : (allowed : Arguments) (classes : Classes) (ds : List NumberedValue) (b : Before) (d : NumberedValue) → AreBefore allowed classes ds b
     → IsAmong classes ds d → (r : Bool) → ((is_attribute (numbered_view d).decl.form
-    && list_any (clashes classes (numbered_view d)) (map numbered_view ds)) || r) ≡ false
-    → is_attribute (numbered_view d).decl.form ≡ true → differs_from (numbered_view d).decl.form (first_form b d.name) ≡ false
-fits classes ds b d are among r none test = first (differs_from (numbered_view d).decl.form (first_form b d.name))
+    && list_any (clashes allowed classes (numbered_view d)) (map numbered_view ds)) || r) ≡ false
+    → is_attribute (numbered_view d).decl.form ≡ true → disagrees_from allowed (numbered_view d).decl.form (first_form b d.name) ≡ false
+fits allowed classes ds b d are among r none test = first (disagrees_from allowed (numbered_view d).decl.form (first_form b d.name))
     (has_key b.above.keys d.name d.class || is_declared_above classes ds d)
-    (sym (clash classes ds b d are among) ∙ second (is_attribute (numbered_view d).decl.form) _ r none test)
+    (sym (clash allowed classes ds b d are among) ∙ second (is_attribute (numbered_view d).decl.form) _ r none test)
   where
     first : (x y : Bool) → (x || y) ≡ false → x ≡ false
     first true y e = e
@@ -290,9 +315,10 @@ inserts_last classes class name old new k o none so_far = λ c n. sym (or_false 
 -- one declaration -----------------------------------------------------------------------------------------------------
 
 -- an equation adds nothing
-pub adds_none : (classes : Classes) (d : NumberedValue) (b : Before) → is_attribute (numbered_view d).decl.form ≡ false → Adds classes d b b
-adds_none classes d b test = record {
-  first = λ name. not_noted (first_form b name) (numbered_view d).decl.form (declares name d) (no_name name);
+pub adds_none : (allowed : Arguments) (classes : Classes) (d : NumberedValue) (b : Before) → is_attribute (numbered_view d).decl.form ≡ false → Adds allowed classes d b b
+adds_none allowed classes d b test = record {
+  first = λ name. not_noted (first_form b name) (numbered_view d).decl.form (compares allowed name d)
+      (ap (λ a. a && is_compared allowed (numbered_view d).decl.form) (no_name name));
   declared = λ class name. none (has_key b.declared.keys name class) (declares name d) (same_class class d.class) (no_name name);
   above = λ class name. none (has_key b.above.keys name class) (declares name d) (is_class_below classes d.class class) (no_name name);
 }
@@ -308,16 +334,29 @@ viewed_or f None true v = refl
 viewed_or f None false v = refl
 viewed_or f (Some x) b v = refl
 
-pub adds_one : (classes : Classes) → 0 < length classes → (d : NumberedValue) (old new : Before) (form : Bor FormValue)
-    → is_attribute (numbered_view d).decl.form ≡ true → decl_form_view form.now ≡ (numbered_view d).decl.form
-    → ((name : ℕ) → get nat_eq new.first name ≡ option_or (get nat_eq old.first name) (if nat_eq name d.name then Some form else None))
-    → InsertsKeys old.declared.keys new.declared.keys d.name (d.class ∷ []) → InsertsKeys old.above.keys new.above.keys d.name (line classes d.class) → Adds classes d old new
-adds_one classes some d old new form test viewed first declared above = record {
+-- it isn't compared, or is, and stands by its name where none stood there
+pub not_compared : {S : Type 0} (allowed : Arguments) (name : ℕ) (form : DeclForm) (firsts : IndexMap ℕ (Bor FormValue) S)
+    → is_compared allowed form ≡ false → NotesCompared allowed name form firsts firsts
+not_compared allowed name form firsts off = λ n. not_noted (form_of firsts n) form (nat_eq n name && is_compared allowed form)
+    (ap (λ b. nat_eq n name && b) off ∙ switched (nat_eq n name) false)
+
+pub is_noted : {S : Type 0} (allowed : Arguments) (name : ℕ) (form : Bor FormValue) (old new : IndexMap ℕ (Bor FormValue) S)
+    → is_compared allowed (decl_form_view form.now) ≡ true
+    → ((n : ℕ) → get nat_eq new n ≡ option_or (get nat_eq old n) (if nat_eq n name then Some form else None))
+    → NotesCompared allowed name (decl_form_view form.now) old new
+is_noted allowed name form old new on notes = λ n.
+    ap (option_map (λ (f : Bor FormValue). decl_form_view f.now)) (notes n)
+    ∙ viewed_or (λ (f : Bor FormValue). decl_form_view f.now) (get nat_eq old n) (nat_eq n name) form
+    ∙ ap (λ b. option_or (form_of old n) (if b then Some (decl_form_view form.now) else None))
+    (sym (ap (λ b. nat_eq n name && b) on ∙ switched (nat_eq n name) true))
+
+pub adds_one : (allowed : Arguments) (classes : Classes) → 0 < length classes → (d : NumberedValue) (old new : Before)
+    → is_attribute (numbered_view d).decl.form ≡ true → NotesCompared allowed d.name (numbered_view d).decl.form old.first new.first
+    → InsertsKeys old.declared.keys new.declared.keys d.name (d.class ∷ []) → InsertsKeys old.above.keys new.above.keys d.name (line classes d.class) → Adds allowed classes d old new
+adds_one allowed classes some d old new test first declared above = record {
   first = λ name.
-      ap (option_map (λ (f : Bor FormValue). decl_form_view f.now)) (first name)
-      ∙ viewed_or (λ (f : Bor FormValue). decl_form_view f.now) (get nat_eq old.first name) (nat_eq name d.name) form
-      ∙ ap (λ v. option_or (first_form old name) (if nat_eq name d.name then Some v else None)) viewed
-      ∙ ap (λ a. option_or (first_form old name) (if a && nat_eq name d.name then Some (numbered_view d).decl.form else None)) (sym test);
+      first name
+      ∙ ap (λ a. option_or (first_form old name) (if (a && nat_eq name d.name) && is_compared allowed (numbered_view d).decl.form then Some (numbered_view d).decl.form else None)) (sym test);
   declared = λ class name.
       declared class name
       ∙ ap (λ x. has_key old.declared.keys name class || x) (or_false (is_key class name (d.class, d.name)) ∙ switched (same_class class d.class) (nat_eq name d.name))

@@ -14,7 +14,9 @@ use Rattle.at_model.specs.Rules as model
 use Rattle.at_model.proofs.Options.{both}
 use Rattle.at_jrag.specs.Syntax.{KindWord, Param, DeclForm}
 use Rattle.at_jrag.specs.Syntax as written
-use Rattle.at_typing.specs.Declaring.{attributes, is_attribute, is_inherited, result_in, params_in, name_text, class_text, is_same_kind, have_same_kinds, has_same_result, has_same_signature, has_same_start, differs, is_on_one_line, clashes, declared_twice}
+use Rattle.at_kinds.specs.declared.arguments.Arguments.{Arguments}
+use Rattle.at_kinds.specs.declared.arguments.Arguments.TheVariants.{Given, Computed}
+use Rattle.at_typing.specs.Declaring.{attributes, is_attribute, is_inherited, result_in, params_in, name_text, class_text, is_same_kind, have_same_kinds, has_same_result, has_same_signature, has_same_start, differs, disagrees, is_compared, is_on_one_line, clashes, declared_twice}
 use Rattle.at_typing.specs.Located.{Located}
 use Rattle.at_typing.specs.Ruling.{first_unless, known_kind, as_written, written_kind}
 use Rattle.at_kinds.specs.declared.signatures.WrittenKind.{WrittenKind}
@@ -102,16 +104,28 @@ off_right true b is = absurd (true≢false is)
 abbrev are_alike : Located → Located → Bool
 are_alike d e = has_same_signature d.decl.form e.decl.form && has_same_start d.decl.form e.decl.form
 
+-- inherited ones are compared, in whatever language
+inherited_compared : (allowed : Arguments) (form : DeclForm) → is_inherited form ≡ true → is_compared allowed form ≡ true
+inherited_compared Given form is = refl
+inherited_compared Computed form is = is
+
+none_differ : (a b x : Bool) → a ≡ true → b ≡ true → ((a && b) && x) ≡ false → x ≡ false
+none_differ true true x is also off = off
+none_differ true false x is also off = absurd (true≢false (sym also))
+none_differ false b x is also off = absurd (true≢false (sym is))
+
 -- two that don't clash
-no_clash_alike : (classes : Classes) (d e : Located) → is_attribute e.decl.form ≡ true → is_inherited d.decl.form ≡ true
-    → bytes_eq (name_text d) (name_text e) ≡ true → clashes classes d e ≡ false → AreWrittenAlike classes d e
-no_clash_alike classes d e declares inherits name none =
-    of_signature (signature_same (is_inherited d.decl.form) inherits (off_left (differs d.decl.form e.decl.form)
-    _ (by (is_attribute e.decl.form) declares (bytes_eq (name_text d) (name_text e)) name none)))
+no_clash_alike : (allowed : Arguments) (classes : Classes) (d e : Located) → is_attribute e.decl.form ≡ true → is_inherited d.decl.form ≡ true
+    → is_inherited e.decl.form ≡ true → bytes_eq (name_text d) (name_text e) ≡ true → clashes allowed classes d e ≡ false → AreWrittenAlike classes d e
+no_clash_alike allowed classes d e declares inherits also name none =
+    of_signature (signature_same (is_inherited d.decl.form) inherits
+    (none_differ (is_compared allowed d.decl.form) (is_compared allowed e.decl.form) (differs d.decl.form e.decl.form)
+    (inherited_compared allowed d.decl.form inherits) (inherited_compared allowed e.decl.form also)
+    (off_left (disagrees allowed d.decl.form e.decl.form) _ (by (is_attribute e.decl.form) declares (bytes_eq (name_text d) (name_text e)) name none))))
   where
     by : (a : Bool) → a ≡ true → (b : Bool) → b ≡ true
-        → ((a && b) && (differs d.decl.form e.decl.form || is_on_one_line classes (class_text d) (class_text e)))
-        ≡ false → (differs d.decl.form e.decl.form || is_on_one_line classes (class_text d) (class_text e)) ≡ false
+        → ((a && b) && (disagrees allowed d.decl.form e.decl.form || is_on_one_line classes (class_text d) (class_text e)))
+        ≡ false → (disagrees allowed d.decl.form e.decl.form || is_on_one_line classes (class_text d) (class_text e)) ≡ false
     by true is true at off = off
     by true is false at off = absurd (true≢false (sym at))
     by false is b at off = absurd (true≢false (sym is))
@@ -156,13 +170,13 @@ place_of p (y ∷ ys) n x is = by (p y) refl n is (place_of p ys)
     by true passes (suc n) is rest = let (i, at, too) = rest n x is in (suc i, at, too)
     by false passes n is rest = let (i, at, too) = rest n x is in (suc i, at, too)
 
-module _ (classes : Classes) (ds : List Located) (none : declared_twice classes ds ≡ None) where
+module _ (allowed : Arguments) (classes : Classes) (ds : List Located) (none : declared_twice allowed classes ds ≡ None) where
   -- a later one and an earlier one
   later_alike : (i j : ℕ) (d e : Located) → i < j → slice_get ds i ≡ Some e → slice_get ds j ≡ Some d
       → is_attribute d.decl.form ≡ true → is_attribute e.decl.form ≡ true → is_inherited d.decl.form ≡ true
-      → bytes_eq (name_text d) (name_text e) ≡ true → AreWrittenAlike classes d e
-  later_alike i j d e less at there declares too inherits name =
-      no_clash_alike classes d e too inherits name (none_passes (clashes classes d) ds i j e less at (no_clash classes
+      → is_inherited e.decl.form ≡ true → bytes_eq (name_text d) (name_text e) ≡ true → AreWrittenAlike classes d e
+  later_alike i j d e less at there declares too inherits also name =
+      no_clash_alike allowed classes d e too inherits also name (none_passes (clashes allowed classes d) ds i j e less at (no_clash allowed classes
       ds j d (slice_get_within ds j d there) (sym (get_or_from_slice_get ds j d d there)) none declares))
 
   turned_name : (v w : List ℕ) → bytes_eq v w ≡ true → bytes_eq w v ≡ true
@@ -178,17 +192,17 @@ module _ (classes : Classes) (ds : List Located) (none : declared_twice classes 
 
       by : (i ≡ j) ⊎ ((i < j) ⊎ (j < i)) → AreWrittenAlike classes d e
       by (inl is) = same (sym at ∙ ap (slice_get ds) is ∙ there)
-      by (inr (inl less)) = turned classes e d (later_alike i j e d less at there too declares also (turned_name (name_text d) (name_text e) name))
-      by (inr (inr more)) = later_alike j i d e more there at declares too inherits name
+      by (inr (inl less)) = turned classes e d (later_alike i j e d less at there too declares also inherits (turned_name (name_text d) (name_text e) name))
+      by (inr (inr more)) = later_alike j i d e more there at declares too inherits also name
 
 -- inherited attributes of one name have the same parameters and the same result
-pub inherited_alike : (rules : Rules) (ds : List Located) → declared_twice rules.classes ds ≡ None → AllZip (Declares rules.classes) (attributes ds) rules.attributes → AreInheritedAlike rules
-inherited_alike rules ds none zip = λ j k a b at there inherits also name.
+pub inherited_alike : (allowed : Arguments) (rules : Rules) (ds : List Located) → declared_twice allowed rules.classes ds ≡ None → AllZip (Declares rules.classes) (attributes ds) rules.attributes → AreInheritedAlike rules
+inherited_alike allowed rules ds none zip = λ j k a b at there inherits also name.
     let (d, d_at, (r, r_is, d_of)) = beside_that (Declares rules.classes) (attributes ds) rules.attributes j a zip at in
     let (e, e_at, (s, s_is, e_of)) = beside_that (Declares rules.classes) (attributes ds) rules.attributes k b zip there in
     let (m, d_there, d_declares) = place_of (λ (x : Located). is_attribute x.decl.form) ds j d d_at in
     let (n, e_there, e_declares) = place_of (λ (x : Located). is_attribute x.decl.form) ds k e e_at in
-    let alike = any_alike rules.classes ds none m n d e d_there e_there d_declares e_declares (d_of.inherits ∙ inherits) (e_of.inherits ∙ also) (ap₂ bytes_eq d_of.same_name e_of.same_name ∙ name) in (
+    let alike = any_alike allowed rules.classes ds none m n d e d_there e_there d_declares e_declares (d_of.inherits ∙ inherits) (e_of.inherits ∙ also) (ap₂ bytes_eq d_of.same_name e_of.same_name ∙ name) in (
       one_each (written_kinds rules.classes [] (params_in d.decl.form).items) a.parameters
           b.parameters (d_of.declared []).parameters
           (subst (λ ws. AllZip IsKind ws b.parameters) (sym alike.parameters) (e_of.declared []).parameters),

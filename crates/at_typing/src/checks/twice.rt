@@ -3,7 +3,7 @@
 ghost use Rattle.std.specs.Prelude.{◌≡◌, map, option_map, IfOk};
 ghost use Rattle.at_jrag.specs.Syntax.{Class};
 ghost use Rattle.at_jrag.specs.View.{decl_form_view, kind_view, kind_word_view, param_view};
-ghost use Rattle.at_typing.specs.Declaring.{declared_twice, differs, has_same_signature, has_same_start, has_same_result, have_same_kinds, is_same_kind};
+ghost use Rattle.at_typing.specs.Declaring.{declared_twice, differs, is_compared, has_same_signature, has_same_start, has_same_result, have_same_kinds, is_same_kind};
 ghost use Rattle.at_typing.specs.Numbering.{numbered_view, AreNumbered};
 ghost use Rattle.at_typing.specs.Twice.{TellsTwice};
 
@@ -15,7 +15,7 @@ use crate::located::{is_attribute, is_inherited, params_in, result_in, start_in}
 use crate::numbered::{NamedClass, Numbered};
 use at_class::ClassTable;
 use at_jrag::{DeclForm, Kind, KindWord, Param};
-use at_kinds::RuleCode;
+use at_kinds::{Arguments, RuleCode};
 use indexmap::{IndexMap, IndexSet};
 use std::alloc::{AllocError, Global};
 
@@ -23,18 +23,19 @@ use std::alloc::{AllocError, Global};
 pub fn declared_twice(
     alloc: Global,
     classes: &ClassTable,
+    arguments: Arguments,
     declared: &[Numbered],
 ) -> Result<Option<Breach>, AllocError>
     requires { AreNumbered classes.now declared.now }
-    ensures { IfOk result (λ fault. fault ≡ declared_twice classes.now (map numbered_view declared.now)) }
+    ensures { IfOk result (λ fault. fault ≡ declared_twice arguments classes.now (map numbered_view declared.now)) }
 {
     let mut before = Before::new(alloc);
     for numbered in declared {
-        let is_twice = is_twice(alloc, classes, &before, numbered)?;
+        let is_twice = is_twice(alloc, classes, arguments, &before, numbered)?;
         if is_twice {
             return Ok(Some(fault_at(RuleCode::AttributeTwice, numbered, numbered.decl.at)));
         }
-        before.add(classes, numbered)?;
+        before.add(classes, arguments, numbered)?;
     }
     Ok(None)
 }
@@ -43,12 +44,13 @@ pub fn declared_twice(
 fn is_twice(
     alloc: Global,
     classes: &ClassTable,
+    arguments: Arguments,
     before: &Before,
     numbered: &Numbered,
 ) -> Result<bool, AllocError>
-    ensures { IfOk result (TellsTwice classes.now before.now numbered.now) }
+    ensures { IfOk result (TellsTwice arguments classes.now before.now numbered.now) }
 {
-    if before.clashes(classes, numbered) {
+    if before.clashes(classes, arguments, numbered) {
         return Ok(true);
     }
     let binds = binds_twice(alloc, &numbered.decl.form)?;
@@ -57,7 +59,7 @@ fn is_twice(
 
 /// The attributes that are declared before a declaration.
 struct Before<'a> {
-    // The first declaration of each name.
+    // The first declaration of each name that is compared with others.
     first: IndexMap<usize, &'a DeclForm>,
     // Each class with each name that it declares.
     declared: IndexSet<(NamedClass, usize)>,
@@ -82,7 +84,7 @@ impl<'a> Before<'a> {
     ghost use Rattle.at_jrag.specs.View.{decl_form_view};
     ghost use Rattle.at_model.specs.Classes.{AreSound};
     ghost use Rattle.at_typing.specs.Numbering.{line};
-    ghost use Rattle.at_typing.specs.Twice.{differs_from, first_form, has_key, Adds, AreBefore, TellsClash};
+    ghost use Rattle.at_typing.specs.Twice.{differs_from, disagrees_from, first_form, has_key, Adds, AreBefore, TellsClash};
 
     fn new(alloc: Global) -> Before<'a>
         ensures first { result.first.entries ≡ [] }
@@ -97,19 +99,29 @@ impl<'a> Before<'a> {
     }
 
     /// Whether the declaration declares an attribute that can't be declared behind these.
-    fn clashes(&self, classes: &ClassTable, numbered: &Numbered) -> bool
-        ensures { TellsClash classes.now self.now numbered.now result }
+    fn clashes(&self, classes: &ClassTable, arguments: Arguments, numbered: &Numbered) -> bool
+        ensures { TellsClash arguments classes.now self.now numbered.now result }
     {
         if !is_attribute(&numbered.decl.form) {
             return false;
         }
-        if self.differs(numbered) {
+        if self.disagrees(arguments, numbered) {
             return true;
         }
         if self.above.contains(&(numbered.class, numbered.name)) {
             return true;
         }
         self.is_declared_above(classes, numbered.class, numbered.name)
+    }
+
+    /// Whether the declaration is compared with others of its name, and differs from the first of them.
+    fn disagrees(&self, arguments: Arguments, numbered: &Numbered) -> bool
+        ensures { result ≡ disagrees_from arguments (decl_form_view numbered.now.decl.now.form) (first_form self.now numbered.now.name) }
+    {
+        if !is_compared(arguments, &numbered.decl.form) {
+            return false;
+        }
+        self.differs(numbered)
     }
 
     /// Whether the name is synthesized and inherited, or inherited with other kinds or another start.
@@ -145,14 +157,19 @@ impl<'a> Before<'a> {
     }
 
     /// Adds the attribute that the declaration declares, if it declares one.
-    fn add(&mut self, classes: &ClassTable, numbered: &Numbered<'a>) -> Result<(), AllocError>
-        ensures { OnOk result (Adds classes.now numbered.now self.old self.new) }
+    fn add(
+        &mut self,
+        classes: &ClassTable,
+        arguments: Arguments,
+        numbered: &Numbered<'a>,
+    ) -> Result<(), AllocError>
+        ensures { OnOk result (Adds arguments classes.now numbered.now self.old self.new) }
     {
         let form = &numbered.decl.form;
         if !is_attribute(form) {
             return Ok(());
         }
-        note_first(&mut self.first, numbered.name, form)?;
+        note_compared(&mut self.first, arguments, numbered.name, form)?;
         insert(&mut self.declared, numbered.class, numbered.name)?;
         insert_line(&mut self.above, classes, numbered.class, numbered.name)?;
         Ok(())
@@ -162,7 +179,22 @@ impl<'a> Before<'a> {
 ghost use Rattle.std.specs.Prelude.{◌∷◌, [], OnOk};
 ghost use Rattle.at_model.specs.Classes.{AreSound};
 ghost use Rattle.at_typing.specs.Numbering.{line};
-ghost use Rattle.at_typing.specs.Twice.{InsertsKeys};
+ghost use Rattle.at_typing.specs.Twice.{InsertsKeys, NotesCompared};
+
+/// Notes the declaration as the first of its name, if it is compared with others and none is noted.
+fn note_compared<'a>(
+    first: &mut IndexMap<usize, &'a DeclForm>,
+    arguments: Arguments,
+    name: usize,
+    form: &'a DeclForm,
+) -> Result<(), AllocError>
+    ensures { OnOk result (NotesCompared arguments name (decl_form_view form.now) first.old first.new) }
+{
+    if !is_compared(arguments, form) {
+        return Ok(());
+    }
+    note_first(first, name, form)
+}
 
 /// The class with the name is one more.
 fn insert(
@@ -193,6 +225,17 @@ fn insert_line(
         next = class.parent(classes);
     }
     Ok(())
+}
+
+/// Whether the declaration is compared with others of its name: an inherited one, and each one unless what is
+/// computed may be an argument.
+fn is_compared(arguments: Arguments, form: &DeclForm) -> bool
+    ensures { result ≡ is_compared arguments (decl_form_view form.now) }
+{
+    match arguments {
+        Arguments::Given => true,
+        Arguments::Computed => is_inherited(form),
+    }
 }
 
 /// Whether of two attributes of one name one is synthesized and one inherited, or both are inherited with

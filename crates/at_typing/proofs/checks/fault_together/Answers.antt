@@ -10,7 +10,7 @@ returns-in-Some c = sym (or_here _ _ c.in-Some.fault (sym c.over_limit.ensures �
 
 pub returns : goal.returns
 returns c =
-    ok_also _ (λ fault. fault ≡ fault_together c.args.classes.now (map numbered_view c.args.declared.now)) c.equation_twice.result c.equation_twice.ensures
+    ok_also _ (λ fault. fault ≡ fault_together c.args.arguments c.args.classes.now (map numbered_view c.args.declared.now)) c.equation_twice.result c.equation_twice.ensures
     (λ fault is. is ∙ sym (
     or_next _ _ (sym c.over_limit.ensures ∙ c.in_default.is)
     ∙ or_next _ _ (sym c.in_ok-fault.ensures ∙ c.in_default-2.is)

@@ -12,7 +12,7 @@ use Rattle.at_typing.proofs.checks.twice.declared_twice.Goals as goal
 use Rattle.at_class.proofs.Firsts.{none_more, first_here, none_at_all}
 
 pub loop-numbered-init : goal.loop-numbered-init
-loop-numbered-init c = (refl, none_added c.args.classes.now c.args.declared.now _ c.new-before.ensures.first c.new-before.ensures.declared c.new-before.ensures.above)
+loop-numbered-init c = (refl, none_added c.args.arguments c.args.classes.now c.args.declared.now _ c.new-before.ensures.first c.new-before.ensures.declared c.new-before.ensures.above)
 
 pub returns-then-is_twice : goal.returns-then-is_twice
 returns-then-is_twice c =
@@ -21,9 +21,9 @@ returns-then-is_twice c =
     let d = c.numbered-item.result in
     let i = c.loop-numbered.numbered-index in
     let told = c.in_ok-is_twice.ensures (take i xs) c.loop-numbered.invariant.1 (among_before classes xs i d (omega arith) c.numbered-item.is c.requires) in
-    let test = ap (λ l. (is_attribute (numbered_view d).decl.form && list_any (clashes classes (numbered_view d)) l)
+    let test = ap (λ l. (is_attribute (numbered_view d).decl.form && list_any (clashes c.args.arguments classes (numbered_view d)) l)
     || binds_twice (numbered_view d).decl.form) (take-map numbered_view i xs) ∙ sym told ∙ c.if-is_twice.true in
-    sym (first_here (twice_at classes (map numbered_view xs)) numbered_view xs i d c.fault_at.result (omega arith)
+    sym (first_here (twice_at c.args.arguments classes (map numbered_view xs)) numbered_view xs i d c.fault_at.result (omega arith)
     c.numbered-item.is c.loop-numbered.invariant.0
     (fault_where _ code.AttributeTwice (numbered_view d) test ∙ ap Some (sym c.fault_at.ensures)))
 
@@ -36,15 +36,15 @@ loop-numbered-preserved c =
     let among = among_before classes xs i d (omega arith) c.numbered-item.is c.requires in
     let told = c.in_ok-is_twice.ensures (take i xs) c.loop-numbered.invariant.1 among in
     let none = sym told ∙ c.if-is_twice.false in
-    let test = ap (λ l. (is_attribute (numbered_view d).decl.form && list_any (clashes classes (numbered_view d)) l)
+    let test = ap (λ l. (is_attribute (numbered_view d).decl.form && list_any (clashes c.args.arguments classes (numbered_view d)) l)
     || binds_twice (numbered_view d).decl.form) (take-map numbered_view i xs) ∙ none in (
-      none_more (twice_at classes (map numbered_view xs)) numbered_view xs i d (omega arith) c.numbered-item.is
+      none_more (twice_at c.args.arguments classes (map numbered_view xs)) numbered_view xs i d (omega arith) c.numbered-item.is
           (fault_nowhere _ code.AttributeTwice (numbered_view d) test) c.loop-numbered.invariant.0,
-      one_added classes xs i d c.loop-numbered.before c.add.new.self (omega arith) c.numbered-item.is
-          c.loop-numbered.invariant.1 c.in_ok-add.ensures (fits classes (take i xs) c.loop-numbered.before d
+      one_added c.args.arguments classes xs i d c.loop-numbered.before c.add.new.self (omega arith) c.numbered-item.is
+          c.loop-numbered.invariant.1 c.in_ok-add.ensures (fits c.args.arguments classes (take i xs) c.loop-numbered.before d
           c.loop-numbered.invariant.1 among (binds_twice (numbered_view d).decl.form) none),
     )
 
 pub returns : goal.returns
-returns c = sym (none_at_all (twice_at c.args.classes.now (map numbered_view c.args.declared.now)) numbered_view
+returns c = sym (none_at_all (twice_at c.args.arguments c.args.classes.now (map numbered_view c.args.declared.now)) numbered_view
     c.args.declared.now c.loop-numbered.numbered-index (omega arith) c.loop-numbered.invariant.0)
