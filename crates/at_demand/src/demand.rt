@@ -34,6 +34,7 @@ use crate::trials::Trials;
 use at_body::{Inst, Value};
 use at_cache::{Keeper, Order};
 use at_evaluate::{Basis, Direct, Stop};
+use at_evict::Bounded;
 use at_rules::Rules;
 use at_store::{Loc, Places, Store};
 use indexmap::IndexMap;
@@ -220,25 +221,6 @@ impl<K: Keeper> Demand<K> {
         Ok(due_next(due, question.waiting.len(), self.work == before))
     }
 
-    /// Forgets what an edit touches, all of which the places name: called once the edit is decided, and before it is made. Where there is a
-    /// bound on how many entries are in memory, no more are left than that.
-    pub fn after_edit_at<F: Fn(Loc) -> bool>(
-        &mut self,
-        most: Option<usize>,
-        places: &Places<'_>,
-        touched: &F,
-    )
-        requires callable { F.IsAlwaysCallable touched.now }
-        requires named { AreNamed places.now (F.post touched.now) }
-        ensures forgets { Forgets (Says (F.post touched.now)) most
-            (state_by K.contents K.memories self.old.keeper self.old.work self.old.made)
-            (state_by K.contents K.memories self.new.keeper self.new.work self.new.made) }
-        ensures bound { IfSome most (λ m. (K.memories self.new.keeper).count ≤ m) }
-    {
-        fit(&mut self.keeper, most);
-        self.keeper.flush(places, touched);
-    }
-
     /// How many values of lazy attributes were made: found by an evaluation that ended, and put. What is kept again isn't made, with `work` all
     /// the same. It stays at the greatest number.
     pub fn made(&self) -> u64
@@ -336,8 +318,29 @@ impl<K: Keeper> Demand<K> {
     }
 }
 
+impl<K: Bounded> Demand<K> {
+    /// Forgets what an edit touches, all of which the places name: called once the edit is decided, and before it is made. Where there is a
+    /// bound on how many entries are in memory, no more are left than that.
+    pub fn after_edit_at<F: Fn(Loc) -> bool>(
+        &mut self,
+        most: Option<usize>,
+        places: &Places<'_>,
+        touched: &F,
+    )
+        requires callable { F.IsAlwaysCallable touched.now }
+        requires named { AreNamed places.now (F.post touched.now) }
+        ensures forgets { Forgets (Says (F.post touched.now)) most
+            (state_by K.contents K.memories self.old.keeper self.old.work self.old.made)
+            (state_by K.contents K.memories self.new.keeper self.new.work self.new.made) }
+        ensures bound { IfSome most (λ m. (K.memories self.new.keeper).count ≤ m) }
+    {
+        fit(&mut self.keeper, most);
+        self.keeper.flush(places, touched);
+    }
+}
+
 // Where there is a bound, no more entries are left in memory than that.
-fn fit<K: Keeper>(keeper: &mut K, most: Option<usize>)
+fn fit<K: Bounded>(keeper: &mut K, most: Option<usize>)
     ensures kept { LeavesKept (K.contents keeper.old) (K.contents keeper.new) }
     ensures stay { StayTraced (K.memories keeper.old) (K.memories keeper.new) }
     ensures within { is_over most (K.memories keeper.old).count ≡ false → keeper.new ≡ keeper.old }
