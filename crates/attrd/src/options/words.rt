@@ -125,7 +125,7 @@ const WORDS: &[Word] = &[
         most: 1,
         value: "WORDS",
         parser: ValueParser::NonEmptyString,
-        help: "Which forms of aspects are read that are left out else, between commas [possible values: circular, jastadd]",
+        help: "Which more forms of aspects are read, between commas [possible values: circular, jastadd]",
     },
     Word {
         name: "cut-off",
