@@ -181,7 +181,8 @@ class OfStatements(unittest.TestCase):
     def test_hover(self) -> None:
         self.assertEqual(self.told("names.jrag", "f : get"), "Function f")
         self.assertEqual(self.told("names.jrag", "Param p"), "Param ::= IdDecl;")
-        self.assertEqual(self.told("names.jrag", "getParamList", 0), "Function ::= Param*\nParam getParam(int)\nint getNumParam()\nParam* getParamList()")
+        self.assertEqual(self.told("names.jrag", "getParamList", 0),
+                         "Function ::= Param*\nParam getParam(int)\nint getNumParam()\nParam* getParamList()\nParam* getParams()")
         self.assertEqual(self.told("functions.jrag", "f.reaches", 0), "Function f")
         self.assertIn("syn boolean Function.reaches(Function to)", self.told("functions.jrag", "reaches(to)", 0))
 

@@ -146,6 +146,67 @@ class OneRun(unittest.TestCase):
             self.assertIn(part, found[0].hint, body)
 
 
+class OfAnyNode(unittest.TestCase):
+    """What is told of ASTNode, as a class and as a kind, and of the root, which has no node above it."""
+
+    def told(self, text, forms):
+        return [(it.code, it.column, it.section, f"{it.message} {it.hint}")
+                for it in check(GRAMMAR, [CALC, Source("x.jrag", f"aspect A {{ {text} }}")], PROGRAM, forms).findings]
+
+    def test_a_kind_that_is_asked_before_it_is_declared(self):
+        """It is told where it is declared, and not where it is asked, unless that is the first fault, which the program tells there."""
+        text = "inh ASTNode ASTNode.prev(); eq Program.getChild().prev() = null;"
+        found = self.told(f"import java.util.Set; syn int Num.a() = prev().b() + 1; syn int ASTNode.b() = 1; {text}", "jastadd")
+        self.assertEqual([(code, of) for code, _, of, _ in found], [("J10", section(1)), ("J3", section(2))])
+        found = self.told(f"syn int Num.a() = prev().b() + 1; syn int ASTNode.b() = 1; {text}", "jastadd")
+        self.assertEqual([(code, of) for code, _, of, _ in found], [("J3", section(2)), ("J3", section(2))])
+        self.assertIn("prev has the kind ASTNode, and no such class is declared", found[0][3])
+
+    def test_the_root_has_none_above(self):
+        text = "inh Stmt ASTNode.prev(); eq Program.getChild().prev() = null; syn int ASTNode.b() = prev() == null ? 0 : 1;"
+        (code, _, of, said), = self.told(text, "jastadd")
+        self.assertEqual((code, of), ("J3", section(2)))
+        self.assertIn("The class of the root, Program, has no prev", said)
+        self.assertIn("Give the class of the root an equation of its own", said)
+        self.assertEqual(self.told(f"{text} eq Program.b() = 0;", "jastadd"), [])
+        found = self.told("inh Program ASTNode.all(); eq Program.getChild().all() = this;", "")
+        self.assertEqual([(code, of) for code, _, of, _ in found], [("J8", section(2)), ("J3", section(2))])
+        self.assertIn("declare it for each of the other classes", found[0][3])
+
+    def test_what_is_called_and_not_its_argument(self):
+        found = self.told("syn int Block.a() = getChild(getNumChild() - 1).b();", "")
+        self.assertEqual([(code, of) for code, _, of, _ in found], [("J3", section(3))] * 2)
+        self.assertIn("no attribute or accessor getChild.", found[0][3])
+        self.assertIn("no attribute or accessor getNumChild.", found[1][3])
+
+
+class Loops(unittest.TestCase):
+    def told(self, text):
+        found = check(GRAMMAR, [CALC, Source("x.jrag", f"aspect A {{ {text} }}")], PROGRAM, "jastadd").findings
+        return [(it.code, it.section, f"{it.message} {it.hint}") for it in found]
+
+    def test_over_what_is_no_list(self):
+        body = "{ for (Stmt s : over()) if (s.declares(\"x\")) return true; return false; }"
+        for kind, number, part in (("Stmt", 5, "and this is a Stmt. Have it go over a list of the tree"),
+                                   ("Set<Stmt>", 1, "and this is a Set<Stmt>. A set is the question whether something is in it")):
+            found = [it for it in self.told(f"syn boolean Block.any() {body} syn {kind} Block.over() = null;") if it[0] == "J4"]
+            self.assertEqual([of for _, of, _ in found], [section(number)], kind)
+            self.assertIn("A loop goes over a list of the tree", found[0][2])
+            self.assertIn(part, found[0][2])
+
+    def test_several_is_a_list(self):
+        """The elements of `getStmts()` have the class of the list's, and a body isn't told to ask what isn't there."""
+        found = self.told("syn boolean Block.any() { for (Stmt s : getStmts()) if (s.nix()) return true; return false; }")
+        self.assertEqual([code for code, _, _ in found], ["J3"])
+        self.assertIn("Stmt has no attribute or accessor nix", found[0][2])
+        found = self.told("syn int Block.n() { int n = 0; for (Stmt s : getStmts()) n++; return n; }")
+        self.assertEqual([(code, of) for code, of, _ in found], [("J10", section(5))])
+        self.assertNotIn("no such accessor", found[0][2])
+        self.assertIn("Count by `sum (s : getSList()) { e }`", found[0][2])
+        found = self.told("syn int Block.n() { int i = 0; while (i < 3) i++; return i; }")
+        self.assertIn("A loop becomes a recursion from node to node", found[0][2])
+
+
 class Circular(unittest.TestCase):
     def told(self, text, forms="circular"):
         return check(GRAMMAR, [CALC, Source("x.jrag", f"aspect A {{ {text} }}")], PROGRAM, forms).findings

@@ -84,7 +84,7 @@ EVERYWHERE = """aspect A {
   inh P ASTNode.p();
   eq P.getS().p() = this;
   syn P U.q() = p();
-  syn P P.r() = p(); //: J3/0
+  syn P P.r() = p(); //: J3/2
 }
 """
 

@@ -76,6 +76,9 @@ class Advice:
             return None
         if refused.code in ("J3", "J4", "J5"):
             expression = refused.expression or _smallest(it, refused.offset)
+            loop = self.hints.loop(refused, it)
+            if loop is not None:
+                return self._of_loop(loop, it)
             return self._of_head(refused, it, word) if expression is None else self._of_expression(refused.code, expression, it)
         return self._of_declaration(refused, it)
 
@@ -177,7 +180,26 @@ class Advice:
         if expression.form in (Form.CAST, Form.INSTANCE) and word not in self.specification.classes:
             return f"There is no class {word}. {self._near(word, self.specification.classes)}".strip()
         unknown = [made for made in calls if code == "J3" and self._is_unknown(made, it)]
+        unknown.sort(key=lambda made: made.start != expression.start)
+        if code == "J3" and calls and not unknown:
+            return self._of_far(calls, it)
         return self._of_call(code, (unknown or calls[-1:])[0], it) if calls else None
+
+    def _of_far(self, calls: List[Expression], it: Declaration) -> Optional[str]:
+        """What is said of calls of attributes each of which is declared: one has a kind that isn't there, or is none of the root's."""
+        for call in calls:
+            if self.hints.is_missed_at_root(call, it):
+                return f"The class of the root, {self.specification.grammar.start}, has no {call.word.text}: no node stands above it."
+            known = self.hints.attribute_of(call, it)
+            kind = None if known is None else known.declaration.kind
+            if kind is not None and kind.text in NODES:
+                return f"{call.word.text} has the kind {kind.text}, and no such class is declared."
+        return None
+
+    def _of_loop(self, among: Expression, it: Declaration) -> str:
+        """What is said of a loop over what is no list of the tree."""
+        kind = self.specification.kind_of(among, it)
+        return f"A loop goes over a list of the tree, as `getStmtList()`{f', and this is {_article(kind)}' if kind else ''}."
 
     def _of_unbound(self, name: Expression, it: Declaration) -> str:
         """What is said of a name that is none: with a call behind it that of a class of Java, or `super`."""

@@ -9,8 +9,8 @@ from ..grammar import Shape
 from .aspect_tree import Declaration, Expression, Form, Piece
 from .mending import Refused
 from .specification import NODES, Placed, Specification, is_java_kind
-from .ways import (COMPUTED, FIFTH, FORMS, JAVA_TYPES, NAMES, NO_VALUE, NUMBERS, OF_JAVA, OF_SETS, OTHER_KIND, OTHERWISE, OVERLOADED, OVERRIDDEN,
-                   TOO_MANY, TWO_FORMS, TWO_TYPES, Way, way_of_body)
+from .ways import (AT_ROOT, BELOW_ROOT, COMPUTED, FIFTH, FORMS, JAVA_TYPES, NAMES, NO_VALUE, NUMBERS, OF_JAVA, OF_LISTS, OF_SETS,
+                   OTHER_KIND, OTHERWISE, OVERLOADED, OVERRIDDEN, TOO_MANY, TWO_FORMS, TWO_TYPES, Way, way_of_body)
 
 _SEVERAL = re.compile(r"get(\w+)s")
 _OPTIONAL = re.compile(r"get(\w+)Opt")
@@ -40,11 +40,14 @@ class Hints:
             return self._of_form(refused, text) or self._of_word(refused, text, word) or otherwise
         if it is None:
             return otherwise
-        found = {"J2": self._of_twice, "J12": self._of_name}.get(refused.code)
+        found = {"J2": self._of_twice, "J8": self._of_root, "J12": self._of_name}.get(refused.code)
         if found is not None:
             return found(it) or otherwise
         if refused.code == "J4" and word == "}":
             return NO_VALUE
+        among = self.loop(refused, it)
+        if among is not None:
+            return OF_SETS if is_java_kind(self.specification.kind_of(among, it) or "") else OF_LISTS
         if refused.code in ("J3", "J4", "J5"):
             made = refused.expression or self._smallest(refused, it)
             return (self._of_head(refused, it, word) if made is None else self._of_expression(refused.code, made, it)) or otherwise
@@ -133,7 +136,21 @@ class Hints:
         if expression.form in (Form.CAST, Form.INSTANCE) and expression.word.text in NODES:
             return NAMES[expression.word.text]
         ways = [self._of_accessor(made.word.text, self.specification.receiver_kind(made, it)) for made in calls]
-        return next((way for way in ways if way is not None), None)
+        return next((way for way in ways if way is not None), None) or self._of_far(calls, it)
+
+    def _of_far(self, calls: List[Expression], it: Declaration) -> Optional[Way]:
+        """What helps where an attribute that is asked has a kind that isn't there, or is none of the root's."""
+        for call in calls:
+            if self.is_missed_at_root(call, it):
+                return AT_ROOT
+            known = self.attribute_of(call, it)
+            kind = None if known is None else known.declaration.kind
+            if kind is not None and kind.text in NODES:
+                return NAMES[kind.text]
+        return None
+
+    def _of_root(self, it: Declaration) -> Optional[Way]:
+        return BELOW_ROOT if it.of is not None and it.of.text in NODES and not self.specification.is_everywhere(it) else None
 
     def _of_accessor(self, name: str, of: Optional[str]) -> Optional[Way]:
         """What helps where an accessor of JastAdd2 is asked that isn't there; of a class, where that is known."""
@@ -193,6 +210,26 @@ class Hints:
         """The sum in which an expression stands in front of a text; itself where it stands in none."""
         return next((made for made in it.made if made.form is Form.BINARY and made.word.text == "+" and made.parts[0] is expression
                      and self.specification.kind_of(made.parts[1], it) == "String"), expression)
+
+    def attribute_of(self, call: Expression, it: Declaration) -> Optional[Placed]:
+        """The attribute that a call asks, where the class of its receiver is known."""
+        of = self.specification.receiver_kind(call, it)
+        return None if of is None else self.specification.attribute(of, call.word.text)
+
+    def is_missed_at_root(self, call: Expression, it: Declaration) -> bool:
+        """Whether a call asks the node itself for an inherited attribute of ASTNode, which isn't declared for the class of the root, where
+        the declaration is for that class, too."""
+        grammar = self.specification.grammar
+        if call.receiver is not None or it.of is None or not (it.of.text in NODES or grammar.is_below(grammar.start, it.of.text)):
+            return False
+        return any(known.declaration.form == "inh" and self.specification.is_everywhere(known.declaration)
+                   for known in self.specification.named(call.word.text))
+
+    def loop(self, refused: Refused, it: Declaration) -> Optional[Expression]:
+        """What a loop goes over that is refused since that is no list of the tree; None where it is one, or where no loop is refused."""
+        folds = [made for made in (it.body.all() if it.body is not None and refused.code == "J4" else ()) if made.form is Form.FOLD]
+        among = next((fold.parts[0] for fold in folds if fold.word.at == refused.offset and fold not in it.made), None)
+        return None if among is None or (self.specification.kind_of(among, it) or "").endswith("*") else among
 
     def is_of_java(self, made: Expression, it: Declaration) -> bool:
         """Whether it is a call of a value whose type is one of Java."""

@@ -98,6 +98,9 @@ class Mending:
             return Refused(refusal.file, refusal.code, refusal.name, offset, it, None, False, it.sort)
         if refusal.code == "J9" and self._put_any_node(it):
             return Refused(refusal.file, refusal.code, refusal.name, offset, it, None, True)
+        of_any = self._put_any_kind(refusal, offset, it)
+        if of_any is not None:
+            return of_any
         before = set(self.tainted)
         told = self._key(refusal, offset)
         expression = self._mend(refusal, offset, it)
@@ -296,6 +299,23 @@ class Mending:
             self._waiting.append(Refused(file, "J3", "unknown name", other.of.at, other, None, False))
             return True
         return False
+
+    def _put_any_kind(self, refusal: Refusal, offset: int, it: Declaration) -> Optional[Refused]:
+        """Puts right that the value of an attribute has ASTNode or its like as its kind, where that attribute is asked further up in the
+        text; the fault of its kind, which is the cause. None where there is none, or where the program tells no fault before."""
+        if refusal.code != "J3" or offset < it.parameters_end or self._is_first:
+            return None
+        asked = {call.word.text for made in it.made if made.start == offset for call in made.all() if call.form is Form.CALL}
+        for name in sorted(asked):
+            for placed in self.specification.named(name):
+                other, file = placed.declaration, self.names.index(placed.file)
+                kind = other.kind
+                if kind is None or kind.text not in NODES or other.form not in ("syn", "inh"):
+                    continue
+                if self.patched[file].is_free(kind.at, kind.end):
+                    self.patched[file].put(kind.at, kind.end, ANY_NODE)
+                    return Refused(file, "J3", "unknown name", kind.at, other, None, False)
+        return None
 
     def _put_parameters(self, file: int, it: Declaration, offset: int) -> None:
         """Gives a declaration parameters that may stand there: those of the attribute to an equation, else a String in the place of the one

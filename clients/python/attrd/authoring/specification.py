@@ -128,6 +128,8 @@ class Specification:
             if part.shape is Shape.LIST:
                 yield f"getNum{part.name}", Accessor(owner, part, "int")
                 yield f"get{part.name}List", Accessor(owner, part, part.kind + "*")
+                if "jastadd" in self.forms:
+                    yield f"get{part.name}s", Accessor(owner, part, part.kind + "*")
             elif part.shape is Shape.OPTIONAL:
                 yield f"has{part.name}", Accessor(owner, part, "boolean")
 

@@ -103,6 +103,9 @@ COMPUTED = Way("A String argument is a token, a parameter or a text that is writ
 OF_JAVA = Way("Java can't be called: what takes a library is computed by the client, which puts the result into the tree as a token.", 1)
 OF_SETS = Way("A set is the question whether something is in it: have the attribute take the element as its argument, and answer a "
               "boolean.", 1)
+OF_LISTS = Way("Have it go over a list of the tree; what isn't in one is asked for by a recursion from node to node.", 5)
+AT_ROOT = Way("Give the class of the root an equation of its own, which asks for nothing from above.", 2)
+BELOW_ROOT = Way("The root has no node above it: declare it for each of the other classes, and not for that of the root.", 2)
 NO_VALUE = Way("The end of the body can be reached: have each way through it end in a `return`.", 5)
 # What helps where bodies of statements are read.
 IN_JASTADD: Dict[str, Way] = {
@@ -120,11 +123,10 @@ def section(number: int) -> str:
 
 def way_of_body(sort: str, text: str, is_java: bool = False) -> Optional[Way]:
     """What helps where a body of statements begins with one of this sort, and goes on with others; None where it is no statement. Of
-    JastAdd's own language it is what helps with the first one that isn't read."""
+    JastAdd's own language an `if` needs none further on: it is read there."""
     if sort not in ("if", "return", "for", "while", "local", "statement", "empty"):
         return None
-    if is_java:
-        return IN_JASTADD.get(sort, FORMS[sort])
-    further = ["if" if it == "switch" else it for it in _STATEMENT.findall(text)]
-    hints: List[str] = list(dict.fromkeys(FORMS[it].hint for it in (sort, *further)))
-    return Way(" ".join(hints), FORMS[sort].section)
+    known = {**FORMS, **IN_JASTADD} if is_java else FORMS
+    further = ["if" if it == "switch" else it for it in _STATEMENT.findall(text) if not (is_java and it == "if")]
+    hints: List[str] = list(dict.fromkeys(known[it].hint for it in (sort, *further)))
+    return Way(" ".join(hints), known[sort].section)
