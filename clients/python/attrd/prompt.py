@@ -29,6 +29,7 @@ that were pasted with it.
   mark NAME PLACE                      unmark NAME         where NAME
   why PLACE ATTRIBUTE(ARGUMENTS)       the equation of a value, and what it asked; then 'why 2' goes on with the second of these
   faults     all faults (with --faults ATTRIBUTE)     help     this     quit     the end"""
+GREETING = "'help' shows what can be typed, 'quit' ends."
 COMMANDS = ("ask", "show", "set", "put", "drop", "insert", "token", "move", "mark", "unmark", "where", "version", "post", "wait")
 SHAPES = {"put": Shape.OPTIONAL, "insert": Shape.LIST, "move": Shape.LIST, "token": Shape.TOKEN}
 _REPLY = re.compile(r"(\d+|\?) (ok \d+|= .*|fault .*|circular .*|refused \d+ .*|memory|open \d+|done .*)\Z")
@@ -217,6 +218,8 @@ class Prompt:
         """Answers lines until their end, or `quit`; the status."""
         is_typed = lines is None and sys.stdin.isatty()
         history = _with_readline(self.completion) if is_typed else None
+        if is_typed:
+            print(GREETING, flush=True)
         try:
             while True:
                 typed = _next_line("attrd> " if is_typed else "", lines)

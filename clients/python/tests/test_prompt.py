@@ -1,12 +1,13 @@
 """The prompt."""
 import os
+import pty
 import subprocess
 import sys
 import unittest
 from pathlib import Path as FilePath
 
 from at_length import at_length
-from attrd.prompt import Prompt
+from attrd.prompt import GREETING, Prompt
 from support import CALCULATOR, PROGRAM, SAMPLES
 
 FILES = [str(CALCULATOR / it) for it in ("calc.ast", "tree.txt", "calc.jrag")]
@@ -57,6 +58,19 @@ class Process(unittest.TestCase):
         done = subprocess.run([sys.executable, "-m", "attrd", "--program", PROGRAM, *words], input=typed.encode(), stdout=subprocess.PIPE,
                               stderr=subprocess.PIPE, env=environment, timeout=100)
         return done.returncode, done.stdout.decode(), done.stderr.decode()
+
+    def test_at_a_terminal(self):
+        """What can be typed is said before anything is."""
+        above, below = pty.openpty()
+        environment = {**os.environ, "PYTHONPATH": str(FilePath(__file__).resolve().parent.parent), "HOME": os.devnull, "TERM": "dumb"}
+        done = subprocess.Popen([sys.executable, "-m", "attrd", "--program", PROGRAM, *FILES], stdin=below, stdout=subprocess.PIPE,
+                                stderr=subprocess.DEVNULL, env=environment)
+        os.write(above, b"version\nquit\n")
+        told = done.communicate(timeout=100)[0].decode()
+        self.assertEqual((done.returncode, told.splitlines()[0]), (0, GREETING))
+        self.assertIn("0 ok 0", told)
+        os.close(above)
+        os.close(below)
 
     def test_pasted_from_the_manual(self):
         typed = "$ attrd calc.ast tree.txt calc.jrag\n> 0 version\n0 ok 0\n> 0 drop /Block/Stmt:0\n0 ok 1\nquit\n> 0 version\n"
