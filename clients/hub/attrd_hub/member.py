@@ -8,7 +8,7 @@ if TYPE_CHECKING:
     from .client import Client
     from .hub import Hub, Sink
 
-# The program forgets a mark whose node goes, and tells nobody. So when the names that came since the last time take so many bytes, and
+# The program removes a mark whose node goes, and tells nobody. So when the names that came since the last time take so many bytes, and
 # more than all those that were right then, it is asked which of them are still there.
 SWEPT = 1 << 16
 # What a name takes beside its bytes.
@@ -78,7 +78,7 @@ class Member:
         return self.is_sweeping and self._fresh > 2 * max(SWEPT, self._right)
 
     def _sweep(self) -> None:
-        """Has the program tell which marks are still there: the names of the others are forgotten."""
+        """Has the program tell which marks are still there: the names of the others are removed."""
         self.is_sweeping = True
         self._fresh = self._right = 0
         for session, marks in self._marks.items():

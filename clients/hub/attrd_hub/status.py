@@ -35,7 +35,7 @@ FIGURES = {
     "seconds": ("seconds since the start", ""), "journal_edits": ("edits in the journal", ""),
     "journal_bytes": ("bytes of the journal", ""),
     "hub_memory": ("memory of the hub", "KiB"), "program_memory": ("memory of the program", "KiB"),
-    "kept": ("kept values", "(no command of the program tells them)"),
+    "kept": ("cached values", "(no command of the program tells them)"),
 }
 
 

@@ -133,7 +133,7 @@ def mark(name: str, place: Place) -> str:
 
 
 def unmark(name: str) -> str:
-    """Forgets a name."""
+    """Removes a name."""
     return f"unmark {name_text(name)}"
 
 

@@ -76,7 +76,7 @@ class Document:
         return mark
 
     def unmark(self, name: str) -> None:
-        """Forgets a mark of this document; one that it hasn't is passed over."""
+        """Removes a mark of this document; one that it hasn't is passed over."""
         self._places.pop(name, None)
         mark = self._marks.pop(name, None)
         if mark is not None:

@@ -71,6 +71,8 @@ def _named(text: str, at: int, reason: str) -> TextFault:
         return TextFault(at, f"{kind} stands {where}")
     if sign in (" ", "\t"):
         return TextFault(at, f"a {'blank' if sign == ' ' else 'tab'} stands {where}")
+    if at == len(text) or text[at:] == "\n":
+        return TextFault(at, f"the file ends before the term does: {reason}")
     if sign == "\n" and reason == BEHIND:
         second = text[at + 1:at + 2] == "\n"
         return TextFault(at + 1, "a second newline stands behind the term" if second else "there is more behind the newline at the end")

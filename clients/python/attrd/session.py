@@ -17,7 +17,7 @@ if TYPE_CHECKING:
 
 
 class Mark:
-    """A marked node. The mark is forgotten on the server when this object is let go of, or at `release`.
+    """A marked node. The mark is removed on the server when this object is let go of, or at `release`.
 
     It follows its node when that moves. When the node is replaced or removed, lines with it are refused: Code.MARK.
     """
@@ -51,7 +51,7 @@ class Mark:
         return True
 
     def release(self) -> None:
-        """Forgets the mark now. A second time does nothing."""
+        """Removes the mark now. A second time does nothing."""
         self._end()
 
     def __enter__(self) -> Mark:
@@ -112,7 +112,7 @@ class Session:
         self._count = 0
 
     def send(self, command: str, at: Optional[int] = None) -> Pending:
-        """Sends a command (see `attrd.commands`), and doesn't wait. Marks that were let go of are forgotten first."""
+        """Sends a command (see `attrd.commands`), and doesn't wait. Marks that were let go of are removed first."""
         self._forget_marks()
         return self.connection.send(self.number, command, at)
 
@@ -222,7 +222,7 @@ class Session:
         raise ProtocolFault(f"{reply} is no reply to a post")
 
     def close(self) -> None:
-        """Forgets the marks that this session made here, and lets another session have its number."""
+        """Removes the marks that this session made here, and lets another session have its number."""
         self._let_go.extend(self._marks)
         self._marks.clear()
         if self.connection.lost is None:

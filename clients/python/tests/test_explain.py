@@ -72,6 +72,8 @@ class Explained(unittest.TestCase):
             (term.replace("[", "[\t"), 1, 16, "a tab stands within the term"),
             (term.replace("[", "[\n"), 1, 16, "a newline stands within the term"),
             ("", 1, 1, "the file is empty"),
+            (term[:-1] + "\n", 1, 34, "the file ends before the term does: neither , nor a closing sign"),
+            (term[:-2], 1, 33, "the file ends before the term does: neither , nor a closing sign"),
         ]
         for tree, line, column, reason in cases:
             with self.subTest(reason):
