@@ -10,6 +10,8 @@ LINK = re.compile(r"\]\(([^)\s]+)\)")
 FENCED = re.compile(r"^```.*?^```$", re.M | re.S)
 # An entry of DECISIONS: what it is about, and its three parts.
 DECISION = re.compile(r"^- \*\*.+?\*\*.* \*Chosen:\* .+ \*Instead of:\* .+ \*Because:\* .+\.$")
+# How many lines a page has at most that is read from its first line to its last.
+LENGTHS = {"README.md": 130, "docs/PERFORMANCE.md": 170, "docs/DECISIONS.md": 160, "docs/PROVED.md": 120, "docs/PROOFS.md": 250}
 
 # What PROVED names that stands in no crate.
 NOT_OF_CRATES = {"core", "tools", "program", "py", "clap", "strsim", "unicode_ident", "thiserror", "itoa", "memchr", "slab", "smallvec",
@@ -67,6 +69,17 @@ class Forms(unittest.TestCase):
         for entry in entries:
             with self.subTest(entry[:60]):
                 self.assertRegex(entry, DECISION)
+
+    def test_pages_that_are_read_whole_stay_short(self) -> None:
+        """So many lines at most; what a page grows by goes out of it elsewhere, or to the page where it is looked up."""
+        for page, most in LENGTHS.items():
+            with self.subTest(page):
+                self.assertLessEqual(len((ROOT / page).read_text(encoding="utf-8").splitlines()), most)
+
+    def test_each_change_is_a_line(self) -> None:
+        lines = (ROOT / "CHANGELOG.md").read_text(encoding="utf-8").splitlines()[3:]
+        self.assertEqual([it for it in lines if it and not it.startswith(("- ", "## "))], [])
+        self.assertEqual([it for it in lines if len(it) > 350], [])
 
     def test_each_promise_names_its_contract(self) -> None:
         lines = (ROOT / "docs/PROVED.md").read_text(encoding="utf-8").splitlines()
