@@ -92,7 +92,7 @@ class Language:
     source: str = "attrd"
     """What diagnostics are said to come from."""
     forms: str = ""
-    """Which forms of aspects are read that are left out else, with commas between them: `circular`, or `jastadd`."""
+    """The features of JastAdd that are switched on in aspects, with commas between them: `circular`, or `jastadd`."""
     again: Mapping[str, Callable[[str], Parsed]] = field(default_factory=dict)
     """Classes of phrases whose text may be read by itself, each with what reads it. That is asked where a key changes the text between
     the first and the last character of such a phrase. Where it answers a phrase of that class for all of the text, and no fault, all

@@ -22,7 +22,7 @@ from .versions import VersionWarning, misfit
 # How many values a program that runs long keeps, by `--keep`: six for each node of the largest tree that it takes without `--nodes`.
 KEPT, KEPT_A_NODE = 400_000, 6
 HELP_SECONDS = 30.0
-FORMS_HELP = "which forms of aspects are read that are left out else, with commas between them: `circular`, or `jastadd` for all that is read of "\
+FORMS_HELP = "switches on features of JastAdd in aspects, with commas between them: `circular`, or `jastadd` for all that is read of "\
              "JastAdd's own language"
 _VERSION = re.compile(r"attrd (\S+)\s*\Z")
 _OPTION = re.compile(r"--[a-z]+(?:-[a-z]+)*")
@@ -136,7 +136,7 @@ def _told(program: str, word: str) -> str:
 
 
 def gathering_options(known: FrozenSet[str]) -> List[str]:
-    """The option by which a program sends the replies to lines that come together on together, where it knows it."""
+    """The option by which a program answers lines that arrived in one read by a single write, where it knows it."""
     return ["--gather"] if "--gather" in known else []
 
 
@@ -151,8 +151,8 @@ def sizing_options(known: FrozenSet[str], nodes: int = MOST_NODES) -> List[str]:
 
 
 def forms_options(forms: str) -> List[str]:
-    """The option by which these forms of aspects are read, which are left out else: words with commas between them, as `circular` or
-    `jastadd`; none where there are none."""
+    """The option that switches on these features of JastAdd in aspects: words with commas between them, as `circular` or `jastadd`; none
+    where there are none."""
     return ["--forms", forms] if forms else []
 
 

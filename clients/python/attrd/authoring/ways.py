@@ -55,8 +55,8 @@ FORMS: Dict[str, Way] = {
     "reserved": Way("The word is reserved here, as it begins a fold: give the attribute another name, wherever it stands.", 15),
     "index": Way("Name the list: `eq Block.getStmt(int i).a() = i;`, an equation for each; `getChild()` is for all components, and has no "
                  "index.", 15),
-    "circular": Way("A boolean one is read with `--forms circular`. Else ask along a tree, or count steps: an attribute with a node as its "
-                    "counter goes one step further for each element of a list.", 14),
+    "circular": Way("A boolean one is read with `--forms circular`. Another one asks along a tree, or counts its rounds: give it a "
+                    "parameter that is a node of a list, and have it ask itself with the next node, which ends with the list.", 14),
     "circular kind": Way("With `--forms circular` a boolean attribute is read. Have it take the element as its argument, and answer "
                          "whether it belongs to the set: `syn boolean Rule.begins(String sign) circular [false]`.", 14),
     "circular start": Way("It starts from a constant: `circular [false]` or `circular [true]`.", 14),
