@@ -11,6 +11,10 @@ TESTED := $(or $(PROGRAM),$(if $(wildcard attrd),./attrd,$(QUICK)))
 FIRST := samples/sum
 PAGES += $(FIRST)
 
+# What is said behind the session: the page that goes on, and the line that starts the prompt with this program.
+go_on = echo "docs/TUTORIAL.md goes on from here. A prompt for lines of your own:"; \
+	echo "  cd $(FIRST) && PYTHONPATH=../../clients/python python3 -m attrd --program ../../$(1) sum.ast tree.txt sum.jrag"
+
 .PHONY: help run try quick build install package warm check edits counts test examples program clients starve tries bench tools python crate tested
 
 # What there is, and how long it takes on two cores.
@@ -44,7 +48,7 @@ help:
 # The session of README's language, each line with its reply below it: by ./attrd where it was built, else by the quick program.
 # Whether ./attrd is proved is known by its record, attrd.proved (tools/proved.py).
 run: python
-	@if [ -x attrd ]; then python3 -B -m tools.proved tell ./attrd; python3 -B -m tools.show_session ./attrd $(FIRST); \
+	@if [ -x attrd ]; then python3 -B -m tools.proved tell ./attrd; python3 -B -m tools.show_session ./attrd $(FIRST) && { $(call go_on,attrd); }; \
 	else $(MAKE) --no-print-directory try; fi
 
 # The gate: the counts, the tests of the tools, every proof (see tools/gate.py), the tests, the programs, the must-fail edits; and
@@ -71,8 +75,7 @@ try: tools python
 	@python3 -B -m tools.quick_program
 	@echo "$(QUICK) isn't proved (make build makes the proved program, ./attrd); it stays there. It answers, in $(FIRST):"
 	@python3 -B -m tools.show_session $(QUICK) $(FIRST)
-	@echo "docs/TUTORIAL.md goes on from here. A prompt for lines of your own:"
-	@echo "  cd $(FIRST) && PYTHONPATH=../../clients/python python3 -m attrd --program ../../$(QUICK) sum.ast tree.txt sum.jrag"
+	@$(call go_on,$(QUICK))
 
 # The proved program, as ./attrd, with its record. It may run meanwhile.
 build: tools python
