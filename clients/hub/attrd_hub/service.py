@@ -231,13 +231,14 @@ class Service:
         hub, now = self.hub, self.loop.now
         answered = hub.answered
         is_idle = answered >= self._sent
-        if is_idle and answered < self.ready.until:
-            self.meter.mark()
+        if is_idle:
+            # Before the program has them: else it may have answered by then, where the system puts this process aside for it.
+            self._answered = self.clock()
+            if answered < self.ready.until:
+                self.meter.mark()
         if self.program.send(hub.lines()):
             self.at_once = 0
             self._await_room()
-        if is_idle:
-            self._answered = self.clock()
         self._sent = answered + hub.in_flight
         if now >= self.pace.next:
             self.pace.begin(answered, hub.in_flight, now)

@@ -19,13 +19,15 @@ class Machine:
     """How the machine is: which part of a processor the program has, in slices, and how often something stops, for how long.
 
     `noise` is by how much the time of a line differs. `stops` are how many lines lie between two stops of the program, `lates` how many
-    turns of the hub between two stops of it, both on average, and each is `pause` seconds long.
+    turns of the hub between two stops of it, both on average, and each is `pause` seconds long. `asides` are how often it hands lines on
+    until the program has the hub's processor for a slice, as soon as it has them.
     """
 
     noise: float = 0.2
     share: float = 1.0
     stops: int = 0
     lates: int = 0
+    asides: int = 0
     pause: float = 0.1
 
 
@@ -51,10 +53,12 @@ class Program:
         self.now = self._free = self._ran = self._waited = self._counted = self._since = 0.0
         self._next: Optional[Tuple[float, float, float]] = None
         self._version = 0
+        self.on_lines: Callable[[], None] = lambda: None
 
     def send(self, data: bytes) -> None:
         """Takes lines."""
         self._lines.extend((self.now, it) for it in data.splitlines())
+        self.on_lines()
 
     def _begin(self) -> Tuple[float, float, float]:
         """When the next line is answered, for how long it runs, and for how long it waits for a processor."""
@@ -179,6 +183,12 @@ class Simulation:
         self.ahead = ahead
         # For how long the hub is held up in its turn, beside its own work.
         self.held_up = 0.0
+        self.program.on_lines = self._put_aside
+
+    def _put_aside(self) -> None:
+        """The program has lines: now and then it has the hub's processor for them."""
+        if self.machine.asides and self.chance.random() < 1.0 / self.machine.asides:
+            self.held_up += SLICE
 
     def _send(self) -> None:
         """Has each client send what it has to: so many lines are ahead of its replies."""

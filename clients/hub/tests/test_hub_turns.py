@@ -61,8 +61,13 @@ class Equal(unittest.TestCase):
     def test_a_hub_that_stops_at_random(self) -> None:
         self.check(Machine(lates=50))
 
+    def test_a_hub_that_is_put_aside_for_the_program(self) -> None:
+        """Then it has replies when it goes on, and their lines took no less for that."""
+        for cost in (1e-3, 3e-3):
+            self.assertLess(self.ratio(cost, Machine(asides=2), 1, 20), 2.0, cost)
+
     def test_all_of_it(self) -> None:
-        self.check(Machine(noise=0.4, share=0.3, stops=100, lates=100))
+        self.check(Machine(noise=0.4, share=0.3, stops=100, lates=100, asides=10))
 
     def test_an_unfair_hub_is_found(self) -> None:
         """One that goes by the clock."""
