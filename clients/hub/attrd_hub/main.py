@@ -4,6 +4,8 @@ from __future__ import annotations
 import argparse
 import json
 import math
+import os
+import re
 import resource
 import sys
 import traceback
@@ -23,7 +25,7 @@ from .prometheus import as_prometheus, up
 from .service import Service
 from .settings import Settings
 from .sockets import read_token
-from .status import as_text, asked
+from .status import as_text, asked, status_path
 from .telling import Level, log
 
 # The statuses. Behind REFUSED, WORDS and UNFIT the unit starts nothing again: a new start would end in the same way.
@@ -35,10 +37,16 @@ OWN_FILES = 64
 
 
 def _mode(word: str) -> int:
-    mode = int(word, 8)
-    if not 0 < mode <= 0o777:
-        raise ValueError
-    return mode
+    if not re.fullmatch("[0-7]{1,4}", word) or not 0 < int(word, 8) <= 0o777:
+        raise argparse.ArgumentTypeError(f"{word!r} is no mode as 660")
+    return int(word, 8)
+
+
+def _path(word: str) -> str:
+    # As by a variable of a shell that isn't set: to the system it is another place.
+    if not word:
+        raise argparse.ArgumentTypeError("the path is empty")
+    return word
 
 
 def _count(word: str) -> int:
@@ -54,7 +62,10 @@ def _port(word: str) -> int:
 
 
 def _seconds(word: str) -> float:
-    seconds = float(word)
+    try:
+        seconds = float(word)
+    except ValueError:
+        seconds = math.nan
     if not 0.0 < seconds < math.inf:
         raise argparse.ArgumentTypeError(f"{word!r} is no time above 0")
     return seconds
@@ -65,14 +76,14 @@ def options() -> argparse.ArgumentParser:
     reader = argparse.ArgumentParser(prog="attrd-hub", description="Serves one attribute tree server to many clients at once, and keeps "
                                      "the edits that it has accepted.")
     reader.add_argument("files", metavar="FILE", nargs="*", help="the grammar, the tree, and one aspect or more")
-    reader.add_argument("--socket", metavar="PATH", help="where clients connect; the hub's figures are told at PATH.status")
+    reader.add_argument("--socket", metavar="PATH", type=_path, help="where clients connect; the hub's figures are told at PATH.status")
     reader.add_argument("--mode", metavar="MODE", type=_mode, default=0o660, help="who may connect, as chmod spells it (660)")
     reader.add_argument("--group", metavar="NAME", help="the group of the socket (that of the process)")
-    reader.add_argument("--read-only-socket", metavar="PATH", help="where clients connect that may ask alone: neither edit nor mark")
+    reader.add_argument("--read-only-socket", metavar="PATH", type=_path, help="where clients connect that may ask alone: neither edit nor mark")
     reader.add_argument("--read-only-mode", metavar="MODE", type=_mode, help="who may connect there (as --mode)")
     reader.add_argument("--tcp", metavar="PORT", type=_port, help="also serves this port of 127.0.0.1, to clients with the token")
     reader.add_argument("--token", metavar="FILE", help="the file with the token: the first line of each client of --tcp")
-    reader.add_argument("--state", metavar="FOLDER", help="where accepted edits are kept; without it they end with the program")
+    reader.add_argument("--state", metavar="FOLDER", type=_path, help="where accepted edits are kept; without it they end with the program")
     reader.add_argument("--sync", choices=SYNCS, default="each",
                         help="when edits are made safe against a crash of the machine (%(default)s)")
     reader.add_argument("--clients", metavar="N", type=_count, default=1_000, help="how many clients at once (%(default)s)")
@@ -171,13 +182,24 @@ def _read(words: Optional[List[str]]) -> argparse.Namespace:
             given = reader.parse_args(["--check", *words_of(given.language)])
         except AttrdError as fault:
             reader.error(str(fault))
+    _look_at(given, reader)
+    return given
+
+
+def _look_at(given: argparse.Namespace, reader: argparse.ArgumentParser) -> None:
+    """Looks at what goes with what. Ends the process with status 2 where that is wrong."""
     if given.status == PROMETHEUS and given.socket is None:
         reader.error(f"--status={PROMETHEUS} needs --socket")
     if given.status is None and ((given.socket is None and not given.check) or len(given.files) < 3):
         reader.error("--socket and three files or more are needed: GRAMMAR TREE ASPECT..")
     if (given.tcp is None) != (given.token is None):
         reader.error("--tcp and --token are given together")
-    return given
+    if given.read_only_mode is not None and given.read_only_socket is None:
+        reader.error("--read-only-mode is given with --read-only-socket")
+    if given.socket is not None and given.read_only_socket is not None:
+        others = map(os.path.abspath, (given.socket, status_path(given.socket)))
+        if os.path.abspath(given.read_only_socket) in others:
+            reader.error("--read-only-socket is another path than --socket, and than that of its figures")
 
 
 def main(words: Optional[List[str]] = None) -> int:

@@ -522,10 +522,10 @@ class Gone(Case):
 
 class ReadOnly(Case):
     def test_who_may_ask_alone(self) -> None:
-        hub = self.hub("--sync", "never", "--read-only-mode", "604")
+        hub = self.hub("--sync", "never")
         hub.kill(signal.SIGTERM)
         path = str(hub.folder / "readers")
-        hub.words += ("--read-only-socket", path)
+        hub.words += ("--read-only-socket", path, "--read-only-mode", "604")
         hub.start()
         self.assertEqual(stat.S_IMODE(os.stat(path).st_mode), 0o604)
         reader, writer = Lines(path), hub.client()

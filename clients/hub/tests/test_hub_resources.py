@@ -1,6 +1,7 @@
 """What the system has no more of: a disk, threads, descriptors, events. None of it ends the hub for good, spins, or floods its log."""
 from __future__ import annotations
 
+import io
 import os
 import re
 import socket
@@ -9,6 +10,7 @@ import sys
 import tempfile
 import time
 import unittest
+from contextlib import redirect_stderr
 from pathlib import Path
 from typing import Any, Callable, List, Tuple
 from unittest import mock
@@ -249,14 +251,34 @@ class Words(unittest.TestCase):
     def test_numbers_that_are_none(self) -> None:
         refused: List[Tuple[str, str]] = [
             ("--clients", "0"), ("--clients", "-1"), ("--clients", "many"), ("--half", "nan"), ("--half", "0"), ("--half", "-1"),
-            ("--half", "inf"), ("--half", "soon"), ("--tcp", "0"), ("--tcp", "65536"), ("--tcp", "-1")]
+            ("--half", "inf"), ("--half", "soon"), ("--tcp", "0"), ("--tcp", "65536"), ("--tcp", "-1"), ("--mode", "999"), ("--mode", "0"),
+            ("--mode", "rw"), ("--read-only-mode", "1777")]
         read: Callable[..., Any] = attrd_hub.main.options().parse_args
         for option, word in refused:
-            with mock.patch("sys.stderr"), self.assertRaises(SystemExit, msg=f"{option} {word}") as ended:
-                read([f"{option}={word}"])
-            self.assertEqual(ended.exception.code, 2)
+            self.assertIn(f"argument {option}: {word!r} is no ", self.refused(read, f"{option}={word}"))
         given = read(["--clients", "1", "--half", "0.5", "--tcp", "65535"])
         self.assertEqual((given.clients, given.half, given.tcp), (1, 0.5, 65535))
+
+    def refused(self, read: Callable[..., Any], *words: str) -> str:
+        """What is told of words that are refused."""
+        with redirect_stderr(io.StringIO()) as told, self.assertRaises(SystemExit, msg=str(words)) as ended:
+            read(list(words))
+        self.assertEqual(ended.exception.code, 2)
+        return told.getvalue()
+
+    def test_paths_that_are_none(self) -> None:
+        """To the system an empty path is another place: a socket without a name, or the folder that the process is in."""
+        for option in ("--socket", "--read-only-socket", "--state"):
+            self.assertIn(f"argument {option}: the path is empty", self.refused(attrd_hub.main.options().parse_args, option, ""))
+
+    def test_words_that_don_t_go_together(self) -> None:
+        """They stay so: else the unit would start it again each second."""
+        files = ["calc.ast", "tree.txt", "calc.jrag"]
+        for words, part in ((["--socket", "/a/s", "--read-only-socket", "/a/b/../s"], "is another path than --socket"),
+                            (["--socket", "s", "--read-only-socket", "s.status"], "is another path than --socket"),
+                            (["--socket", "s", "--read-only-mode", "666"], "--read-only-mode is given with --read-only-socket")):
+            for more in ([], ["--check"]):
+                self.assertIn(part, self.refused(attrd_hub.main.main, *more, *words, *files))
 
 
 if __name__ == "__main__":

@@ -323,7 +323,7 @@ class Words(unittest.TestCase):
         for words, wanted, part in (
                 (self.files[:2], 2, "three files or more"), (["--tcp", "1", *self.files], 2, "given together"),
                 (["--tcp", "1", "--token", str(self.folder / "token"), *self.files], 3, "16 bytes or more"),
-                (["--mode", "9", *self.files], 2, "invalid _mode value"), (["--group", "no-such-group", *self.files], 3, "no socket"),
+                (["--mode", "9", *self.files], 2, "no mode as 660"), (["--group", "no-such-group", *self.files], 3, "no socket"),
                 (["nosuch.ast", *self.files[1:]], 3, "nosuch.ast: read fault"), (["--slice", "0", *self.files], 2, "--slice")):
             status, told = self.refused(*words)
             self.assertEqual(status, wanted, told)
