@@ -127,6 +127,9 @@ def as_text(figures: Dict[str, Figure]) -> str:
     lines = []
     for key, (name, unit) in FIGURES.items():
         value = figures.get(key)
-        told = "not known" if value is None else f"{value:,}" if isinstance(value, (int, float)) else str(value)
+        told = f"{value:,}" if isinstance(value, (int, float)) else str(value)
+        if value is None:
+            # What isn't known has no unit; but why it isn't known is told.
+            told, unit = "not known", unit if unit.startswith("(") else ""
         lines.append(f"{name:34}{told} {unit}".rstrip())
     return "\n".join(lines)

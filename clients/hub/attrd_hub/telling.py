@@ -26,11 +26,18 @@ def shown(line: bytes) -> str:
     return "".join(it if it.isprintable() else "\ufffd" for it in text) + (" .." if len(line) > SHOWN else "")
 
 
+def is_journal(file: int) -> bool:
+    """Whether this is the stream to the system's journal that systemd has named, by its device and its number: what a service starts has
+    that name, too, also where it writes elsewhere."""
+    found = os.fstat(file)
+    return os.environ.get("JOURNAL_STREAM") == f"{found.st_dev}:{found.st_ino}"
+
+
 def log(level: Level, text: str) -> None:
     """Writes lines on standard error: each with its level where that is the system's journal, which adds the time, and else with the
     time."""
-    head = f"<{level.value}>" if "JOURNAL_STREAM" in os.environ else time.strftime("%Y-%m-%dT%H:%M:%S%z ")
     try:
+        head = f"<{level.value}>" if is_journal(sys.stderr.fileno()) else time.strftime("%Y-%m-%dT%H:%M:%S%z ")
         # Not by `print`: what can't be written would be tried again at the end of Python, which then ends with a status of its own.
         os.write(sys.stderr.fileno(), "".join(f"{head}{it}\n" for it in text.splitlines()).encode("utf-8", "replace"))
     except (OSError, ValueError, AttributeError):

@@ -12,7 +12,7 @@ import time
 import unittest
 from contextlib import redirect_stderr
 from pathlib import Path
-from typing import Dict, List, Tuple
+from typing import Callable, Dict, List, Tuple
 from unittest import mock
 
 from at_length import at_length
@@ -22,7 +22,7 @@ import attrd_hub.language
 import attrd_hub.main
 from attrd_hub.prometheus import as_prometheus
 from attrd_hub.records import head, record
-from attrd_hub.status import BOUNDS, Counts, Waits
+from attrd_hub.status import BOUNDS, Counts, Waits, as_text
 from attrd_hub.telling import Level, log, shown
 
 VERSION = (CLIENTS.parent / "VERSION").read_text("utf-8").strip()
@@ -141,6 +141,12 @@ class Figures(unittest.TestCase):
         self.assertIn('attrd_hub_tree_version{socket="a\\"b\\\\c\\nd"} 7\n', text)
         metrics(text)
 
+    def test_a_figure_that_isn_t_known_has_no_unit(self) -> None:
+        lines = as_text({"wait_median": None, "wait_longest": 1.5, "hub_memory": None}).splitlines()
+        self.assertIn("wait of a line, median            not known", lines)
+        self.assertIn("wait of a line, longest           1.5 ms", lines)
+        self.assertIn("kept values                       not known (no command of the program tells them)", lines)
+
 
 class Counting(unittest.TestCase):
     def test_refusals_of_a_block(self) -> None:
@@ -208,26 +214,31 @@ class Editors(unittest.TestCase):
 
 
 class Logs(unittest.TestCase):
-    def told(self, environment: "dict[str, str]") -> List[str]:
-        with mock.patch.dict(os.environ, environment), tempfile.TemporaryFile("w+") as lines, redirect_stderr(lines):
-            if not environment:
-                os.environ.pop("JOURNAL_STREAM", None)
+    def told(self, journal: "Callable[[str], str] | None") -> List[str]:
+        """What is told on a stream of this number, where this is what systemd says of its journal's."""
+        with mock.patch.dict(os.environ), tempfile.TemporaryFile("w+") as lines, redirect_stderr(lines):
+            os.environ.pop("JOURNAL_STREAM", None)
+            if journal is not None:
+                found = os.fstat(lines.fileno())
+                os.environ["JOURNAL_STREAM"] = journal(f"{found.st_dev}:{found.st_ino}")
             log(Level.WARNING, "one\ntwo")
             lines.seek(0)
             return lines.read().splitlines()
 
     def test_times_where_the_system_s_journal_has_none(self) -> None:
+        """Also where it names another stream: as to what a terminal starts that is a service itself, or where a unit has a file of its own."""
         before = time.time()
-        lines = self.told({})
-        for line, text in zip(lines, ("one", "two")):
-            told, _, rest = line.partition(" ")
-            self.assertEqual(rest, text)
-            self.assertLess(abs(time.mktime(time.strptime(told[:19], "%Y-%m-%dT%H:%M:%S")) - before), 60.0)
-            self.assertRegex(told[19:], r"^[+-][0-9]{4}$")
-        self.assertEqual(len(lines), 2)
+        for journal in (None, lambda number: number + "7", lambda _: "8:1234"):
+            lines = self.told(journal)
+            for line, text in zip(lines, ("one", "two")):
+                told, _, rest = line.partition(" ")
+                self.assertEqual(rest, text)
+                self.assertLess(abs(time.mktime(time.strptime(told[:19], "%Y-%m-%dT%H:%M:%S")) - before), 60.0)
+                self.assertRegex(told[19:], r"^[+-][0-9]{4}$")
+            self.assertEqual(len(lines), 2)
 
     def test_the_system_s_journal_gets_levels(self) -> None:
-        self.assertEqual(self.told({"JOURNAL_STREAM": "8:1234"}), ["<4>one", "<4>two"])
+        self.assertEqual(self.told(lambda number: number), ["<4>one", "<4>two"])
 
 
 class Checks(unittest.TestCase):
