@@ -15,6 +15,8 @@ from attrd.versions import VERSION, misfit
 from .folder import State, StateFault, read_folder
 from .program import Program, Unfit
 from .settings import Settings
+from .sockets import PATH_BYTES, ServerThere, is_left_over
+from .status import status_path
 
 SERVES, FAULT, LEAVES_OUT, UNFIT = 0, 3, 4, 5
 # A hub that runs writes on: where its folder can't be read, or ends within an edit, it is read so often, and so many seconds apart.
@@ -36,15 +38,16 @@ def is_held(folder: Path) -> bool:
 class Check:
     """Looks at what a start by these settings would read, and tells each finding in a line: `ok:`, `warning:` or `fault:`."""
 
-    def __init__(self, settings: Settings, tell: Tell = print) -> None:
-        self.settings, self._tell = settings, tell
+    def __init__(self, settings: Settings, tell: Tell = print, makes_folder: bool = False) -> None:
+        """`makes_folder` tells whether who starts the hub makes the socket's folder before."""
+        self.settings, self._tell, self._makes_folder = settings, tell, makes_folder
         self.status = SERVES
 
     def run(self) -> int:
         """The status: 0 where a start would serve all that was accepted, and 4 where it would leave edits out; else that with which
         it would end."""
         self._look_at_program()
-        self._look_at_socket()
+        self._look_at_sockets()
         state = self._read_state() if self.settings.state is not None else None
         if self.status in (SERVES, LEAVES_OUT):
             self._try(state)
@@ -64,16 +67,38 @@ class Check:
         warning = misfit(version)
         self._tell(f"warning: {program}: {warning}" if warning else f"ok: {program} and the hub have version {VERSION}")
 
-    def _look_at_socket(self) -> None:
-        group = self.settings.group
-        for path in (self.settings.socket, self.settings.read_only_socket):
-            if path and os.path.lexists(path) and not stat.S_ISSOCK(os.lstat(path).st_mode):
-                self._fault(f"{path}: it is there already, and no socket")
+    def _look_at_sockets(self) -> None:
+        path, readers, group = self.settings.socket, self.settings.read_only_socket, self.settings.group
+        for it in (path, path and status_path(path), readers):
+            if it:
+                self._look_at_place(it)
         try:
             if group is not None:
                 grp.getgrnam(group)
         except KeyError:
             self._fault(f"{group}: there is no such group")
+
+    def _look_at_place(self, path: str) -> None:
+        """Whether a socket can be made there, as far as that can be seen. One that answers is that of the hub that has the state."""
+        folder = os.path.dirname(path) or os.curdir
+        if len(os.fsencode(path)) > PATH_BYTES:
+            self._fault(f"{path}: the path of a socket has {PATH_BYTES} bytes at most")
+        elif not os.path.isdir(folder) and not self._makes_folder:
+            self._fault(f"{path}: there is no folder {folder}")
+        elif os.path.lexists(path):
+            self._look_at_file(path)
+
+    def _look_at_file(self, path: str) -> None:
+        state = self.settings.state
+        is_ours = stat.S_ISSOCK(os.lstat(path).st_mode) and state is not None and is_held(Path(state))
+        try:
+            if not is_ours:
+                is_left_over(path)
+        except ServerThere as fault:
+            # Not a fault: without a state, and on some file systems, nobody knows whose it is.
+            self._tell(f"warning: {fault}: no start succeeds before its end")
+        except AttrdError as fault:
+            self._fault(str(fault))
 
     def _read_state(self) -> Optional[State]:
         """What the state has; None where it has nothing, or what no start goes on from."""

@@ -148,7 +148,7 @@ def _check(given: argparse.Namespace) -> int:
     except AttrdError as fault:
         print(f"fault: {fault}")
         return LOST
-    return Check(settings).run()
+    return Check(settings, makes_folder=given.language is not None).run()
 
 
 def _places(wanted: int) -> int:
@@ -179,7 +179,7 @@ def _read(words: Optional[List[str]]) -> argparse.Namespace:
         reader.error("--language is given with --check")
     if given.language is not None:
         try:
-            given = reader.parse_args(["--check", *words_of(given.language)])
+            given = reader.parse_args(["--check", "--language", given.language, *words_of(given.language)])
         except AttrdError as fault:
             reader.error(str(fault))
     _look_at(given, reader)

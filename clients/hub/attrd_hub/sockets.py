@@ -13,10 +13,17 @@ from attrd import AttrdError
 BACKLOG = 1_024
 HOST = "127.0.0.1"
 SHORTEST_TOKEN = 16
+# The system takes no longer path for a socket.
+PATH_BYTES = 107
 
 
-def _is_left_over(path: str) -> bool:
-    """Whether there is the file of a socket on which nobody answers. Raises AttrdError where somebody does, or it is another file."""
+class ServerThere(AttrdError):
+    """Another server answers at the socket's path."""
+
+
+def is_left_over(path: str) -> bool:
+    """Whether there is the file of a socket on which nobody answers. Raises ServerThere where somebody does, and AttrdError where it
+    is another file."""
     try:
         if not stat.S_ISSOCK(os.lstat(path).st_mode):
             raise AttrdError(f"{path}: it is there already, and no socket")
@@ -33,7 +40,7 @@ def _is_left_over(path: str) -> bool:
             pass
         except OSError as fault:
             raise AttrdError(f"{path}: {fault.strerror}") from None
-    raise AttrdError(f"{path}: another server answers there")
+    raise ServerThere(f"{path}: another server answers there")
 
 
 def file_at(path: str) -> Optional[Tuple[int, int]]:
@@ -50,7 +57,7 @@ def listen_at(path: str, mode: int, group: Optional[str]) -> socket.socket:
     stream = socket.socket(socket.AF_UNIX, socket.SOCK_STREAM)
     mask = os.umask(0o777 & ~mode)
     try:
-        if _is_left_over(path):
+        if is_left_over(path):
             os.unlink(path)
         stream.bind(path)
         if group is not None:

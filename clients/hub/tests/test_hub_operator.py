@@ -20,6 +20,7 @@ from hub_support import CLIENTS, ENVIRONMENT, SECONDS, Hub, calculator, program,
 
 import attrd_hub.language
 import attrd_hub.main
+from attrd_hub.checking import Check
 from attrd_hub.prometheus import as_prometheus
 from attrd_hub.records import head, record
 from attrd_hub.status import BOUNDS, Counts, Waits, as_text
@@ -226,7 +227,7 @@ class Logs(unittest.TestCase):
             return lines.read().splitlines()
 
     def test_times_where_the_system_s_journal_has_none(self) -> None:
-        """Also where it names another stream: as to what a terminal starts that is a service itself, or where a unit has a file of its own."""
+        """Also where another stream is named: to what a terminal starts that is a service, or where a unit writes its errors to a file."""
         before = time.time()
         for journal in (None, lambda number: number + "7", lambda _: "8:1234"):
             lines = self.told(journal)
@@ -337,12 +338,26 @@ class Checks(unittest.TestCase):
             self.assertEqual(status, 1, told)
             self.assertFalse(state.exists())
 
+    def test_a_socket_at_which_another_server_answers(self) -> None:
+        """It may be the one that is to be started again; that of the hub that has the state is so, and isn't told."""
+        told = f"warning: {self.hub.socket}: another server answers there: no start succeeds before its end"
+        self.assertNotIn(told, self.check("--socket", self.hub.socket)[1])
+        with tempfile.TemporaryDirectory() as name:
+            files = list(map(str, self.hub.files))
+            status, lines = run_hub("--check", "--socket", self.hub.socket, "--state", str(Path(name) / "state"), *files)
+            self.assertEqual(status, 0, lines)
+            self.assertIn(told, lines.splitlines())
+        self.hub.kill()
+        self.assertNotIn(told, self.check("--socket", self.hub.socket)[1])
+
     @at_length
     def test_other_words(self) -> None:
         for words, wanted, part in (
                 (["--group", "no-such-group"], 3, "no-such-group: there is no such group"),
                 (["--program", "/nowhere/attrd"], 3, "/nowhere"), (["--socket", str(self.hub.files[0])], 3, "no socket"),
                 (["--read-only-socket", str(self.hub.files[0])], 3, "no socket"),
+                (["--socket", "/nowhere/s"], 3, "there is no folder /nowhere"),
+                (["--socket", f"/tmp/{'x' * 98}"], 3, "the path of a socket has 107 bytes at most"),
                 (["--tcp", "1", "--token", "/nowhere/token"], 3, "/nowhere/token")):
             status, lines = self.check(*words)
             self.assertEqual(status, wanted, lines)
@@ -368,6 +383,23 @@ class Languages(unittest.TestCase):
                 with mock.patch("sys.stderr"), self.assertRaises(SystemExit) as ended:
                     attrd_hub.main.main(["--check", "--language", "typo"])
                 self.assertEqual(ended.exception.code, 2)
+
+    @at_length
+    def test_a_socket_s_folder_is_made_by_the_unit(self) -> None:
+        """So a check before it is started misses none; of what else is started it does."""
+        before = os.getcwd()
+        self.addCleanup(os.chdir, before)
+        with tempfile.TemporaryDirectory() as name:
+            folder = Path(name) / "calc"
+            folder.mkdir()
+            words = ["--check", "--program", program(), "--socket", f"{name}/run/calc/socket", *map(str, calculator(folder))]
+            (folder / "files").write_text("FILES=calc.ast tree.txt calc.jrag\n", "utf-8")
+            places = {"FOLDER": name + "/{}", "STATE": name + "/state/{}", "SOCKET": name + "/run/{}/socket", "PROGRAM": program()}
+            told: List[str] = []
+            with mock.patch.multiple(attrd_hub.language, **places), \
+                    mock.patch("attrd_hub.main.Check", lambda settings, **named: Check(settings, told.append, **named)):
+                self.assertEqual(attrd_hub.main.main(["--check", "--language", "calc"]), 0, told)
+                self.assertEqual(attrd_hub.main.main(words), 3)
 
     def test_they_are_those_of_the_unit(self) -> None:
         unit = (CLIENTS.parent / "tools" / "package" / "attrd-hub@.service").read_text("utf-8")
