@@ -17,10 +17,15 @@ import time
 import unittest
 from pathlib import Path
 from typing import Callable, Dict, List, Optional
+from unittest import mock
 
 from at_length import at_length
 from hub_support import SECONDS, Hub, Lines, until
 
+from attrd_hub.callers import PLACES, Callers
+from attrd_hub.client import Client
+from attrd_hub.service import Service
+from attrd_hub.settings import Settings
 from attrd_hub.status import asked
 
 MEGABYTE = 1 << 20
@@ -419,6 +424,22 @@ class Unread(Case):
         # A megabyte for each, or one reply, and what is under way.
         self.assertLess(int(figures["unread"] or 0), min(300 * MEGABYTE, others * (MEGABYTE + 2 * length)), told)
 
+    def test_how_much_one_client_leaves(self) -> None:
+        """A mebibyte at most, and with short replies those under way: behind it the next question isn't begun."""
+        length, short = 400_000, 4_020
+        hub = self.wide(length, "--nodes", "100000")
+        quiet = Lines(hub.socket)
+        self.addCleanup(quiet.close)
+        for line, least, most in ((b"0 show /\n", MEGABYTE - length, MEGABYTE),
+                                  (b"0 show /Block/Stmt:1\n", MEGABYTE, MEGABYTE + 8 * short)):
+            with connected(hub.socket) as client:
+                client.sendall(line * 1_000)
+                until(lambda least=least: int(asked(hub.socket)["unread"] or 0) >= least, "that it leaves as much as it may")
+                for _ in range(20):
+                    self.assertTrue(quiet.ask("0 show /Block/Stmt:0").startswith("0 = "))
+                self.assertLess(int(asked(hub.socket)["unread"] or 0), most)
+            until(lambda: asked(hub.socket)["clients"] == 1, "that the client is gone")
+
     @at_length
     def test_four_hundred_kilobytes(self) -> None:
         self.beside(400_000, 100)
@@ -428,7 +449,60 @@ class Unread(Case):
         self.beside(4_000_000, 30)
 
 
+class InAll(unittest.TestCase):
+    """What all clients together leave unread."""
+
+    def setUp(self) -> None:
+        self.service = Service(Settings("", [], [], ""))
+        self.addCleanup(self.service.loop.close)
+        self.told: List[str] = []
+        for place, value in (("room.UNREAD_IN_ALL", MEGABYTE), ("service.UNREAD_IN_ALL", MEGABYTE),
+                             ("service.log", lambda _, text: self.told.append(text))):
+            patch = mock.patch(f"attrd_hub.{place}", value)
+            patch.start()
+            self.addCleanup(patch.stop)
+
+    def client(self) -> Client:
+        """One whose other side reads nothing."""
+        ours, theirs = socket.socketpair()
+        ours.setsockopt(socket.SOL_SOCKET, socket.SO_SNDBUF, 1)
+        self.addCleanup(theirs.close)
+        client = Client(self.service, ours)
+        self.addCleanup(client.end)
+        self.service.clients.add(client)
+        return client
+
+    def test_who_goes_where_there_is_no_room(self) -> None:
+        """Of those with most bytes, or half as many, the one that has read nothing for longest: the others stay."""
+        clients = [self.client() for _ in range(4)]
+        for client, kilobytes in zip(clients, (600, 400, 500, 100)):
+            client._write(b"x" * (kilobytes << 10))
+            client.flush()
+        for client, drained in zip(clients, (30.0, 20.0, 10.0, 0.0)):
+            client.drained = drained
+        self.service._tell()
+        self.assertEqual([it.is_ended for it in clients], [False, True, True, False])
+        self.assertEqual(self.told, ["a client is let go of: it doesn't read its replies"] * 2)
+        self.assertLess(self.service.room.unread, MEGABYTE)
+
+    def test_where_there_is_room_all_stay(self) -> None:
+        clients = [self.client() for _ in range(3)]
+        for client in clients:
+            client._write(b"x" * (MEGABYTE // 4))
+        self.service._tell()
+        self.assertEqual([it.is_ended for it in clients], [False] * 3)
+
+
 class Places(Case):
+    def test_the_oldest_without_a_token_goes_for_one_more(self) -> None:
+        callers = Callers()
+        clients = [mock.Mock() for _ in range(PLACES + 1)]
+        self.assertEqual([callers.add(it) for it in clients], [None] * PLACES + clients[:1])
+        self.assertTrue(callers.remove(clients[0]))
+        self.assertTrue(callers.remove(clients[5]))
+        self.assertIsNone(callers.add(mock.Mock()))
+        self.assertIs(callers.add(mock.Mock()), clients[1])
+
     def test_who_sends_no_token_takes_no_place_of_others(self) -> None:
         with tempfile.TemporaryDirectory() as folder, socket.socket() as free:
             (Path(folder) / "token").write_text("0123456789abcdef\n")
