@@ -47,14 +47,14 @@ def _write_new(path: Path, data: bytes, flags: int = os.O_TRUNC) -> None:
 class Journal:
     """Writes the edits. `sync` says when they are made safe against a crash of the machine: with each edit, each second, or never.
 
-    `version` is that of the last edit, `edits` and `bytes` count what stands in the journals since the last whole term.
-    `pending` are the edits that `commit` is to write.
+    `version` is that of the last edit, `written` that of the last one that stands in the journal; `edits` and `bytes` count what
+    stands in the journals since the last whole term. `pending` are the edits that `commit` is to write.
     """
 
     def __init__(self, folder: Path, sync: str) -> None:
         """Takes the folder for itself, until `close`. Raises JournalFault."""
         self.folder, self.sync = folder, sync
-        self.version = self.edits = self.bytes = 0
+        self.version = self.written = self.edits = self.bytes = 0
         self.pending: List[bytes] = []
         self._file = -1
         self._base = 0
@@ -112,7 +112,8 @@ class Journal:
             self._drop(state)
         except OSError as fault:
             raise _fault(self.folder, fault) from None
-        self.version, self.edits = state.version, len(state.commands)
+        self.version = self.written = state.version
+        self.edits = len(state.commands)
 
     def _write_file(self, path: Path, data: bytes) -> None:
         """Writes a file anew: it is there as a whole, or not at all. Raises OSError."""
@@ -173,6 +174,7 @@ class Journal:
         self.pending.clear()
         try:
             write_all(self._file, data)
+            self.written = self.version
             self.bytes += len(data)
             self._is_synced = False
             if self.sync == "each":
@@ -233,11 +235,10 @@ class Journal:
         try:
             if self.sync != "never":
                 self._make_safe()
-            self._end_file()
-            self.edits = self.bytes = 0
-            self._go_on(self.folder / f"journal-{base}", base, 0)
         except OSError as fault:
             raise _fault(self.folder, fault) from None
+        if not self._begin_next(base):
+            return
         writing = threading.Thread(target=self._write_term, args=(base, term + b"\n"), daemon=True)
         try:
             writing.start()
@@ -245,6 +246,24 @@ class Journal:
             self.term_fault = f"{self.folder}: the term of version {base} can't be written: {fault}"
             return
         self._writing = writing
+
+    def _begin_next(self, base: int) -> bool:
+        """Begins the journal behind this version; whether it has begun. Where the system has no room or no descriptor for it, edits go on
+        behind those before, and `term_fault` tells why."""
+        path, before, self._file = self.folder / f"journal-{base}", self._file, -1
+        self.edits = self.bytes = 0
+        try:
+            self._go_on(path, base, 0)
+        except OSError as fault:
+            self._end_file()
+            with suppress(OSError):
+                os.unlink(path)
+            # It is tried again when there are as many edits more.
+            self._file, self.bytes = before, 0
+            self.term_fault = f"{self.folder}: the term of version {base} can't be written: {fault.strerror}"
+            return False
+        os.close(before)
+        return True
 
     def _write_term(self, base: int, term: bytes) -> None:
         """Writes the term, and removes the files before it. Where it can't be written all stays as it is, and `term_fault` tells why."""

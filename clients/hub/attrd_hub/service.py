@@ -529,7 +529,9 @@ class Service:
             client.end()
         self._forget_program()
         if has_served:
-            log(Level.INFO, f"the service ends at version {self.hub.version}, after {self.counts.lines} lines, {self.counts.edits} edits")
+            # An edit that couldn't be written had no reply, and may not be there at the next start.
+            version = self.hub.version if self.journal is None else self.journal.written
+            log(Level.INFO, f"the service ends at version {version}, after {self.counts.lines} lines, {self.counts.edits} edits")
         if self.journal is not None:
             self.journal.close()
             self._tell_term_fault(self.journal)

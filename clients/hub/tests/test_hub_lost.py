@@ -13,6 +13,7 @@ from __future__ import annotations
 import errno
 import os
 import random
+import re
 import select
 import signal
 import socket
@@ -182,6 +183,9 @@ class Lost(unittest.TestCase):
         found = read_journal((folder / "state" / "journal-0").read_bytes(), 0)
         missing = [it for it, command in told.items() if command not in found.commands[it - 1:it]]
         self.assertEqual(missing, [], f"{len(told)} were told, {len(found.commands)} are there")
+        # What is told at the end, where it wasn't killed, is there at the next start; of edits without a reply more may be there.
+        for version in re.findall(r"the service ends at version (\d+)", (folder / "log").read_text()):
+            self.assertTrue(max(told, default=0) <= int(version) <= len(found.commands), (version, len(found.commands)))
         with child(folder, None) as hub:
             self.assertTrue(hub, (folder / "log").read_text())
             self.assertEqual(replies(folder, ["version"]), [f"ok {len(found.commands)}"])

@@ -226,6 +226,29 @@ class Folders(unittest.TestCase):
         self.assertEqual((state.base, state.commands, state.told), (0, EDITS[:2], []))
 
 
+    def test_a_next_journal_that_can_t_be_begun(self) -> None:
+        """Edits go on behind those before, and the same is tried again only when there are as many more."""
+        for place, fault in (("journal.write_all", OSError(28, "No space left on device")),
+                             ("journal.os.open", OSError(23, "Too many open files in system")),
+                             ("journal.os.fsync", OSError(5, "Input/output error"))):
+            journal = Journal(self.folder, "each")
+            journal.open(self.tree)
+            journal.append(1, EDITS[0])
+            journal.commit()
+            with mock.patch(f"attrd_hub.{place}", side_effect=fault):
+                journal.renew(b"B()")
+            self.assertEqual(journal.term_fault, f"{self.folder}: the term of version 1 can't be written: {fault.strerror}")
+            self.assertEqual((journal.edits, journal.bytes), (0, 0))
+            journal.append(2, EDITS[1])
+            journal.commit()
+            journal.close()
+            self.assertEqual(sorted(self.files()), ["journal-0", "lock", "tree-0.sum", "tree-0.txt"])
+            state = read_folder(self.folder)
+            assert state is not None
+            self.assertEqual((state.base, state.commands, state.told), (0, EDITS[:2], []))
+            shutil.rmtree(self.folder)
+
+
 class Starts(unittest.TestCase):
     @at_length
     def test_a_tree_that_is_refused_can_be_corrected(self) -> None:
