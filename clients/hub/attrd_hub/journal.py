@@ -66,6 +66,8 @@ class Journal:
         try:
             folder.mkdir(mode=0o700, parents=True, exist_ok=True)
             self._lock = os.open(folder / "lock", os.O_RDWR | os.O_CREAT | os.O_CLOEXEC, 0o600)
+        except FileExistsError:
+            raise JournalFault(f"{folder}: it is a file, and no folder") from None
         except OSError as fault:
             raise _fault(folder, fault) from None
         try:

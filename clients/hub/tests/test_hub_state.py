@@ -198,6 +198,11 @@ class Folders(unittest.TestCase):
             (self.folder / name).rmdir()
             (self.folder / name).write_bytes(data)
 
+    def test_a_file_in_the_place_of_the_folder(self) -> None:
+        self.folder.write_bytes(b"")
+        with self.assertRaisesRegex(JournalFault, "state: it is a file, and no folder$"):
+            Journal(self.folder, "never")
+
     def test_a_term_whose_journal_is_gone(self) -> None:
         self.made(EDITS)
         (self.folder / "tree-0.txt").rename(self.folder / "tree-6.txt")
