@@ -10,7 +10,7 @@ from collections import deque
 from functools import partial
 from typing import TYPE_CHECKING, Deque, Dict, Optional, Union
 
-from .hub import SHARED, NoSession, Route
+from .hub import SESSIONS, SHARED, NoSession, Route
 from .lines import (EDITS, LINE_BYTES, QUESTIONS, REFUSED_LIMIT, REFUSED_SYNTAX, TOLD, Places, first_lines, plain_session,
                     split_line, without_condition)
 from .loop import GONE, READ, WRITE
@@ -53,7 +53,7 @@ class Client:
 
     # An object with more than thirty attributes and no slots has a table of its own, in which each look takes longer.
     __slots__ = ("service", "stream", "member", "unread", "drained", "is_dirty", "is_ready", "is_ended", "is_new", "is_charged", "charged",
-                 "paid", "weight", "expected", "latest", "_token", "_peer", "_may_edit", "_later", "_later_bytes", "_lines", "_rest",
+                 "paid", "weight", "expected", "latest", "_token", "_peer", "may_edit", "_later", "_later_bytes", "_lines", "_rest",
                  "_receive", "_send", "_routes", "_known", "_is_last", "_is_gone", "_expected", "_kept", "_noted", "_heard", "_events")
 
     def __init__(self, service: "Service", stream: socket.socket, token: Optional[bytes] = None, may_edit: bool = True) -> None:
@@ -62,12 +62,14 @@ class Client:
         stream.setblocking(False)
         # Before all else: where that fails, nothing of the client is left.
         service.loop.watch(stream.fileno(), READ, self._on_event)
-        self._may_edit = may_edit
+        self.may_edit = may_edit
         self.service, self.stream, self._token = service, stream, token
         self._receive, self._send = stream.recv, stream.send
         self._peer = peer_of(stream)
         self.member = Member(service.hub, self.end, self._tell_done)
         self.member.client, self.member.on_swept = self, self._go_on
+        if not may_edit:
+            self.member.leaves = SESSIONS // 2
         # A reply is sent as it came. Where more come behind it, or it doesn't go as a whole, it is an array, which grows and shrinks.
         self.unread: Union[bytes, bytearray] = b""
         # Parts of long replies that are unread behind it, and what comes behind these: they aren't copied.
@@ -318,7 +320,7 @@ class Client:
         word = bare.partition(b" ")[0]
         if self._is_gone and word not in TOLD:
             return
-        if word in TOLD and not self._may_edit:
+        if word in TOLD and not self.may_edit:
             self._refuse(own, REFUSED_LIMIT)
             return
         try:

@@ -117,10 +117,10 @@ class Hub:
         self.members.add(member)
         self.on_members()
 
-    def take_session(self) -> int:
-        """A session that no client has. Raises NoSession."""
-        if not self._free:
-            raise NoSession("all of the server's 1,000 sessions are taken")
+    def take_session(self, leaves: int = 0) -> int:
+        """A session that no client has, where more of them are free than are left to others. Raises NoSession."""
+        if len(self._free) <= leaves:
+            raise NoSession("the server's 1,000 sessions are taken")
         return heapq.heappop(self._free)
 
     def give_back(self, session: int) -> None:

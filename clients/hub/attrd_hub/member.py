@@ -34,6 +34,8 @@ class Member:
         self.on_lost, self.on_done = on_lost, on_done
         self.unanswered = 0
         self.is_leaving = False
+        # So many sessions of the server it leaves to others.
+        self.leaves = 0
         self.sessions: Dict[int, int] = {}
         self._own: Dict[int, int] = {}
         self._marks: Dict[int, Set[bytes]] = {}
@@ -47,7 +49,7 @@ class Member:
     def session(self, number: int) -> int:
         """The server's session for one of this client, which it has to itself. Raises NoSession where there is none left for it."""
         if number not in self.sessions:
-            taken = self.hub.take_session()
+            taken = self.hub.take_session(self.leaves)
             self.sessions[number], self._own[taken], self._marks[taken] = taken, number, set()
         return self.sessions[number]
 

@@ -61,7 +61,7 @@ class Service:
     """Serves from `run` on until a signal. `ready` are clients with lines that wait, `dirty` those with replies to be sent."""
 
     # As in a client: it has more than thirty.
-    __slots__ = ("settings", "loop", "counts", "room", "ready", "callers", "dirty", "clients", "hub", "program", "journal", "pace", "meter",
+    __slots__ = ("settings", "loop", "counts", "room", "ready", "callers", "dirty", "clients", "readers", "hub", "program", "journal", "pace", "meter",
                  "waits", "clock", "program_version", "began", "at_once", "_told_version", "_handed_on", "_listening", "_made", "_is_paused",
                  "_told_again", "_is_stopping", "_is_running", "_has_ended", "_is_renewing", "_started", "_told", "_answered", "_sent",
                  "_waiting")
@@ -76,6 +76,8 @@ class Service:
         self.callers = Callers()
         self.dirty: List[Client] = []
         self.clients: Set[Client] = set()
+        # How many of them may ask alone.
+        self.readers = 0
         self.hub = Hub()
         self.program: Program
         self.journal = Journal(Path(settings.state), settings.sync) if settings.state is not None else None
@@ -391,12 +393,17 @@ class Service:
         """A connection has sent its token. Whether there is a place for it."""
         self.callers.remove(client)
         self.counts.came += 1
-        if len(self.clients) < self.settings.clients:
+        if self._has_place(client.may_edit):
             self.clients.add(client)
             return True
         self.counts.let_go += 1
         client.end()
         return False
+
+    def _has_place(self, may_edit: bool) -> bool:
+        """Whether one more client may come. Who may ask alone has half of the places: so all of these turn away none of the others."""
+        places = self.settings.clients
+        return len(self.clients) < places and (may_edit or self.readers < max(1, places // 2))
 
     def _on_client(self, stream: socket.socket, token: Optional[bytes] = None, may_edit: bool = True) -> None:
         for _ in range(ACCEPTED_AT_ONCE):
@@ -410,7 +417,7 @@ class Service:
             # Who has a token to send has a place of its own until then.
             if token is None:
                 self.counts.came += 1
-                if len(self.clients) >= self.settings.clients:
+                if not self._has_place(may_edit):
                     self.counts.let_go += 1
                     connection.close()
                     continue
@@ -428,6 +435,7 @@ class Service:
             return False
         if token is None:
             self.clients.add(client)
+            self.readers += not may_edit
             return True
         oldest = self.callers.add(client)
         if oldest is not None:
@@ -452,7 +460,9 @@ class Service:
 
     def left(self, client: Client) -> None:
         """A connection has ended."""
-        self.clients.discard(client)
+        if client in self.clients:
+            self.clients.remove(client)
+            self.readers -= not client.may_edit
         self.callers.remove(client)
 
     def let_go(self, client: Client, reason: str) -> None:

@@ -595,12 +595,40 @@ class Gone(Case):
 
 
 class ReadOnly(Case):
-    def test_who_may_ask_alone(self) -> None:
-        hub = self.hub("--sync", "never")
+    def readers(self, *words: str) -> "tuple[Hub, str]":
+        """A hub, and its socket for those that may ask alone."""
+        hub = self.hub("--sync", "never", *words)
         hub.kill(signal.SIGTERM)
         path = str(hub.folder / "readers")
         hub.words += ("--read-only-socket", path, "--read-only-mode", "604")
         hub.start()
+        return hub, path
+
+    def test_they_leave_places_and_sessions_to_others(self) -> None:
+        """Half of both, however many of them come, and whatever they ask."""
+        hub, path = self.readers("--clients", "20")
+        readers = [Lines(path) for _ in range(12)]
+        for it in readers[10:]:
+            self.assertEqual(end_of(it.stream), b"")
+        for it in readers[:10]:
+            it.send(*(f"{session} post /Block/Stmt:1/Expr value()" for session in range(100)), "0 version")
+        for it in readers[:10]:
+            until(lambda it=it: it.reply() == "0 ok 0", "all replies")
+        writers = [hub.client() for _ in range(10)]
+        self.assertEqual({it.ask("0 version") for it in writers}, {"0 ok 0"})
+        for it in writers[:5]:
+            it.send(*(f"{session} mark u /Block" for session in range(100)))
+            self.assertEqual([it.reply() for _ in range(100)], [f"{session} ok 0" for session in range(100)])
+        # A place that one of them leaves another one has.
+        readers[0].close()
+        until(lambda: asked(hub.socket)["clients"] == 19, "that it is gone")
+        later = Lines(path)
+        self.assertEqual(later.ask("0 version"), "0 ok 0")
+        for it in [*readers, *writers, later]:
+            it.close()
+
+    def test_who_may_ask_alone(self) -> None:
+        hub, path = self.readers()
         self.assertEqual(stat.S_IMODE(os.stat(path).st_mode), 0o604)
         reader, writer = Lines(path), hub.client()
         self.addCleanup(reader.close)
