@@ -8,6 +8,7 @@ from __future__ import annotations
 from dataclasses import dataclass
 from typing import Callable, Dict, Iterator, List, Optional, Set, Tuple, Union
 
+from tools.of_the_program import formulas
 from tools.of_the_program.circular_aspects import NAMED, Aspects, Expr
 from tools.of_the_program.circular_trees import Node
 from tools.of_the_program.circular_ways import Argument, Instance, Seen, climbed, way
@@ -28,41 +29,7 @@ class Wanting(Exception):
     of: Instance
 
 
-@dataclass(frozen=True)
-class Formula:
-    """Known, an atom, or two formulas of which both or either has to hold."""
-
-    form: str
-    known: bool = False
-    atom: Optional[Instance] = None
-    sides: Tuple[Formula, ...] = ()
-
-    def atoms(self) -> Iterator[Instance]:
-        """The instances in it, from left to right."""
-        if self.atom is not None:
-            yield self.atom
-        for side in self.sides:
-            yield from side.atoms()
-
-    def surely(self) -> Optional[bool]:
-        """What it comes to whatever its atoms do, or None."""
-        if self.form == "known":
-            return self.known
-        sides = [it.surely() for it in self.sides]
-        ends = self.form == "either"
-        if ends in sides:
-            return ends
-        return not ends if sides and None not in sides else None
-
-    def holds(self, of: Callable[[Instance], bool]) -> bool:
-        """Its truth where each atom has that one."""
-        if self.form == "known":
-            return self.known
-        if self.atom is not None:
-            return of(self.atom)
-        return (all if self.form == "both" else any)([it.holds(of) for it in self.sides])
-
-
+Formula = formulas.Formula[Instance]
 Outcome = Union[bool, Fault]
 Own = Union[Formula, Fault, Wanting]
 
@@ -288,7 +255,7 @@ class Meaning:
 
     def atoms(self, of: Instance) -> List[Instance]:
         own = self.own[of]
-        return list(own.atoms()) if isinstance(own, Formula) else []
+        return list(own.atoms()) if isinstance(own, formulas.Formula) else []
 
     def settle(self) -> None:
         """The outcomes of those from which formulas lead only to what has ended."""
@@ -340,7 +307,7 @@ class Meaning:
             new = {}
             for it in members:
                 own = self.own[it]
-                assert isinstance(own, Formula)
+                assert isinstance(own, formulas.Formula)
                 new[it] = own.holds(value)
             if new == values:
                 return values

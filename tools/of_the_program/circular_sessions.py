@@ -125,14 +125,19 @@ class Expected:
 
 def shorter(case: Case, differs: Callable[[Case], bool]) -> Case:
     """The case without lines that it takes none of for it to differ."""
-    size = len(case.lines) // 2
+    return replace(case, lines=shorter_lines(case.lines, lambda it: differs(replace(case, lines=it))))
+
+
+def shorter_lines(lines: Tuple[str, ...], differ: Callable[[Tuple[str, ...]], bool]) -> Tuple[str, ...]:
+    """The lines without those that it takes none of for them to differ."""
+    size = len(lines) // 2
     while size:
         at = 0
-        while at < len(case.lines):
-            without = replace(case, lines=case.lines[:at] + case.lines[at + size:])
-            if differs(without):
-                case = without
+        while at < len(lines):
+            without = lines[:at] + lines[at + size:]
+            if differ(without):
+                lines = without
             else:
                 at += size
         size //= 2
-    return case
+    return lines
