@@ -39,7 +39,7 @@ DIVIDED = {"hub": ("test_hub_hostile", "test_hub_operator", "test_hub_lost")}
 # and trees have fewer nodes. With the last word the tests of clients that take long are left out (clients/at_length.py).
 LESS = (("ATTRD_HUB_POINTS", "10"), ("ATTRD_PAIRS", "250"), ("ATTRD_CIRCULAR_SESSIONS", "10"), ("ATTRD_MADE_SESSIONS", "7"),
         ("ATTRD_TEST_NODES", "5000"), ("ATTRD_MEMORY_KEEPERS", "1"), ("ATTRD_READINGS", "1500"), ("ATTRD_SPOILED_FILES", "10"),
-        ("ATTRD_PROBLEMS", "50"))
+        ("ATTRD_PROBLEMS", "50"), ("ATTRD_SPECS_SESSIONS", "6"))
 # Of requests for memory each third one is refused in turn, and of reads and writes each third one fails.
 SELDOM = (("ATTRD_MEMORY_EVERY", "3"), ("ATTRD_CALLS_EVERY", "3"))
 SHORT = ("ATTRD_SHORT", "1")
