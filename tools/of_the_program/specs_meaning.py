@@ -19,7 +19,7 @@ Outcome = Union[Returned, Fault]
 
 
 # So many equations are evaluated for one question at most.
-MOST_EQUATIONS = 200_000
+MOST_EQUATIONS = 100_000
 
 
 class Endless(Exception):
@@ -128,6 +128,8 @@ class Meaning:
             return f"fault {fault.kind} in {shown(fault.at)}"
         except Circle as circle:
             return f"circular {shown(circle.of)}"
+        except RecursionError:
+            raise Endless from None
 
     def instance(self, asked: str) -> Instance:
         """The instance of a question, `PLACE NAME(ARGUMENTS)`. Raises Refusal."""

@@ -8,7 +8,7 @@ from typing import Dict, List, Optional, Sequence, Tuple
 
 from tools.of_the_program.specs_aspects import Folder, Specification
 from tools.of_the_program.specs_growing import Editing, Growing
-from tools.of_the_program.specs_meaning import Meaning
+from tools.of_the_program.specs_meaning import Endless, Meaning
 from tools.of_the_program.specs_trees import TEXT, Node, Refusal, Tree, quoted, unquoted
 
 # Trees have so many nodes, most of them few.
@@ -20,6 +20,8 @@ PASSED = (0, 0, 1, 2, 3, -1, 7, 1_048_576, -1_048_577, 1_048_577)
 RECENT = 10
 DONE = re.compile(r"0 done (\d+) (\d+) (.*)")
 CLOSED = "0 refused 15 question"
+# The answer to a question that leads too far.
+UNKNOWN = "?"
 
 
 @dataclass(frozen=True)
@@ -114,6 +116,7 @@ class Expected:
         # of each line; None where it waits
         by_line = [self.reply(it) for it in case.lines]
         self.replies = [it for it in by_line if it]
+        self.unknown = self.replies.count(f"0 {UNKNOWN}")
 
     def reply(self, line: str) -> Optional[str]:
         """The reply to the line; None where it waits."""
@@ -133,17 +136,20 @@ class Expected:
         return f"0 ok {len(self.terms) - 1}"
 
     def answer(self, version: int, asked: str) -> str:
-        """The answer to a question on the tree of that version."""
+        """The answer to a question on the tree of that version, where it is known."""
         if version not in self.known:
             self.known[version] = Meaning(self.specification, Tree(self.specification.grammar, self.terms[version]))
-        return self.known[version].reply(asked)
+        try:
+            return self.known[version].reply(asked)
+        except Endless:
+            return UNKNOWN
 
     def differs(self, told: Sequence[str]) -> Optional[str]:
         """What of the replies is wrong, in a line; None where they are right."""
         plain = [it for it in told if not DONE.fullmatch(it) and it != CLOSED]
         wanted = [it for it in self.replies if it != CLOSED]
         for got, right in zip(plain, wanted):
-            if got != right:
+            if right not in (got, f"0 {UNKNOWN}"):
                 return f"{got} in place of {right}"
         if len(plain) != len(wanted):
             return f"{len(plain)} replies in place of {len(wanted)}"
@@ -152,7 +158,7 @@ class Expected:
             return "not each question that was posted is answered once"
         for it in done:
             answer = self.answer(int(it[2]), self.posted[int(it[1]) - 1])
-            if it[3] != answer:
+            if answer not in (it[3], UNKNOWN):
                 return f"{it[0]}, where the answer is {answer}"
         return None
 
