@@ -103,23 +103,13 @@ class Client:
         self._events = READ
 
     def _on_event(self, events: int) -> None:
-        if events == READ:
-            self._read()
+        """Takes what came. It is called for each line of a client that waits: so it reads by itself."""
+        if (events != READ and not self._has_more(events)) or self._is_last:
             return
-        if events & WRITE and not self.is_dirty:
-            # Not at once: edits whose replies came meanwhile aren't in the journal yet.
-            self.is_dirty = True
-            self.service.dirty.append(self)
-        if events & GONE:
-            self._lose()
-        elif events & READ:
-            self._read()
-
-    def _read(self) -> None:
-        if self._is_last:
-            return
+        # What stands in a slot is found more quickly so than as a method.
+        receive = self._receive
         try:
-            data = self._receive(FIRST_CHUNK)
+            data = receive(FIRST_CHUNK)
         except BlockingIOError:
             # Of who is gone no more comes.
             if not self._is_gone:
@@ -140,6 +130,20 @@ class Client:
             self._end_if_done()
         if self._is_last or len(self._lines) >= WAITING:
             self._watch()
+
+    def _has_more(self, events: int) -> bool:
+        """The stream can be written, or is gone. Whether it can be read, too."""
+        if events & WRITE and not self.is_dirty:
+            # Not at once: edits whose replies came meanwhile aren't in the journal yet.
+            self.is_dirty = True
+            self.service.dirty.append(self)
+        if events & GONE:
+            self._lose()
+            return False
+        return events & READ != 0
+
+    def _read(self) -> None:
+        self._on_event(READ)
 
     def _read_on(self) -> bytes:
         """More of what is there. How the stream ends, the next reading tells."""
@@ -431,7 +435,8 @@ class Client:
             self.service.ready.settle(self)
         try:
             if unread:
-                taken = self._send(unread)
+                send = self._send
+                taken = send(unread)
                 if taken == len(unread):
                     self.unread = b""
                 else:

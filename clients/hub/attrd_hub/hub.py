@@ -255,7 +255,15 @@ class Hub:
             if type(route) is not Route:
                 break
             behind = find(b"\n", start) + 1
-            self._settle_question(route, replies[start:behind])
+            # As `_settle_question`, without a call for each.
+            sent.popleft()
+            self.in_flight -= 1
+            self.answered += 1
+            sink, member = route.sink, route.member
+            sink(replies[start:behind] if route.is_same else route.own + replies[start + len(route.session):behind])
+            member.unanswered -= 1
+            if member.is_leaving:
+                member.answer(0)
             start = behind
         return start
 
@@ -263,8 +271,9 @@ class Hub:
         self._sent.popleft()
         self.in_flight -= 1
         self.answered += 1
-        route.sink(reply if route.is_same else route.own + reply[len(route.session):])
-        member = route.member
+        # What stands in a slot is found more quickly so than as a method.
+        sink, member = route.sink, route.member
+        sink(reply if route.is_same else route.own + reply[len(route.session):])
         member.unanswered -= 1
         if member.is_leaving:
             member.answer(0)

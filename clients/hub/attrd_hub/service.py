@@ -212,7 +212,9 @@ class Service:
             self._supply()
         if self.hub.out:
             self._send()
-        self._tell()
+        # Whose edit was accepted is told so: nothing goes to the journal without that.
+        if self.dirty:
+            self._tell()
 
     def _tell(self) -> None:
         """Sends edits to the journal, and then replies to clients."""
