@@ -64,7 +64,7 @@ class Service:
     __slots__ = ("settings", "loop", "counts", "room", "ready", "callers", "dirty", "clients", "readers", "hub", "program", "journal", "pace", "meter",
                  "waits", "clock", "program_version", "began", "at_once", "_told_version", "_handed_on", "_listening", "_made", "_is_paused",
                  "_told_again", "_is_stopping", "_is_running", "_has_ended", "_is_renewing", "_started", "_told", "_answered", "_sent",
-                 "_waiting")
+                 "_waiting", "tells_at_once")
 
     def __init__(self, settings: Settings) -> None:
         """Takes the journal's folder. Raises JournalFault."""
@@ -101,6 +101,8 @@ class Service:
         self._waiting = self.ready.waiting
         # As long as fewer lines are under way a question goes to the program as it comes, and not by turns: never where a client waits.
         self.at_once = 0
+        # Replies go to clients as they are read: never behind an edit that isn't in the journal yet, nor where lines are charged, or wait.
+        self.tells_at_once = False
 
     def run(self) -> int:
         """Serves; the status: 0 after a signal, 3 where the program has ended and there is no journal. Raises AttrdError."""
@@ -212,9 +214,7 @@ class Service:
             self._supply()
         if self.hub.out:
             self._send()
-        # Whose edit was accepted is told so: nothing goes to the journal without that.
-        if self.dirty:
-            self._tell()
+        self._tell()
 
     def _tell(self) -> None:
         """Sends edits to the journal, and then replies to clients."""
@@ -287,6 +287,7 @@ class Service:
         before = hub.answered
         is_looked_at = pace.is_measuring or now - self._answered > QUICK or before < until
         slow = self._slow(data, now) if is_looked_at else None
+        self.tells_at_once = slow is None and not self.dirty and not self._waiting
         try:
             hub.feed(data)
         except ProtocolFault as fault:
@@ -297,7 +298,7 @@ class Service:
             self._answered = now
             if slow is not None:
                 self._charge(slow, answered - before)
-            elif not hub.in_flight and not self._waiting:
+            elif self.dirty and not hub.in_flight and not self._waiting:
                 # No lines go first: so replies do, before what else is to be done.
                 self._tell()
             self.at_once = 0 if self._waiting or answered < until else pace.most
@@ -339,6 +340,7 @@ class Service:
         if self.settings.logs_edits:
             log(Level.INFO, f"version {self.hub.version} by {editor or 'a client over TCP'}: {shown(command)}")
         if self.journal is not None:
+            self.tells_at_once = False
             self.journal.append(self.hub.version, command, editor)
 
     def _renew(self) -> None:

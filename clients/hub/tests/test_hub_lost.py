@@ -36,6 +36,7 @@ from attrd_hub.loop import READ, WRITE, Loop
 from attrd_hub.records import head, read_journal
 from attrd_hub.room import Room
 from attrd_hub.service import Service
+from attrd_hub.settings import Settings
 from attrd_hub.turns import Turns
 
 POINTS = int(os.environ.get("ATTRD_HUB_POINTS", "16"))
@@ -252,8 +253,96 @@ class Lost(unittest.TestCase):
                 self.assertEqual(fault.errno, errno.ENOSPC)
 
 
+class Answers:
+    """In the place of a program: it takes all lines, and its replies are those that the test gives it."""
+
+    def __init__(self) -> None:
+        self.unsent = bytearray()
+        self.replies = b""
+
+    def send(self, _: bytes) -> bool:
+        """Takes lines. Whether there is a rest."""
+        return False
+
+    def read(self) -> Optional[bytes]:
+        """What the test has it reply."""
+        return self.replies or None
+
+
+def had(stream: socket.socket) -> bytes:
+    """What has come at the other end of a connection."""
+    try:
+        return stream.recv(1_000)
+    except BlockingIOError:
+        return b""
+
+
 class Order(unittest.TestCase):
-    """What a writable event may send."""
+    """What a writable event may send, and what a reply of the program."""
+
+    def setUp(self) -> None:
+        self.service = Service(Settings("", [], [], ""))
+        self.addCleanup(self.service.loop.close)
+        self.program = self.service.program = Answers()  # type: ignore[assignment]
+        pairs = [socket.socketpair() for _ in range(2)]
+        for it in (end for pair in pairs for end in pair):
+            it.setblocking(False)
+            self.addCleanup(it.close)
+        self.theirs = [theirs for _, theirs in pairs]
+        self.clients = [Client(self.service, ours) for ours, _ in pairs]
+        for it in (0, 1):
+            # The first line tells that those of this client are quick.
+            self.asked(it, b"0 where u\n")
+            self.answered(b"0 = /Block\n")
+            self.assertEqual(had(self.theirs[it]), b"0 = /Block\n")
+
+    def asked(self, client: int, line: bytes) -> None:
+        """This client sends the line, which goes to the program."""
+        self.theirs[client].send(line)
+        self.clients[client]._on_event(READ)
+        self.service._hand_on()
+
+    def answered(self, replies: bytes) -> None:
+        """The program replies so."""
+        self.program.replies = replies
+        self.service._on_output(0)
+        self.service._hand_on()
+
+    def test_a_reply_behind_an_edit_waits_for_the_journal(self) -> None:
+        journal = self.service.journal = mock.Mock(pending=[])
+        journal.append.side_effect = lambda *it: journal.pending.append(it)
+
+        def commit() -> None:
+            self.assertEqual([had(it) for it in self.theirs], [b"", b""])
+            journal.pending.clear()
+
+        journal.commit.side_effect = commit
+        self.asked(0, b"0 drop /Block/Stmt:0\n")
+        self.asked(1, b"0 where u\n")
+        self.answered(b"0 ok 1\n0 = /Block\n")
+        journal.commit.assert_called_once()
+        self.assertEqual([had(it) for it in self.theirs], [b"0 ok 1\n", b"0 = /Block\n"])
+
+    def test_a_reply_that_nothing_has_to_come_before_is_told_as_it_is_read(self) -> None:
+        for it in (0, 1):
+            self.asked(it, b"0 where u\n")
+        with mock.patch.object(Client, "flush") as flush:
+            self.answered(b"0 = /A\n0 = /B\n")
+        flush.assert_not_called()
+        self.assertEqual([had(it) for it in self.theirs], [b"0 = /A\n", b"0 = /B\n"])
+
+    def test_what_a_reply_finds_no_room_for_goes_later(self) -> None:
+        self.asked(0, b"0 where u\n")
+        with mock.patch.object(Client, "_send_at_once", side_effect=lambda it: it[2:]):
+            self.answered(b"0 = /Block\n")
+        self.assertEqual(had(self.theirs[0]), b"= /Block\n")
+
+    def test_who_is_gone_takes_no_reply(self) -> None:
+        self.asked(0, b"0 where u\n")
+        self.theirs[0].close()
+        self.answered(b"0 = /Block\n")
+        self.assertTrue(self.clients[0]._is_gone)
+        self.assertFalse(self.clients[0].unread_bytes)
 
     def test_a_client_that_can_be_written_to_waits_for_the_journal(self) -> None:
         ours, theirs = socket.socketpair()
