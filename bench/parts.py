@@ -6,7 +6,7 @@ copied into each part that needs it, so what is inlined within a part, and how d
 module.
 """
 import re
-from typing import Dict, Iterable, List, Set
+from typing import Dict, Iterable, List, Set, Tuple
 
 # The crates that make up the first part. What is evaluated deep in the tree, by functions that call each other, is all here.
 ANSWERING = ("at_class", "at_tree", "at_store", "at_body", "at_cache", "at_evaluate", "at_solve", "at_search", "at_demand", "at_engine")
@@ -20,19 +20,51 @@ CRATE = re.compile(r'"?<?&?(?:mut )?(\w+)')
 
 
 class Module:
-    """The functions of a module by their names, each as its lines, what each names, and all lines that stand outside of functions."""
+    """The functions of a module by their names, each as its text, what each names, and all lines that stand outside of functions, with
+    what these name."""
 
     def __init__(self, lines: Iterable[str]) -> None:
-        self.functions: Dict[str, List[str]] = {}
+        texts: Dict[str, List[str]] = {}
         self.outside: List[str] = []
         taking = self.outside
         for line in lines:
             if line.startswith("define "):
-                taking = self.functions.setdefault(name_of(line), [])
+                taking = texts.setdefault(name_of(line), [])
             taking.append(line)
             if line == "}":
                 taking = self.outside
-        self.named = {name: set(NAME.findall("\n".join(text))) & self.functions.keys() for name, text in self.functions.items()}
+        self.functions = {name: "\n".join(text) for name, text in texts.items()}
+        self.named = {name: set(NAME.findall(text)) & texts.keys() for name, text in self.functions.items()}
+        self.named_outside = set(NAME.findall("\n".join(self.outside))) & texts.keys()
+
+    def merge(self, crates: Set[str]) -> None:
+        """Leaves one of the functions that do the same, word for word, and names it in the place of the others, so that some that call
+        these do the same, too. A function of these crates stands for no other crate's."""
+        standing: Dict[Tuple[str, str], str] = {}
+        changed = list(self.functions)
+        while changed:
+            same = self.doubles(changed, standing, crates)
+            for name in same:
+                del self.functions[name], self.named[name]
+            changed = [name for name, others in self.named.items() if not same.keys().isdisjoint(others)]
+            for name in changed:
+                self.rename(name, same)
+
+    def doubles(self, names: Iterable[str], standing: Dict[Tuple[str, str], str], crates: Set[str]) -> Dict[str, str]:
+        """Those of these functions that do what one does that is `standing`, with its name, by the crate and the text without the name.
+        The others are added there."""
+        found: Dict[str, str] = {}
+        for name in names:
+            crate, text = crate_of(name), self.functions[name].replace(f"@{name}(", "@(")
+            first = standing.setdefault((crate if crate in crates else "", text), name)
+            if first != name and name not in self.named_outside and name != "main":
+                found[name] = first
+        return found
+
+    def rename(self, name: str, same: Dict[str, str]) -> None:
+        """Has the function name these others in the place of those that do the same."""
+        self.functions[name] = NAME.sub(lambda it: f"@{same.get(it[1], it[1])}", self.functions[name])
+        self.named[name] = {same.get(it, it) for it in self.named[name]}
 
 
 def name_of(line: str) -> str:
@@ -73,22 +105,23 @@ def text_of(module: Module, there: Set[str], shared: Set[str], plain: Set[str]) 
     """The lines of the part that has these functions. Those that are shared with the other part are known to it, too; those that are plain
     aren't optimized."""
     text = list(module.outside)
-    for name, lines in module.functions.items():
+    for name, function in module.functions.items():
+        first, _, rest = function.partition("\n")
         if name in there:
-            first = without_optimizing(lines[0]) if name in plain else lines[0]
-            text.append(first.replace("define internal ", "define hidden ", 1) if name in shared else first)
-            text += lines[1:]
+            first = without_optimizing(first) if name in plain else first
+            text += [first.replace("define internal ", "define hidden ", 1) if name in shared else first, rest]
         elif name in shared:
-            text.append(declaration(lines[0]))
+            text.append(declaration(first))
     return text
 
 
 def divided(lines: Iterable[str], crates: Iterable[str]) -> List[List[str]]:
     """The lines of the two parts, by the module's lines and the names of the repository's crates."""
     module, known = Module(lines), set(crates)
+    module.merge(known)
     own = {name for name in module.functions if crate_of(name) in known or name == "main"}
     answering = {name for name in own if crate_of(name) in ANSWERING}
-    outside = set(NAME.findall("\n".join(module.outside))) & module.functions.keys()
+    outside = module.named_outside
     parts = [needed(module, roots | outside - own, own) for roots in (answering, own - answering)]
     calls = [set[str]().union(outside, *(module.named[it] for it in part)) & own - part for part in parts]
     plain = module.functions.keys() - needed(module, own | outside, {it for it in module.functions if crate_of(it) == PLAIN})

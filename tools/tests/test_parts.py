@@ -29,6 +29,7 @@ define internal void @"clap::words"() #0 {
 }
 
 define internal void @"std::of_words"() #0 {
+  call void @open(ptr @text)
 }
 
 define internal void @"at_engine::line"(ptr %0) #0 {
@@ -41,12 +42,14 @@ define internal void @"std::only"() #0 {
 }
 
 define internal void @"std::both<at_jrag::Word>"() #0 {
+  call void @open(ptr null)
 }
 
 define internal void @"at_text::word"() #0 {
 }
 
 define internal void @"std::kept"() #0 {
+  ret void
 }
 
 define internal void @"<&at_store::Node as core::eq>::eq"() #0 {
@@ -54,6 +57,47 @@ define internal void @"<&at_store::Node as core::eq>::eq"() #0 {
 
 declare void @open(ptr)
 attributes #0 = { nounwind }"""
+# Functions that do the same: of a library, and of each of two crates; @kept is named outside of functions.
+SAME = """@table = private constant [1 x ptr] [ptr @"std::kept"]
+
+define internal void @main() #0 {
+  call void @"at_text::both"()
+  call void @"at_jrag::both"()
+}
+
+define internal void @"at_text::both"() #0 {
+  call void @"std::outer<1>"()
+  call void @"std::outer<2>"()
+}
+
+define internal void @"at_jrag::both"() #0 {
+  call void @"std::outer<2>"()
+  call void @"std::outer<1>"()
+}
+
+define internal void @"std::outer<1>"() #0 {
+  call void @"std::inner<1>"(i8 1)
+}
+
+define internal void @"std::outer<2>"() #0 {
+  call void @"std::inner<2>"(i8 1)
+}
+
+define internal void @"std::inner<1>"(i8 %0) #0 {
+  call void @"std::inner<1>"(i8 %0)
+}
+
+define internal void @"std::inner<2>"(i8 %0) #0 {
+  call void @"std::inner<2>"(i8 %0)
+}
+
+define internal void @"std::other"(i8 %0) #0 {
+  call void @"std::inner<2>"(i8 %0)
+}
+
+define internal void @"std::kept"(i8 %0) #0 {
+  call void @"std::kept"(i8 %0)
+}"""
 CRATES = ("at_text", "at_jrag", "at_store", "at_engine", "attrd")
 
 
@@ -92,6 +136,26 @@ class Divided(unittest.TestCase):
         for line in ('source_filename = "rattle"', "declare void @open(ptr)", "attributes #0 = { nounwind }"):
             self.assertIn(line, self.answering)
             self.assertIn(line, self.reading)
+
+
+class Merged(unittest.TestCase):
+    """Functions that do the same, word for word."""
+
+    def setUp(self) -> None:
+        self.module = parts.Module(SAME.split("\n"))
+        self.module.merge(set(CRATES))
+
+    def test_one_of_a_library_stands_for_the_others_and_for_what_calls_them(self) -> None:
+        own = {"main", '"at_text::both"', '"at_jrag::both"'}
+        self.assertEqual(self.module.functions.keys(), own | {'"std::outer<1>"', '"std::inner<1>"', '"std::other"', '"std::kept"'})
+        for name, text in self.module.functions.items():
+            self.assertNotIn("<2>", text)
+            self.assertEqual(self.module.named[name], set(parts.NAME.findall(text)))
+
+    def test_what_calls_others_or_is_of_another_crate_stays(self) -> None:
+        self.assertIn('@"std::inner<1>"(i8 %0)', self.module.functions['"std::other"'])
+        for name in ('"at_text::both"', '"at_jrag::both"'):
+            self.assertEqual(self.module.functions[name].count('call void @"std::outer<1>"()'), 2)
 
 
 if __name__ == "__main__":
