@@ -117,7 +117,7 @@ class Again(ProgramTest):
         for name, said in zip(("x.jrag", "y.jrag"), it.files):
             (self.folder / name).write_text(text_of(said))
 
-    def assert_told(self, it: Chosen) -> bool:
+    def assert_answered(self, it: Chosen) -> bool:
         """The program tells the fault, or the value of each attribute of each node; gives whether it was accepted."""
         self.put(it)
         asked = [(f"a{name}", of) for name in range(ATTRIBUTES) for of in range(CLASSES)]
@@ -134,7 +134,7 @@ class Again(ProgramTest):
 
     def test_the_nearest_body_counts(self) -> None:
         count, seed = (int(os.environ.get(f"ATTRD_AGAIN_{name}", usual)) for name, usual in (("COUNT", COUNT), ("SEED", SEED)))
-        accepted = [self.assert_told(Chosen(random.Random(f"{seed} {at}"))) for at in range(count)]
+        accepted = [self.assert_answered(Chosen(random.Random(f"{seed} {at}"))) for at in range(count)]
         least = FEWEST * count // COUNT
         self.assertGreaterEqual(sum(accepted), least)
         self.assertGreaterEqual(count - sum(accepted), least)

@@ -46,7 +46,7 @@ def class_name(of: int) -> str:
 class Everywhere(ProgramTest):
     """What is told of such specifications."""
 
-    def assert_told(self, it: Chosen) -> None:
+    def assert_answered(self, it: Chosen) -> None:
         """The program tells the value of each attribute of each node."""
         parts = " ".join(f"P{at}:C{at}" for at in range(CLASSES))
         classes = "".join(f"C{at}{'' if up is None else f' : C{up}'};\n" for at, up in enumerate(it.above))
@@ -62,7 +62,7 @@ class Everywhere(ProgramTest):
     def test_the_nearest_body_counts(self) -> None:
         count, seed = (int(os.environ.get(f"ATTRD_EVERYWHERE_{name}", usual)) for name, usual in (("COUNT", COUNT), ("SEED", SEED)))
         for at in range(count):
-            self.assert_told(Chosen(random.Random(f"{seed} {at}")))
+            self.assert_answered(Chosen(random.Random(f"{seed} {at}")))
 
 
 def path(of: int) -> str:
