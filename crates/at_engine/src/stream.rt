@@ -12,7 +12,7 @@ mod desk;
 mod ends;
 
 use crate::engine::{Engine, is_prompt};
-use at_cache::Keeper;
+use at_evict::Bounded;
 use desk::Desk;
 pub use desk::{Report, RunFault};
 pub use ends::{Input, Output, Watched};
@@ -49,7 +49,7 @@ fn write_whole<W: Output>(writer: &mut W, bytes: &[u8], is_due: bool) -> Result<
 /// Serves the line that was read, writes its reply, and gives the turns that follow it. Where the next line is known, the
 /// reply may wait for that one's.
 #[inline(always)]
-fn serve<K: Keeper, W: Output>(
+fn serve<K: Bounded, W: Output>(
     engine: &mut Engine<K>,
     desk: &mut Desk,
     writer: &mut W,
@@ -74,7 +74,7 @@ fn serve<K: Keeper, W: Output>(
 
 /// Whether what was told is sent on before the next line is served: always, but where that one is known, and is answered
 /// without that anything is evaluated. No question may be open then.
-fn is_due<K: Keeper>(engine: &Engine<K>, next: Option<&[u8]>) -> bool
+fn is_due<K: Bounded>(engine: &Engine<K>, next: Option<&[u8]>) -> bool
     requires { IsSound K.contents K.memories engine.now }
     ensures { lets_wait next.entry ≡ false → result ≡ true }
 {
@@ -85,7 +85,7 @@ fn is_due<K: Keeper>(engine: &Engine<K>, next: Option<&[u8]>) -> bool
 }
 
 /// Gives the turns that follow a line, or fewer where no question is open. Each answer is written before the next turn.
-fn give_turns<K: Keeper, W: Output>(
+fn give_turns<K: Bounded, W: Output>(
     engine: &mut Engine<K>,
     desk: &mut Desk,
     writer: &mut W,
@@ -106,7 +106,7 @@ fn give_turns<K: Keeper, W: Output>(
 
 /// Gives turns up to the first answer, which is written: how many of the turns are left. Where no question is answered by
 /// them, none is left; and none is counted where there is no limit.
-fn give_some<K: Keeper, W: Output>(
+fn give_some<K: Bounded, W: Output>(
     engine: &mut Engine<K>,
     desk: &mut Desk,
     writer: &mut W,
@@ -142,7 +142,7 @@ fn left_of(limit: Option<u64>, turns: u64) -> u64
 }
 
 /// Gives turns until no question is open. Each answer is written before the next turn.
-fn drain<K: Keeper, W: Output>(
+fn drain<K: Bounded, W: Output>(
     engine: &mut Engine<K>,
     desk: &mut Desk,
     writer: &mut W,
@@ -159,7 +159,7 @@ fn drain<K: Keeper, W: Output>(
 
 /// Takes a newline: it ends the line, which is served unless it is empty. Where the next line is known, its reply may wait
 /// for that one's.
-fn take_newline<K: Keeper, W: Output>(
+fn take_newline<K: Bounded, W: Output>(
     engine: &mut Engine<K>,
     desk: &mut Desk,
     writer: &mut W,
@@ -182,7 +182,7 @@ fn take_newline<K: Keeper, W: Output>(
 
 /// Takes the bytes of a piece: whole lines, and the front of the next one. Where replies are gathered, one may wait for the
 /// next line of the piece; none waits behind the last one.
-fn take_piece<K: Keeper, W: Output>(
+fn take_piece<K: Bounded, W: Output>(
     engine: &mut Engine<K>,
     desk: &mut Desk,
     piece: &[u8],
@@ -235,7 +235,7 @@ fn newline_in(bytes: &[u8]) -> Option<usize>
 }
 
 /// Serves the last line, which no newline ends, unless it is empty, and gives turns until no question is open.
-fn finish<K: Keeper, W: Output>(
+fn finish<K: Bounded, W: Output>(
     engine: &mut Engine<K>,
     desk: &mut Desk,
     writer: &mut W,
@@ -259,7 +259,7 @@ fn finish<K: Keeper, W: Output>(
 ///
 /// `Read` and `Write` where a call of the reader or the writer failed, or a write took no byte; `TooManyReads` where the
 /// input goes on after 1,000,000,000 reads; `Memory` where its two buffers are refused, before the first read.
-pub fn run<K: Keeper, R: Input, W: Output>(
+pub fn run<K: Bounded, R: Input, W: Output>(
     engine: &mut Engine<K>,
     reader: &mut R,
     writer: &mut W,
@@ -278,7 +278,7 @@ pub fn run<K: Keeper, R: Input, W: Output>(
 /// # Errors
 ///
 /// As `run`. Where a write failed, the last bytes that the writer has taken may be in its buffer alone.
-pub fn run_gathering<K: Keeper, R: Input, W: Output>(
+pub fn run_gathering<K: Bounded, R: Input, W: Output>(
     engine: &mut Engine<K>,
     reader: &mut R,
     writer: &mut W,
@@ -296,7 +296,7 @@ pub fn run_gathering<K: Keeper, R: Input, W: Output>(
 /// # Errors
 ///
 /// `TooManyReads` where the input goes on after so many reads; else as `run`.
-pub fn run_for<K: Keeper, R: Input, W: Output>(
+pub fn run_for<K: Bounded, R: Input, W: Output>(
     engine: &mut Engine<K>,
     reader: &mut R,
     writer: &mut W,
@@ -310,7 +310,7 @@ pub fn run_for<K: Keeper, R: Input, W: Output>(
 }
 
 /// Serves as `run` does, with another limit on the reads, and gathers replies or not.
-fn run_with<K: Keeper, R: Input, W: Output>(
+fn run_with<K: Bounded, R: Input, W: Output>(
     engine: &mut Engine<K>,
     reader: &mut R,
     writer: &mut W,

@@ -7,7 +7,8 @@ use crate::rows::holds_at;
 use Act::{Blocked, Look, Put, Refuse, See, Settle, Touch, Worked};
 use Of::{Class, Index, Parent, Slot, Token};
 use Sight::{Kept, Nothing, Stands};
-use at_cache::{KeepInTurns, KeepRecorded, Keeper, Order};
+use at_cache::{KeepInTurns, KeepRecorded, Order};
+use at_evict::Bounded;
 use std::alloc::Global;
 use std::process::Abort;
 
@@ -480,7 +481,7 @@ const COUNTS: &[(Option<usize>, &[Act], &[Act], usize)] = &[
 ];
 
 /// Whether the acts go as told, one after the other; the work that they take is added.
-fn are_done<K: Keeper>(
+fn are_done<K: Bounded>(
     rt: &impl Abort,
     alloc: Global,
     keeper: &mut K,
@@ -497,7 +498,7 @@ fn are_done<K: Keeper>(
 }
 
 /// Whether both lists of acts go as told, the second one behind the first.
-fn goes<K: Keeper>(
+fn goes<K: Bounded>(
     rt: &impl Abort,
     alloc: Global,
     keeper: &mut K,

@@ -4,8 +4,9 @@ ghost use Rattle.at_engine.specs.Engines.{KeepsNothing};
 ghost use Rattle.at_start.specs.Starts.{IsReady};
 
 use crate::samples::{Sample, TREE, files, over};
-use at_cache::{KeepRecorded, Keeper};
+use at_cache::KeepRecorded;
 use at_engine::{Engine, Report, run};
+use at_evict::Bounded;
 use at_start::{start, start_with};
 use std::alloc::Global;
 use std::process::Abort;
@@ -23,7 +24,7 @@ pub fn calculator(rt: &impl Abort, alloc: Global) -> Engine<KeepRecorded>
 
 /// What a fresh engine over an empty keeper, with that bound for edits, writes for the lines, each of which a turn follows, and what its run
 /// reports.
-pub fn heard<K: Keeper>(
+pub fn heard<K: Bounded>(
     rt: &impl Abort,
     alloc: Global,
     sample: &Sample,

@@ -4,6 +4,7 @@ ghost use Rattle.std.specs.Prelude.{◌≡◌, true};
 
 use at_body::{Arguments, Inst, Value};
 use at_cache::{Keeper, Order};
+use at_evict::Bounded;
 use at_rules::AttrId;
 use at_store::{Loc, Node, Places};
 use std::alloc::Global;
@@ -111,7 +112,7 @@ pub fn put_new<K: Keeper>(
 }
 
 /// Flushes what rests on that location, as an edit does: behind the bound, where there is one.
-pub fn flush_one<K: Keeper>(keeper: &mut K, most: Option<usize>, touched: Loc) {
+pub fn flush_one<K: Bounded>(keeper: &mut K, most: Option<usize>, touched: Loc) {
     if let Some(most) = most {
         keeper.fit(most);
     }
@@ -189,7 +190,7 @@ fn is_node(found: Option<&Inst>, node: Option<usize>) -> bool {
 }
 
 /// Does so, or looks at it: whether all is as told. The work that it takes is added.
-pub fn is_done<K: Keeper>(
+pub fn is_done<K: Bounded>(
     rt: &impl Abort,
     alloc: Global,
     keeper: &mut K,

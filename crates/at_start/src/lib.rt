@@ -35,8 +35,9 @@ mod serving;
 mod tree;
 
 use aspects::rules_of;
-use at_cache::{KeepRecorded, Keeper};
+use at_cache::KeepRecorded;
 use at_engine::Engine;
+use at_evict::Bounded;
 pub use at_jrag::Forms;
 use at_store::LoadFault;
 pub use at_store::USUAL_NODES;
@@ -75,7 +76,7 @@ pub fn start(alloc: Global, files: &mut Files) -> Result<Engine<KeepRecorded>, S
 /// # Errors
 ///
 /// Those of `start`.
-pub fn start_with<K: Keeper>(
+pub fn start_with<K: Bounded>(
     alloc: Global,
     files: &mut Files,
     keeper: K,

@@ -8,8 +8,8 @@ ghost use Rattle.at_engine.specs.Engines.{KeepsNothing};
 use super::fault::StartFault;
 use super::files::Files;
 use super::start_with;
-use at_cache::Keeper;
 use at_engine::{Engine, Input, Output, Report, RunFault, run_gathering};
+use at_evict::Bounded;
 use std::alloc::Global;
 
 /// What became of the lines that a reader gave.
@@ -28,7 +28,7 @@ pub struct Answered<K> {
 /// # Errors
 ///
 /// Those of `start`, and then nothing was read or written.
-pub fn answer<K: Keeper, R: Input, W: Output>(
+pub fn answer<K: Bounded, R: Input, W: Output>(
     alloc: Global,
     files: &mut Files,
     keeper: K,

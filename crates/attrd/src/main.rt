@@ -28,8 +28,9 @@ mod serving;
 mod socket;
 mod stack;
 
-use at_cache::{KeepInTurns, KeepRecorded, Keeper};
+use at_cache::{KeepInTurns, KeepRecorded};
 use at_engine::{Engine, Input, Output, Watched};
+use at_evict::Bounded;
 use at_start::{
     Answered, Files, MAX_FILE, Source, StartFault, USUAL_NODES, answer, start_with, tree_bytes,
 };
@@ -92,7 +93,7 @@ fn tell_work(rt: &HostRuntime, work: Work) {
 }
 
 /// The work of the engine.
-fn work_of<K: Keeper>(options: &Options, engine: &Engine<K>) -> Work {
+fn work_of<K: Bounded>(options: &Options, engine: &Engine<K>) -> Work {
     Work {
         found: engine.work(),
         made: if options.cut_off {
@@ -117,7 +118,7 @@ fn serve_words(rt: &HostRuntime, work: &mut Option<Work>) -> Result<(), Failure>
 
 /// Serves what is asked for over an empty cache, with which turns reuse just where cut-off is asked for; and notes the engine's work, where
 /// that is, too.
-fn serve_over<K: Keeper>(
+fn serve_over<K: Bounded>(
     rt: &HostRuntime,
     options: &Options,
     files: &mut Files,
@@ -172,7 +173,7 @@ fn refused(rt: &HostRuntime, files: &Files, fault: &StartFault) -> Failure
 
 /// Serves standard input, and replies on standard output, which has a buffer where replies are gathered; notes the engine's
 /// work.
-fn serve_standard<K: Keeper>(
+fn serve_standard<K: Bounded>(
     rt: &HostRuntime,
     options: &Options,
     files: &mut Files,
@@ -193,7 +194,7 @@ fn serve_standard<K: Keeper>(
 }
 
 /// Serves standard input, and writes the replies there; notes the engine's work.
-fn serve_lines<K: Keeper, W: Output>(
+fn serve_lines<K: Bounded, W: Output>(
     rt: &HostRuntime,
     options: &Options,
     files: &mut Files,
@@ -220,7 +221,7 @@ fn serve_lines<K: Keeper, W: Output>(
 }
 
 /// Serves the lines that the reader gives by the engine that the files make over the empty cache, as is asked for.
-fn answer_asked<K: Keeper, R: Input, W: Output>(
+fn answer_asked<K: Bounded, R: Input, W: Output>(
     alloc: Global,
     options: &Options,
     files: &mut Files,
@@ -249,7 +250,7 @@ fn answer_asked<K: Keeper, R: Input, W: Output>(
 }
 
 /// The engine that the files make over the empty cache, with the turns and the bound that are asked for.
-fn start_asked<K: Keeper>(
+fn start_asked<K: Bounded>(
     alloc: Global,
     options: &Options,
     files: &mut Files,
@@ -282,7 +283,7 @@ fn most_asked(options: &Options) -> Option<usize>
 
 /// Serves the connections of the socket with the engine that the files make; notes the engine's work. What the engine holds is
 /// left to the end of the process.
-fn serve_connections<K: Keeper>(
+fn serve_connections<K: Bounded>(
     rt: &HostRuntime,
     path: &str,
     options: &Options,
@@ -304,7 +305,7 @@ fn serve_connections<K: Keeper>(
 
 /// Serves as many connections of the socket as are asked for; it has a file as long as that takes. Where the socket can't be
 /// made, nothing is served.
-fn serve_socket<K: Keeper>(
+fn serve_socket<K: Bounded>(
     rt: &HostRuntime,
     path: &str,
     options: &Options,
@@ -340,7 +341,7 @@ fn serve_socket<K: Keeper>(
 }
 
 /// Serves so many connections, and gathers their replies.
-fn serve_gathering<K: Keeper>(
+fn serve_gathering<K: Bounded>(
     engine: &mut Engine<K>,
     listener: &mut UnixListener,
     alloc: Global,

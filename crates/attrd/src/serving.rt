@@ -7,8 +7,8 @@ ghost use Rattle.attrd.specs.Failures.{connection_fault_text, fault_line, served
 ghost use Rattle.attrd.specs.Doors.{ServesAll, ServesNext, ending};
 
 use crate::door::Door;
-use at_cache::Keeper;
 use at_engine::{Engine, Report, RunFault, run_gathering};
+use at_evict::Bounded;
 use std::fmt;
 
 /// How many connections ended, and how many of them by each fault.
@@ -164,7 +164,7 @@ impl Served {
 
 /// Serves so many connections that come through the door, one after the other, all with this engine. A connection's fault
 /// ends that connection alone; one that isn't accepted counts, too.
-pub fn serve<K: Keeper, D: Door>(engine: &mut Engine<K>, door: &mut D, n: u16) -> Served
+pub fn serve<K: Bounded, D: Door>(engine: &mut Engine<K>, door: &mut D, n: u16) -> Served
     requires sound { IsSound K.contents K.memories engine.old }
     ensures serves { ServesAll K.contents K.memories D.Reader.remaining D.Reader.failed D.Reader.ended D.Reader.reads
         D.Writer.contents D.Writer.failed D.Writer.waits D.gathering
@@ -185,7 +185,7 @@ pub fn serve<K: Keeper, D: Door>(engine: &mut Engine<K>, door: &mut D, n: u16) -
 }
 
 /// Serves the connection that comes next.
-fn serve_next<K: Keeper, D: Door>(
+fn serve_next<K: Bounded, D: Door>(
     engine: &mut Engine<K>,
     door: &mut D,
 ) -> Result<Report, ConnectionFault>

@@ -7,8 +7,9 @@
 
 ghost use Rattle.at_engine.specs.Engines.{KeepsNothing};
 
-use at_cache::{KeepInTurns, KeepRecorded, Keeper};
+use at_cache::{KeepInTurns, KeepRecorded};
 use at_engine::{RunFault, Watched};
+use at_evict::Bounded;
 use at_start::{Files, Forms, Language, MAX_FILE, Source, StartFault, USUAL_NODES, answer};
 use std::alloc::{AllocError, AllocFailed};
 use std::fs::File;
@@ -119,7 +120,7 @@ fn language_named(name: &str) -> Option<Language> {
 
 /// Answers the lines over an empty keeper, with so many turns behind each, and that bound. On standard error it tells how many lines
 /// and questions were answered `memory`, and the work.
-fn serve_with<K: Keeper>(
+fn serve_with<K: Bounded>(
     rt: &HostRuntime,
     slice: u32,
     most: Option<usize>,

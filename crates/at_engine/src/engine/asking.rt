@@ -10,8 +10,8 @@ use super::Engine;
 use super::view::View;
 use crate::marks::Lookup;
 use at_body::{Arguments, Inst, Value};
-use at_cache::Keeper;
 use at_class::ClassId;
+use at_evict::Bounded;
 use at_protocol::line::{Argument, Place};
 use at_protocol::reply::{Form, Refusal};
 use at_rules::{AttrId, Kind};
@@ -75,7 +75,7 @@ fn is_text(value: &Value) -> bool
     }
 }
 
-impl<K: Keeper> Engine<K> {
+impl<K: Bounded> Engine<K> {
     ghost use Rattle.std.specs.Prelude.{◌≡◌, IfOk, Some};
     ghost use Rattle.at_model.specs.Paths.{Node as NodeOf};
     ghost use Rattle.at_model.specs.Run.{Instance};

@@ -4,12 +4,12 @@ ghost use Rattle.at_engine.specs.Engines.{IsHeld};
 
 use super::Engine;
 use super::asking::Asked;
-use at_cache::Keeper;
+use at_evict::Bounded;
 use at_protocol::line::{Command, Line, Request, read_line};
 use std::alloc::AllocError;
 
 /// Whether the line is answered as it stands: it asks for nothing that isn't kept, and doesn't wait.
-pub(crate) fn is_prompt<K: Keeper>(engine: &Engine<K>, line: &[u8]) -> bool
+pub(crate) fn is_prompt<K: Bounded>(engine: &Engine<K>, line: &[u8]) -> bool
     requires { IsHeld K.contents K.memories engine.now }
 {
     if !may_ask(line) {
@@ -52,7 +52,7 @@ fn may_ask(line: &[u8]) -> bool {
 }
 
 /// Whether the words of a question were refused, or what they ask for is kept.
-fn is_at_hand<K: Keeper>(engine: &Engine<K>, asked: Result<Asked, AllocError>) -> bool {
+fn is_at_hand<K: Bounded>(engine: &Engine<K>, asked: Result<Asked, AllocError>) -> bool {
     match asked {
         Ok(Asked::Instance(inst)) => engine.demand.is_kept(&inst),
         Ok(Asked::Refused(_)) => true,

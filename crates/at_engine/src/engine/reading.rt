@@ -5,7 +5,7 @@ ghost use Rattle.at_model.specs.Machine.{is_number};
 ghost use Rattle.at_protocol.specs.LineView.{argument_view};
 
 use super::Engine;
-use at_cache::Keeper;
+use at_evict::Bounded;
 use at_protocol::line::{Argument, Command};
 
 /// Whether ints or booleans are among the arguments.
@@ -28,7 +28,7 @@ fn is_number(argument: &Argument<'_>) -> bool
     }
 }
 
-impl<K: Keeper> Engine<K> {
+impl<K: Bounded> Engine<K> {
     ghost use Rattle.std.specs.Prelude.{◌≡◌, ◌||◌, not};
     ghost use Rattle.std.specs.List.{list_any};
     ghost use Rattle.at_model.specs.Machine.{is_number, is_read, takes_numbers};

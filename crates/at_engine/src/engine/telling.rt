@@ -11,8 +11,8 @@ use super::Engine;
 use super::view::View;
 use crate::marks::Lookup;
 use at_body::{FaultKind, Inst, Value};
-use at_cache::Keeper;
 use at_demand::Answer;
+use at_evict::Bounded;
 use at_protocol::line::Place;
 use at_protocol::reply::{Form, Refusal, Shown};
 use at_store::Node;
@@ -31,7 +31,7 @@ fn number_of(value: &Value) -> TokVal
     }
 }
 
-impl<K: Keeper> Engine<K> {
+impl<K: Bounded> Engine<K> {
     ghost use Rattle.std.specs.Prelude.{IfOk};
     ghost use Rattle.at_model.specs.Paths.{Node as NodeOf};
     ghost use Rattle.at_model.specs.Meaning.{Answer as AnswerOf};

@@ -4,8 +4,8 @@ use super::asking::Asked;
 use super::saying::{Told, say};
 use super::{Engine, REPLY_ROOM};
 use crate::marks::has_asked;
-use at_cache::Keeper;
 use at_demand::Question;
+use at_evict::Bounded;
 use at_protocol::reply::{Form, Posting, Refusal};
 use std::alloc::AllocError;
 
@@ -24,7 +24,7 @@ pub struct Spent {
     pub told: Option<bool>,
 }
 
-impl<K: Keeper> Engine<K> {
+impl<K: Bounded> Engine<K> {
     ghost use Rattle.std.specs.Prelude.{◌≡◌, ◌+◌, ◌<◌, ◌≤◌, IfOk, MatchBool, None, [], length, vec_len, vec_capacity};
     ghost use Rattle.at_store.specs.Shown.{contents};
     ghost use Rattle.at_demand.specs.Groups.{KeepsGroups};

@@ -9,6 +9,7 @@ ghost use Rattle.at_engine.specs.Engines.{KeepsNothing};
 use super::models::Models;
 use at_body::{Inst, Value};
 use at_cache::{KeepRecorded, Keeper, Order};
+use at_evict::Bounded;
 use at_store::{Loc, Places};
 use std::alloc::{AllocError, Global};
 
@@ -112,7 +113,9 @@ impl Keeper for KeepCompared {
         self.keeper.flush(places, touched);
         self.models.flush(&self.keeper, touched);
     }
+}
 
+impl Bounded for KeepCompared {
     fn fit(&mut self, most: usize) {
         if self.keeper.len() <= most {
             return;
