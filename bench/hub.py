@@ -4,9 +4,16 @@
     python3 bench/hub.py [PROGRAM]
 
 First each client sends a line, waits for its reply, and sends the next one. Then all clients send all their lines without waiting.
-The clients are one process without asyncio, so that little of the time is theirs; what the hub's process takes for a line is told,
-too, and beside it what that of version 0.37 takes over the same program, by turns in one run, where the repository's history is
-there. Last come edits, with each way of making them safe. PROGRAM is ./attrd where none is given. It takes a minute.
+The clients are one process without asyncio, so that little of the time is theirs; what the hub's process takes for a line is told, too.
+Then this hub goes by turns with that of version 0.37 over the same program, in one run, where the repository's history is there: by the
+clock and by processor time, in many short rounds, with several starts of both. Rounds in which the machine's host had processors for
+others are left out, and told. Where there are three processors this is done once more, with clients, hub and program on one each: where
+the system puts them differs from round to round, and that by more than the hubs do. Last come edits, with each way of making them safe.
+PROGRAM is ./attrd where none is given. It takes four minutes.
+
+    python3 bench/hub.py --turns [PROGRAM]
+
+has the two hubs alone go by turns.
 """
 from __future__ import annotations
 
@@ -33,9 +40,12 @@ CLIENTS = (1, 16, 64)
 WAITING, PIPELINED, EDITS = 20_000, 400_000, 2_000
 LINE = b"0 where u\n"
 CHUNK = 1 << 16
-# The commit of version 0.37, beside whose hub this one is measured: so many times, with so many lines each.
+# The commit of version 0.37, beside whose hub this one is measured, with so many starts of both. In each are so many rounds of round
+# trips, and of lines without waiting, with so many lines of each hub: short ones, since what the machine does else comes and goes.
 BEFORE = "f1843a60"
-ROUNDS, SHORT_WAITING, SHORT_PIPELINED = 30, 1_500, 40_000
+STARTS = 6
+ROUNDS_WAITING, SHORT_WAITING = 150, 200
+ROUNDS_PIPELINED, SHORT_PIPELINED = 25, 20_000
 
 
 class Trips(NamedTuple):
@@ -169,46 +179,118 @@ def hub_of(clients: Path, program: str) -> Iterator[Tuple[str, int]]:
         shutil.rmtree(folder)
 
 
-def taken(clients: Sequence[socket.socket], process: int, is_waiting: bool) -> float:
-    """The microseconds that the process takes for a line of these clients."""
-    before = processor_seconds(process)
+class Turn(NamedTuple):
+    """Of a hub's lines in a round the microseconds for one, by the clock and of the hub's processor time; how many hundredths of a second
+    the host had processors for others meanwhile; and how often the system put the hub aside for a line."""
+    clock: float
+    processor: float
+    stolen: int
+    put_aside: float
+
+
+# A round: the turn of 0.37's hub, and that of this one.
+Round = Tuple[Turn, Turn]
+
+
+def stolen() -> int:
+    """For how many hundredths of a second the machine's host had processors for others so far."""
+    return int(Path("/proc/stat").read_text().split("\n", 1)[0].split()[8])
+
+
+def put_aside(process: int) -> int:
+    """How often the system had another process run in its place, though it could have gone on."""
+    return int(Path(f"/proc/{process}/status").read_text().rpartition("nonvoluntary_ctxt_switches:")[2].split()[0])
+
+
+def turn_of(clients: Sequence[socket.socket], process: int, is_waiting: bool) -> Turn:
+    """What lines of these clients take, which the process serves."""
+    lines = SHORT_WAITING if is_waiting else SHORT_PIPELINED
+    before, others, switches, start = processor_seconds(process), stolen(), put_aside(process), time.perf_counter()
     if is_waiting:
-        waited(clients, SHORT_WAITING)
+        waited(clients, lines)
     else:
-        pipelined(clients, SHORT_PIPELINED // len(clients))
-    return (processor_seconds(process) - before) / (SHORT_WAITING if is_waiting else SHORT_PIPELINED) * 1e6
+        pipelined(clients, lines // len(clients))
+    seconds = time.perf_counter() - start
+    return Turn(seconds / lines * 1e6, (processor_seconds(process) - before) / lines * 1e6, stolen() - others,
+                (put_aside(process) - switches) / lines)
 
 
-def compared(hubs: Sequence[Tuple[str, int]], clients: int, is_waiting: bool) -> Tuple[float, float, float]:
-    """The medians of what a line takes the first hub and the second one, and of the ratio in a round."""
+def rounds_of(hubs: Sequence[Tuple[str, int]], clients: int, is_waiting: bool) -> List[Round]:
+    """Rounds of so many clients of each of the two hubs, in half of which the one is first. One that isn't told comes before these."""
     opened = [[connected(path) for _ in range(clients)] for path, _ in hubs]
-    found: List[Tuple[float, ...]] = []
-    for number in range(ROUNDS):
+    found: List[Round] = []
+    for number in range((ROUNDS_WAITING if is_waiting else ROUNDS_PIPELINED) + 1):
         order = (0, 1) if number % 2 else (1, 0)
-        times = {it: taken(opened[it], hubs[it][1], is_waiting) for it in order}
-        found.append((times[0], times[1], times[1] / times[0]))
+        turns = {it: turn_of(opened[it], hubs[it][1], is_waiting) for it in order}
+        if number:
+            found.append((turns[0], turns[1]))
     for it in [*opened[0], *opened[1]]:
         it.close()
-    first, second, ratios = zip(*found)
-    return statistics.median(first), statistics.median(second), statistics.median(ratios)
+    return found
+
+
+def program_of(hub: int) -> int:
+    """The process of the program that this hub has started."""
+    return int(Path(f"/proc/{hub}/task/{hub}/children").read_text().split()[0])
+
+
+@contextmanager
+def placed(hubs: Sequence[Tuple[str, int]], is_apart: bool) -> Iterator[None]:
+    """Clients, hubs and programs each on a processor of their own, where they are to be apart."""
+    free = os.sched_getaffinity(0)
+    if is_apart:
+        own, of_hubs, of_programs, *_ = sorted(free)
+        os.sched_setaffinity(0, {own})
+        for _, process in hubs:
+            os.sched_setaffinity(process, {of_hubs})
+            os.sched_setaffinity(program_of(process), {of_programs})
+    try:
+        yield
+    finally:
+        os.sched_setaffinity(0, free)
+
+
+def compared(clients: Sequence[Path], program: str, is_apart: bool) -> Dict[Tuple[int, bool], List[Round]]:
+    """The rounds of hubs of these two folders, by how many clients they have, and whether these wait for each reply."""
+    found: Dict[Tuple[int, bool], List[Round]] = {(it, is_waiting): [] for is_waiting in (True, False) for it in CLIENTS}
+    for number in range(STARTS):
+        with ExitStack() as stack:
+            # Each is begun first as often as the other one.
+            begun = {it: stack.enter_context(hub_of(clients[it], program)) for it in ((0, 1) if number % 2 else (1, 0))}
+            hubs = [begun[0], begun[1]]
+            stack.enter_context(placed(hubs, is_apart))
+            for key, rounds in found.items():
+                rounds += rounds_of(hubs, *key)
+    return found
+
+
+def told(rounds: Sequence[Round]) -> List[str]:
+    """The cells of these rounds, without those in which the host had processors for others."""
+    kept = [it for it in rounds if not it[0].stolen and not it[1].stolen]
+    left_out = f"{len(rounds) - len(kept)} of {len(rounds)}"
+    if len(kept) < 4:
+        return ["", "", "", "", "", "", left_out]
+    speeds = [old.clock / new.clock for old, new in kept]
+    least, _, most = statistics.quantiles(speeds, n=4)
+    return [f"{1e6 / statistics.median(old.clock for old, _ in kept):,.0f}", f"{1e6 / statistics.median(new.clock for _, new in kept):,.0f}",
+            f"{statistics.median(speeds):.3f}", f"{least:.2f} to {most:.2f}",
+            f"{statistics.median(new.processor / old.processor for old, new in kept):.3f}",
+            " and ".join(f"{statistics.mean(it[at].put_aside for it in kept):.3f}" for at in (0, 1)), left_out]
 
 
 def beside_earlier(program: str) -> None:
-    """Prints what a line takes this hub, against that of 0.37."""
-    with ExitStack() as stack:
-        before = earlier(Path(stack.enter_context(tempfile.TemporaryDirectory())))
+    """Prints what this hub does beside that of 0.37."""
+    with tempfile.TemporaryDirectory() as folder:
+        before = earlier(Path(folder))
         if before is None:
             print("\nThe history of the repository isn't there: the hub of 0.37 isn't measured.", flush=True)
             return
-        hubs = [stack.enter_context(hub_of(it, program)) for it in (before, ROOT / "clients")]
-        table("Clients of the hub", "A round trip, the hub of 0.37", "This hub", "Ratio", "A line without waiting, 0.37", "This hub, without waiting",
-              "Ratio, without waiting")
-        for clients in CLIENTS:
-            cells: List[str] = []
-            for is_waiting in (True, False):
-                old, new, times = compared(hubs, clients, is_waiting)
-                cells += [f"{old:.2f} us", f"{new:.2f} us", f"{times:.2f}"]
-            row(clients, *cells)
+        for is_apart in (False, True) if len(os.sched_getaffinity(0)) >= 3 else (False,):
+            found = compared([before, ROOT / "clients"], program, is_apart)
+            table("Clients of the hub" + (", each process on a processor of its own" if is_apart else ""), "A second, the hub of 0.37",
+                  "This hub", "Ratio", "In half of the rounds", "Processor time, ratio", "Put aside for a line, both", "Rounds left out")
+            for (clients, is_waiting), rounds in found.items():
+                row(f"{clients}, {'round trips' if is_waiting else 'without waiting'}", *told(rounds))
 
 
 def edits(sync: str) -> List[float]:
@@ -235,6 +317,9 @@ def edits(sync: str) -> List[float]:
 
 
 def main(words: Sequence[str]) -> None:
+    if words[:1] == ["--turns"]:
+        beside_earlier(program_in(words[1:], __doc__))
+        return
     program = program_in(words, __doc__)
     os.environ["ATTRD"] = program
     from hub_support import Hub
