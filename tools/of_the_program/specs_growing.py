@@ -135,8 +135,10 @@ class Editing:
         if not movable or not lists:
             return None
         node = self.chance.choice(movable)
-        inside = [] if self.is_wrong() else list(node.all())
-        fitting = [(to, it) for to, it in lists if to not in inside and (self.is_wrong() or self.grammar.is_below(node.kind, it.kind))]
+        inside = list(node.all())
+        fitting = [(to, it) for to, it in lists if to not in inside and self.grammar.is_below(node.kind, it.kind)]
+        if self.is_wrong() or self.is_wrong():
+            fitting = [it for it in lists if it[0] in inside] or lists
         if not fitting:
             return None
         to, part = self.chance.choice(fitting)

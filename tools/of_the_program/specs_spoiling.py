@@ -11,6 +11,8 @@ from tools.of_the_program.specs_aspects import Specification
 SWAPPED = {"&&": "||", "||": "&&", "==": "!=", "!=": "==", "true": "false", "false": "true", "+": "-", "-": "+", "0": "1", "1": "0", "<": "<=",
            ">": "<", "this": "null", "null": "this"}
 OPENING, CLOSING = ("(", "{", "["), (")", "}", "]")
+# How often all circular attributes get the other start.
+OTHER_STARTS = 0.1
 # Where a change stands, up to where, and what is written there.
 Change = Tuple[int, int, str]
 
@@ -26,17 +28,21 @@ class Spoiling:
             groups.setdefault(tuple(one.kind for one in it.parameters), []).append(name)
         for parts in specification.grammar.parts.values():
             for part in parts:
-                groups.setdefault((part.form, "get"), []).append(f"get{part.name}")
+                # a child that may be absent is asked for as one that is there
+                form = "child" if part.form == "optional" else part.form
+                groups.setdefault((form, "get"), []).append(f"get{part.name}")
         for names in groups.values():
             for name in names:
                 self.alike.setdefault(name, []).extend(sorted({*names}))
 
     def spoiled(self, aspects: Sequence[str]) -> List[str]:
         """The aspect files with one change."""
+        if self.chance.random() < OTHER_STARTS:
+            return [it.replace("[false]", "[true]") for it in aspects]
         found, at = list(aspects), self.chance.randrange(len(aspects))
         tokens = cut(found[at])
         ways: Tuple[Callable[[Sequence[Token]], Optional[Change]], ...] = (
-            self.swapped, self.swapped, self.renamed, self.renamed, self.without_guard, self.without_guard, self.without_equation,
+            self.swapped, self.swapped, self.renamed, self.renamed, *[self.without_guard] * 4, self.without_equation,
             self.without_circular, self.made_circular)
         change = self.chance.choice(ways)(tokens)
         if change:

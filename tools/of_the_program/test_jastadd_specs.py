@@ -21,10 +21,10 @@ KEEPERS: Dict[str, List[str]] = {"plain": [], "cut-off": ["--cut-off"], "few": [
 SESSIONS, LINES, SLICES, SEED = 20, 60, (1, 2, 5, 1_000), 2004
 FOLDERS = [str(ROOT / "samples" / it) for it in ("simplic", "states")]
 # So many changes of aspects are tried.
-CHANGES = 6
+CHANGES = 9
 # How many replies of each sort there are at least, over one folder, and over both where aspects are spoiled.
 FEWEST = {"=": 1_000, "ok": 500, "refused": 100}
-FEWEST_SPOILED = {**FEWEST, "fault": 100, "circular": 50}
+FEWEST_SPOILED = {**FEWEST, "fault": 20, "circular": 10}
 # How deep the meaning of a question may nest.
 NESTED = 30_000
 
