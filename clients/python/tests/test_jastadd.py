@@ -87,6 +87,21 @@ EVERYWHERE = """aspect A {
   syn P P.r() = p(); //: J3/2
 }
 """
+# And of names that are synthesized in one class and inherited in another.
+BOTH = """aspect A {
+  syn int S.d() = 1;
+  inh int B.d();
+  eq Q.getB().d() = 2;
+  inh boolean B.d(int n); //: J2/9
+  inh int T.d(); //: J2/9
+  inh int B.e();
+  syn boolean S.e() = true;
+  eq Q.getB().e() = 3;
+  syn boolean B.f() = e() == 3;
+  syn int S.g() = e(); //: J4/0
+}
+"""
+BESIDE = Source("s.ast", "P ::= S* Q; S ::= <Name>; T : S; Q ::= B; B;")
 
 
 def spelled(it):
@@ -149,7 +164,7 @@ class Reading(unittest.TestCase):
         self.assertEqual([it.form for it in read_aspects("aspect X { int A.m() { return 1; } }")], ["other"])
 
     def test_all_faults_are_found_in_one_run(self):
-        for grammar, aspects in (GRAMMAR, FAULTS), (CLASSES, AGAIN), (CLASSES, EVERYWHERE):
+        for grammar, aspects in (GRAMMAR, FAULTS), (CLASSES, AGAIN), (CLASSES, EVERYWHERE), (BESIDE, BOTH):
             findings = check(grammar, [Source("x.jrag", aspects)], PROGRAM, "jastadd").findings
             wanted = [(line, fault) for line, text in enumerate(aspects.splitlines(), 1) for fault in text.partition("//: ")[2].split()]
             self.assertEqual([(it.line, f"{it.code}/{it.section.partition('.')[0] or 0}") for it in findings], wanted)

@@ -117,7 +117,8 @@ class Advice:
             way = way_without(self.specification, it)
             return f"A node can stand without an equation for {name} above it{f': {way}' if way else ''}."
         if refused.code == "J9" and it.getter is not None:
-            inherited = {known for known in self.specification.attribute_names if self.specification.named(known)[0].declaration.form == "inh"}
+            inherited = {known for known in self.specification.attribute_names
+                         if any(it.declaration.form == "inh" for it in self.specification.named(known))}
             return f"No class has an inherited attribute {name}. {self._near(name, inherited)}".strip()
         if refused.code == "J9":
             return f"{of} has no synthesized attribute {name}. {self._near(name, self._attributes(of))}".strip()

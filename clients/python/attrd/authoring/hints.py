@@ -10,7 +10,7 @@ from .aspect_tree import Declaration, Expression, Form, Piece
 from .mending import Refused
 from .specification import NODES, Placed, Specification, is_java_kind
 from .ways import (AT_ROOT, BELOW_ROOT, COMPUTED, FIFTH, FORMS, JAVA_TYPES, NAMES, NO_VALUE, NUMBERS, OF_JAVA, OF_LISTS, OF_SETS,
-                   OTHER_KIND, OTHERWISE, OVERLOADED, OVERRIDDEN, TOO_MANY, TWO_FORMS, TWO_TYPES, Way, way_of_body)
+                   ONE_LINE, OTHER_KIND, OTHERWISE, OVERLOADED, OVERRIDDEN, TOO_MANY, TWO_FORMS, TWO_TYPES, Way, way_of_body)
 
 _SEVERAL = re.compile(r"get(\w+)s")
 _OPTIONAL = re.compile(r"get(\w+)Opt")
@@ -179,7 +179,7 @@ class Hints:
             return Way("Take a name that isn't bound there yet, by a parameter, an index or a fold.")
         other = found.declaration
         if other.form != it.form and "inh" in (other.form, it.form):
-            return TWO_FORMS
+            return ONE_LINE if self._is_jastadd() else TWO_FORMS
         if it.form == "inh":
             return TWO_TYPES
         kinds = [[binding.kind.text for binding in known.parameters if binding.kind is not None] for known in (other, it)]
@@ -198,8 +198,10 @@ class Hints:
 
     def _is_related(self, other: Declaration, it: Declaration) -> bool:
         assert other.of is not None and it.of is not None
-        grammar = self.specification.grammar
-        return "inh" in (other.form, it.form) or grammar.is_below(other.of.text, it.of.text) or grammar.is_below(it.of.text, other.of.text)
+        grammar, forms = self.specification.grammar, (other.form, it.form)
+        is_compared = forms == ("inh", "inh") if self._is_jastadd() else "inh" in forms
+        return is_compared or any(map(self.specification.is_everywhere, (other, it))) \
+            or grammar.is_below(other.of.text, it.of.text) or grammar.is_below(it.of.text, other.of.text)
 
     def unbound(self, expression: Expression, it: Declaration) -> Optional[Expression]:
         """The name that is bound nowhere with which an expression begins, where it begins with one."""

@@ -3,7 +3,7 @@ from __future__ import annotations
 
 import re
 from dataclasses import dataclass
-from typing import Iterator, List, NamedTuple, Optional, Tuple
+from typing import Iterator, List, NamedTuple, Optional, Sequence, Tuple
 
 from ..grammar import Shape
 from ..scanning import Word
@@ -76,8 +76,7 @@ class Names:
         if it.getter is not None and it.of is not None:
             yield from self._accessor(file, it.getter, it.of.text)
         if it.name is not None and it.of is not None:
-            own = placed if it.is_declaring else None if it.getter is not None else self.specification.attribute(it.of.text, it.name.text)
-            yield from self._attribute(file, it.name, own)
+            yield from self._attribute(file, it.name, self._declared(placed, it.name.text, it.of.text))
         for binding in [*it.parameters, *([Binding(it.index)] if it.index is not None else [])]:
             yield self._bound(file, binding.name, binding, it)
 
@@ -109,7 +108,7 @@ class Names:
         elif of is None or of in self.specification.grammar:
             own = None if of is None else self.specification.attribute(of, it.word.text)
             if own is not None or of is None:
-                yield from self._attribute(file, it.word, own)
+                yield from self._attribute(file, it.word, self.specification.named(it.word.text) if own is None else [own])
 
     def _class(self, file: str, word: Word) -> Iterator[Meaning]:
         known = self.specification.classes.get(word.text)
@@ -129,9 +128,17 @@ class Names:
             declared = (_place(self.specification.grammar_file.name, names[0]),)
             yield Meaning(_place(file, word), ("component", of, part), declared, self.told_of_component(of, part))
 
-    def _attribute(self, file: str, word: Word, own: Optional[Placed]) -> Iterator[Meaning]:
-        """The meaning of an attribute's name: that of its declaration, or of all of that name where it isn't known which."""
-        found = [own] if own is not None else self.specification.named(word.text)
+    def _declared(self, placed: Placed, name: str, of: str) -> List[Placed]:
+        """The declarations for which a declaration or an equation may be, with an attribute's name and a class."""
+        if placed.declaration.is_declaring:
+            return [placed]
+        if placed.declaration.getter is not None:
+            return self.specification.inherited(name)
+        own = self.specification.attribute(of, name)
+        return self.specification.named(name) if own is None else [own]
+
+    def _attribute(self, file: str, word: Word, found: Sequence[Placed]) -> Iterator[Meaning]:
+        """The meaning of an attribute's name: that of its declaration, or of all for which it may be."""
         if found:
             first = found[0].declaration
             assert first.of is not None

@@ -436,7 +436,7 @@ class Mending:
         if it.name is None or it.of is None:
             return None
         known = self.specification.attribute(it.of.text, it.name.text) if it.getter is None else None
-        named = [known] if known is not None else self.specification.named(it.name.text)
+        named = [known] if known is not None else self.specification.inherited(it.name.text) if it.getter else self.specification.named(it.name.text)
         return named[0].declaration if named else None
 
     def _dummy(self, it: Declaration) -> Optional[str]:

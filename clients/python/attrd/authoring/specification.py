@@ -102,6 +102,10 @@ class Specification:
         """All declarations of attributes of this name."""
         return self._named.get(name, [])
 
+    def inherited(self, name: str) -> List[Placed]:
+        """The declarations of inherited attributes of this name, for which equations for components are; all of this name where it has none."""
+        return [it for it in self.named(name) if it.declaration.form == "inh"] or self.named(name)
+
     def attribute(self, of: str, name: str) -> Optional[Placed]:
         """The declaration of an attribute for a class, or for the nearest class above it that has one."""
         if of not in self.grammar:

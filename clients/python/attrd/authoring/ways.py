@@ -93,6 +93,7 @@ OVERLOADED = Way("One name is declared once for a class and those below it, what
 OTHER_KIND = Way("The kind is the one that is declared for the class above, or a class below it.", 4)
 OVERRIDDEN = Way("An attribute is declared once for a class and those below it: override it by `eq`.", 15)
 TWO_FORMS = Way("A name is `syn` for all classes or `inh` for all classes: give one of the two another name.", 9)
+ONE_LINE = Way("On one line of classes a name is `syn` for all or `inh` for all: give one of the two another name.", 9)
 TWO_TYPES = Way("All `inh` declarations of a name say the same types, and the same of `circular`: take two names, or one type above "
                 "both.", 9)
 NUMBERS = Way("A parameter is a String or a node: a number that is an index is the element, and one that grows on the way down is an "
