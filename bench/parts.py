@@ -3,7 +3,7 @@ reading files and words.
 
 A function of the repository's crates stands in one part, and is declared in the other where that calls it. A function of a library is
 copied into each part that needs it, so what is inlined within a part, and how deep a question goes on the stack, stays as it is in one
-module.
+module. Functions of a library that do the same for several types, word for word, are compiled once.
 """
 import re
 from typing import Dict, Iterable, List, Set, Tuple
