@@ -1,5 +1,5 @@
 -- What is read as users of JastAdd write it: each number in a body has 32 bits, and what is circular is boolean.
-use Rattle.std.proofs.Common.{◌≡◌, ◌+◌, ℕ, zero, suc, List, [], ◌∷◌, Bool, true, false, Option, None, Some, cond, map, refl, sym, subst, true≢false}
+use Rattle.std.proofs.Common.{◌≡◌, ◌+◌, ℕ, zero, suc, List, [], ◌∷◌, Bool, true, false, Option, None, Some, cond, map, refl, sym, subst, arith, true≢false}
 use Rattle.std.specs.Prelude.{IfSome}
 use Rattle.std.specs.List.{AllByRecursion, flat_map}
 use Rattle.std.proofs.lemmas.Option.{none-some}
@@ -9,7 +9,7 @@ use Rattle.at_model.proofs.Everywhere.{all_both, all_map, all_more}
 use Rattle.at_text.specs.declared.place.Place.{Place}
 use Rattle.at_text.specs.Rows.{Row}
 use Rattle.at_jrag.specs.Syntax as syntax
-use Rattle.at_jrag.specs.Syntax.{Expr, Kind, KindWord, Body, Ending, DeclForm, Decl, Aspect}
+use Rattle.at_jrag.specs.Syntax.{Expr, Kind, KindWord, Param, Body, Ending, DeclForm, Decl, Aspect, to_exprs}
 use Rattle.at_jrag.specs.Heads.{is_getter}
 use Rattle.at_java.specs.Read.{Read, got, fails, here, at_place}
 use Rattle.at_java.specs.Tokens.{sign_here, name}
@@ -25,14 +25,15 @@ use Rattle.at_java.specs.Declarations.{Target, target, laziness, is_boolean, sta
 use Rattle.at_java.specs.Aliases.{Alias, resolved_row}
 use Rattle.at_java.specs.Files.{named_aspect, aspect, aspects, imports, aspects_in, most_aspects, most_declarations}
 use Rattle.at_java.specs.declared.JavaCode.TheVariants.{Syntax, LeftOut, Limit, NoValue}
-use Rattle.at_typing.proofs.Literals.{AreInts, AreIntsIn}
+use Rattle.at_typing.proofs.Literals.{AreInts, AreIntsAmong, AreIntsIn}
 use Rattle.at_typing.specs.Declaring.{body_at, body_in}
 use Rattle.at_typing.specs.Located.{Located, from_aspect, from_file, located}
 use Rattle.at_typing.proofs.Starting.{IsBooleanForm, IsBooleanIn}
 use Rattle.at_model.specs.Classes.{Classes}
 use Rattle.at_start.specs.AspectFiles.{AllHold}
 use Rattle.at_start.specs.Redeclaring.{Signature, as_equation, aspect_read, files_read, is_declared_above, read_as, read_in, signature_in, signatures}
-use Rattle.at_start.specs.Spreading.{Head as Own, ending_if, form_for, is_among, spread}
+use Rattle.at_start.specs.Spreading.{Head as Own, ending_if, form_for, is_among, null_form, spread}
+use Rattle.at_start.specs.NullCalls.{literal_for, literal_of}
 use Rattle.at_start.specs.declared.language.Language.TheVariants.{JastAdd}
 use Rattle.at_start.proofs.SpreadForms.{spread_have}
 use Rattle.at_start.proofs.JavaGiven.{Gives, gives_then, gives_behind, gives_either, gives_word, gives_sign}
@@ -318,6 +319,25 @@ form_for_fits hs class (syntax.Inherited lazy kind of name params start) fits = 
 form_for_fits hs class (syntax.Equation of name params body) fits = tt
 form_for_fits hs class (syntax.InheritedEquation of getter index name params body) fits = tt
 
+-- ---- what the start class declares
+
+literal_ints : (k : Kind) (at : Place) → AreInts (literal_of k at)
+literal_ints syntax.Int at = omega arith
+literal_ints syntax.Bool' at = tt
+literal_ints syntax.Text at = tt
+literal_ints (syntax.Class name) at = tt
+
+literals_ints : (ps : List Param) → AreIntsAmong (to_exprs (map literal_for ps))
+literals_ints [] = tt
+literals_ints (p ∷ ps) = (literal_ints p.kind.kind p.name.at, literals_ints ps)
+
+null_form_fits : (root : List ℕ) (form : DeclForm) → Fits form → IfSome (null_form root form) Fits
+null_form_fits root (syntax.Synthesized lazy kind of name params start ending) fits = tt
+null_form_fits root (syntax.Inherited lazy kind of name params start) fits =
+    ((tt, literals_ints params.items), is_boolean_form kind None (λ b none. absurd (none-some b none)))
+null_form_fits root (syntax.Equation of name params body) fits = tt
+null_form_fits root (syntax.InheritedEquation of getter index name params body) fits = tt
+
 -- ---- all files
 
 module _ (classes : Classes) (among : List Signature) where
@@ -341,7 +361,7 @@ module _ (names : List Alias) where
     read_fit : AllByRecursion LocatedFits (located 1 (read_in JastAdd classes aspects))
     read_fit =
         let all = spread classes aspects in
-        located_fit classes (signatures classes all) 1 all (spread_have Fits form_for_fits classes aspects (hold_fit files aspects hold))
+        located_fit classes (signatures classes all) 1 all (spread_have Fits form_for_fits null_form_fits classes aspects (hold_fit files aspects hold))
 
     pub hold_ints : AllByRecursion AreIntsIn (located 1 (read_in JastAdd classes aspects))
     hold_ints = all_more LocatedFits AreIntsIn (located 1 (read_in JastAdd classes aspects)) (λ d fits. fits.0) read_fit

@@ -6,7 +6,8 @@ use Rattle.at_model.specs.Classes.{Class, Classes, name_of}
 use Rattle.at_model.proofs.Everywhere.{all_both}
 use Rattle.at_text.specs.declared.place.Place.{Place}
 use Rattle.at_jrag.specs.Syntax.{DeclForm, Decl, Aspect}
-use Rattle.at_start.specs.Spreading.{Head, heads, is_declared_for, is_everywhere, form_for, declared_at, decl_for, decls_from, spread_as, aspect_spread, files_spread, spread}
+use Rattle.at_typing.specs.Located.{name_word}
+use Rattle.at_start.specs.Spreading.{Head, heads, is_declared_for, is_everywhere, is_among_at_root, form_for, null_form, declared_at, decl_for, decls_at_root, decls_everywhere, decls_from, spread_as, aspect_spread, files_spread, spread}
 use Rattle.at_start.specs.declared.everywhere.Sought.TheVariants.{Attributes, Equations}
 
 -- it holds of each declaration of the aspect
@@ -18,7 +19,8 @@ abbrev pub FilesHave : (DeclForm → Type 0) → List (List Aspect) → Type 0
 FilesHave P files = AllByRecursion (AllByRecursion (AspectHas P)) files
 
 module _ (P : DeclForm → Type 0)
-    (each : (hs : List Head) (class : List ℕ) (form : DeclForm) → P form → IfSome (form_for hs class form) P) where
+    (each : (hs : List Head) (class : List ℕ) (form : DeclForm) → P form → IfSome (form_for hs class form) P)
+    (at_root : (root : List ℕ) (form : DeclForm) → P form → IfSome (null_form root form) P) where
   abbrev Has : Decl → Type 0
   Has d = P d.form
 
@@ -40,11 +42,20 @@ module _ (P : DeclForm → Type 0)
         all_both Has (decl_for classes attributes equations d c) (decls_from classes attributes equations d (c + 1) ks)
         (class_has d c has) (classes_have d (c + 1) ks has)
 
+    root_has : (d : Decl) → P d.form → AllByRecursion Has (decls_at_root classes attributes d)
+    root_has d has = by (is_among_at_root classes attributes (name_word d.form).text)
+      where
+        by : (b : Bool) → AllByRecursion Has (cond b [] (declared_at d.at (null_form (name_of classes 0) d.form)))
+        by true = tt
+        by false = declared_has d.at (null_form (name_of classes 0) d.form) (at_root (name_of classes 0) d.form has)
+
     decl_has : (d : Decl) → P d.form → AllByRecursion Has (spread_as classes attributes equations d)
     decl_has d has = by (is_everywhere d.form)
       where
-        by : (b : Bool) → AllByRecursion Has (cond b (decls_from classes attributes equations d 0 classes) (d ∷ []))
-        by true = classes_have d 0 classes has
+        by : (b : Bool) → AllByRecursion Has (cond b (decls_everywhere classes attributes equations d) (d ∷ []))
+        by true =
+            all_both Has (decls_at_root classes attributes d) (decls_from classes attributes equations d 0 classes)
+            (root_has d has) (classes_have d 0 classes has)
         by false = (has, tt)
 
     decls_have : (ds : List Decl) → AllByRecursion Has ds → AllByRecursion Has (flat_map (spread_as classes attributes equations) ds)

@@ -6,7 +6,7 @@ use Rattle.std.specs.Global.{Global}
 use Rattle.at_model.specs.Classes.{Classes}
 use Rattle.at_jrag.specs.Syntax.{Aspect, Decl}
 use Rattle.at_jrag.specs.declared.syntax.Aspect.{Aspect as AspectValue}
-use Rattle.at_start.specs.Spreading.{Head, HaveNoneEverywhere, aspect_spread, decls_from, files_spread, heads, is_everywhere, spread, spread_as}
+use Rattle.at_start.specs.Spreading.{Head, HaveNoneEverywhere, aspect_spread, decls_everywhere, files_spread, heads, is_everywhere, spread, spread_as}
 use Rattle.at_start.specs.declared.everywhere.Sought.TheVariants.{Attributes, Equations}
 use Rattle.at_start.proofs.Rereading.{aspects_of}
 
@@ -39,7 +39,7 @@ module _ (classes : Classes) (attributes equations : List Head) where
   decls_stand [] are = refl
   decls_stand (d ∷ ds) are =
       let rest = flat_map (spread_as classes attributes equations) ds in
-      ap (λ (b : Bool). cond b (decls_from classes attributes equations d 0 classes) (d ∷ []) ++ rest) are.0
+      ap (λ (b : Bool). cond b (decls_everywhere classes attributes equations d) (d ∷ []) ++ rest) are.0
       ∙ ap (λ (xs : List Decl). d ∷ xs) (decls_stand ds are.1)
 
   aspects_stand : (as' : List Aspect) → AllByRecursion (λ a. AllByRecursion (λ d. is_everywhere d.form ≡ false) a.decls) as'

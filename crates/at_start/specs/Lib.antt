@@ -4,6 +4,7 @@ pub mod Files
 pub mod GrammarFiles
 pub mod TreeFiles
 pub mod Lists
+pub mod NullCalls
 pub mod Spreading
 pub mod Redeclaring
 pub mod AspectFiles

@@ -3,11 +3,12 @@
 use Rattle.std.specs.Prelude.{◌≡◌, ℕ, ◌+◌, nat_le, Bool, true, false, ◌&&◌, ◌||◌, not, List, [], ◌∷◌, ◌++◌, length, map, filter_map, codes, Option, Some, None, is_some, if◌then◌else◌}
 use Rattle.std.specs.List.{AllByRecursion, flat_map, list_any}
 use Rattle.std.specs.Str.{bytes_eq}
-use Rattle.at_model.specs.Classes.{Class, Classes, is_sub, name_of, parent_of}
+use Rattle.at_model.specs.Classes.{Class, Classes, class_of_name, is_sub, name_of, parent_of}
 use Rattle.at_text.specs.declared.place.Place.{Place}
 use Rattle.at_jrag.specs.Syntax.{Word, Ending, With, Semicolon, DeclForm, Synthesized, Inherited, Equation, InheritedEquation, Decl, Aspect}
 use Rattle.at_typing.specs.Declaring.{is_attribute}
 use Rattle.at_typing.specs.Located.{class_word, name_word}
+use Rattle.at_start.specs.NullCalls.{null_body}
 use Rattle.at_start.specs.declared.everywhere.Sought.{Sought}
 use Rattle.at_start.specs.declared.everywhere.Sought.TheVariants.{Attributes, Equations}
 
@@ -117,10 +118,42 @@ abbrev pub decls_from : Classes → (attributes equations : List Head) → Decl 
 decls_from classes attributes equations d c [] = []
 decls_from classes attributes equations d c (k ∷ ks) = decl_for classes attributes equations d c ++ decls_from classes attributes equations d (c + 1) ks
 
--- what a declaration is read as
+-- what the start class declares -----------------------------------------------------------------------------------------
+
+-- the class, if there is one, is that of the root, or one above or below it
+abbrev pub is_of_root_line : Classes → Option ℕ → Bool
+is_of_root_line classes None = false
+is_of_root_line classes (Some c) = is_on_root_line classes c
+
+abbrev pub is_head_at_root : Classes → (name : List ℕ) → Head → Bool
+is_head_at_root classes name h = bytes_eq name h.name && is_of_root_line classes (class_of_name classes h.class)
+
+-- one of these is of that attribute and of such a class
+abbrev pub is_among_at_root : Classes → List Head → (name : List ℕ) → Bool
+is_among_at_root classes hs name = list_any (is_head_at_root classes name) hs
+
+-- an inherited attribute has no value at the root: the start class declares a synthesized one, of which each value is the fault `null`
+abbrev pub null_form : (root : List ℕ) → DeclForm → Option DeclForm
+null_form root (Synthesized lazy kind of name params start ending) = None
+null_form root (Inherited lazy kind of name params start) =
+    Some (Synthesized lazy kind (renamed of root) name params None (With (null_body (renamed of root) name params.items)))
+null_form root (Equation of name params body) = None
+null_form root (InheritedEquation of getter index name params body) = None
+
+-- unless a class on its line declares the attribute itself
+abbrev pub decls_at_root : Classes → (attributes : List Head) → Decl → List Decl
+decls_at_root classes attributes d =
+    if is_among_at_root classes attributes (name_word d.form).text then [] else declared_at d.at (null_form (name_of classes 0) d.form)
+
+-- what a declaration is read as ---------------------------------------------------------------------------------------
+
+-- what is declared for the start class alone comes first
+abbrev pub decls_everywhere : Classes → (attributes equations : List Head) → Decl → List Decl
+decls_everywhere classes attributes equations d = decls_at_root classes attributes d ++ decls_from classes attributes equations d 0 classes
+
 abbrev pub spread_as : Classes → (attributes equations : List Head) → Decl → List Decl
 spread_as classes attributes equations d =
-    if is_everywhere d.form then decls_from classes attributes equations d 0 classes else d ∷ []
+    if is_everywhere d.form then decls_everywhere classes attributes equations d else d ∷ []
 
 abbrev pub aspect_spread : Classes → (attributes equations : List Head) → Aspect → Aspect
 aspect_spread classes attributes equations a = record { name = a.name; decls = flat_map (spread_as classes attributes equations) a.decls }

@@ -4,11 +4,12 @@ ghost use Rattle.std.specs.Prelude.{◌≡◌, ◌∷◌, ◌++◌, ◌<◌, [],
 ghost use Rattle.std.specs.List.{flat_map};
 ghost use Rattle.at_jrag.specs.Syntax.{With};
 ghost use Rattle.at_jrag.specs.View.{aspect_view, body_view, decl_view, decl_form_view, ending_view, kind_view, kind_word_view, param_view, params_view, word_view};
-ghost use Rattle.at_model.specs.Classes.{name_of};
+ghost use Rattle.at_model.specs.Classes.{class_of_name, name_of};
 ghost use Rattle.at_typing.specs.Declaring.{is_attribute};
 ghost use Rattle.at_typing.specs.Located.{class_word, name_word};
-ghost use Rattle.at_start.specs.Spreading.{aspect_spread, decl_for, decls_from, ending_if, files_spread, form_for, head_in, head_of, heads, heads_in, is_among, is_declared_for, is_everywhere, is_head, is_on_root_line, is_on_root_line_if, is_sought, is_topmost, is_topmost_below_root, renamed, spread, spread_as, spread_over, stands_for, without_body};
+ghost use Rattle.at_start.specs.Spreading.{aspect_spread, decl_for, decls_at_root, decls_everywhere, decls_from, ending_if, files_spread, form_for, head_in, head_of, heads, heads_in, is_among, is_among_at_root, is_declared_for, is_everywhere, is_head, is_head_at_root, is_of_root_line, is_on_root_line, is_on_root_line_if, is_sought, is_topmost, is_topmost_below_root, null_form, renamed, spread, spread_as, spread_over, stands_for, without_body};
 
+use crate::null_calls::null_body;
 use at_class::{ClassId, ClassTable};
 use at_java::copy_of;
 use at_jrag::{Aspect, Body, Decl, DeclForm, Ending, Kind, KindWord, Param, Params, Word};
@@ -217,6 +218,19 @@ impl Head {
         }
         name == self.name.as_str()
     }
+
+    /// Whether it is of that attribute, and of a class on the root's line.
+    fn is_at_root(&self, classes: &ClassTable, name: &str) -> bool
+        ensures { result ≡ is_head_at_root classes.now name.now self.now }
+    {
+        if name != self.name.as_str() {
+            return false;
+        }
+        match classes.id_of(self.class.as_str()) {
+            Some(class) => is_on_root_line(classes, class),
+            None => false,
+        }
+    }
 }
 
 /// The aspects of the files, where classes have these of their own.
@@ -295,7 +309,7 @@ fn spread_decl(
         ≡ map decl_view all.old.items ++ spread_as classes.now own.now.attributes.items own.now.equations.items (decl_view decl)) }
 {
     if is_everywhere(&decl.form) {
-        return append_classes(alloc, classes, own, &decl, all);
+        return append_everywhere(alloc, classes, own, &decl, all);
     }
     all.push(decl)?;
     Ok(())
@@ -309,6 +323,83 @@ fn is_everywhere(form: &DeclForm) -> bool
         return false;
     }
     class_word(form).text.as_str() == EVERY_NODE
+}
+
+/// Adds what is declared for the start class alone, and for each class.
+fn append_everywhere(
+    alloc: Global,
+    classes: &ClassTable,
+    own: &Own,
+    decl: &Decl,
+    all: &mut Vec<Decl>,
+) -> Result<(), AllocError>
+    ensures { OnOk result (map decl_view all.new.items
+        ≡ map decl_view all.old.items ++ decls_everywhere classes.now own.now.attributes.items own.now.equations.items (decl_view decl.now)) }
+{
+    append_root(alloc, classes, &own.attributes, decl, all)?;
+    append_classes(alloc, classes, own, decl, all)
+}
+
+/// Adds what the start class declares in place of an inherited attribute, unless a class on its line declares that itself.
+fn append_root(
+    alloc: Global,
+    classes: &ClassTable,
+    attributes: &[Head],
+    decl: &Decl,
+    all: &mut Vec<Decl>,
+) -> Result<(), AllocError>
+    ensures { OnOk result (map decl_view all.new.items
+        ≡ map decl_view all.old.items ++ decls_at_root classes.now attributes.now (decl_view decl.now)) }
+{
+    if is_among_at_root(classes, attributes, name_word(&decl.form).text.as_str()) {
+        return Ok(());
+    }
+    if let Some(form) = null_form(alloc, classes.name_of(classes.start()), &decl.form)? {
+        all.push(Decl { at: decl.at, form })?;
+    }
+    Ok(())
+}
+
+/// Whether one of them is of that attribute, and of the class of the root or one above or below it.
+fn is_among_at_root(classes: &ClassTable, heads: &[Head], name: &str) -> bool
+    ensures { result ≡ is_among_at_root classes.now heads.now name.now }
+{
+    for head in heads {
+        if head.is_at_root(classes, name) {
+            return true;
+        }
+    }
+    false
+}
+
+/// The synthesized attribute that the start class, of that name, declares in place of an inherited one.
+fn null_form(alloc: Global, root: &str, form: &DeclForm) -> Result<Option<DeclForm>, AllocError>
+    ensures { IfOk result (λ o. option_map decl_form_view o ≡ null_form root.now (decl_form_view form.now)) }
+{
+    match form {
+        DeclForm::Inherited {
+            lazy,
+            kind,
+            class: of,
+            name,
+            params,
+            start: _,
+        } => Ok(Some(DeclForm::Synthesized {
+            lazy: *lazy,
+            kind: copied_kind_word(alloc, kind)?,
+            class: word_at(alloc, of.at, root)?,
+            name: word_at(alloc, name.at, name.text.as_str())?,
+            params: copied_params(alloc, params)?,
+            start: None,
+            ending: Ending::Body(null_body(
+                alloc,
+                word_at(alloc, of.at, root)?,
+                name,
+                &params.items,
+            )?),
+        })),
+        _ => Ok(None),
+    }
 }
 
 /// Adds what is declared for each class.

@@ -3,8 +3,8 @@
 //!
 //! **Its specs:** `Whole` is the theorem, to be read first; `Starts` is what files make, with a page for each kind of file
 //! (`GrammarFiles`, `AspectFiles`, `TreeFiles`) over their bytes (`Files`); `Lists` are the short names of lists, which aspects may
-//! have, `Spreading` is what is read of attributes that are declared for ASTNode, and `Redeclaring` of those that are declared again
-//! below; `StartFaults` and `Codes` are what is printed of a file that is refused.
+//! have, `Spreading` is what is read of attributes that are declared for ASTNode (at the root by `NullCalls`), and `Redeclaring` of those that
+//! are declared again below; `StartFaults` and `Codes` are what is printed of a file that is refused.
 //!
 //! **Where to begin:** `answer` in `serving.rt` is the whole, and `start`, below, its first half; `grammar.rt`, `aspects.rt`
 //! and `tree.rt` have what each kind of file gives, `lists.rt`, `everywhere.rt` and `redeclared.rt` what JastAdd's own language has beside
@@ -30,6 +30,7 @@ mod grammar;
 mod language;
 pub mod laws;
 mod lists;
+mod null_calls;
 mod redeclared;
 mod serving;
 mod tree;
