@@ -1,5 +1,5 @@
 """Attributes that are declared for ASTNode, in JastAdd's own language, by chance: each node has the value of the nearest class with a body,
-or else that of ASTNode, whatever declares it; and what is inherited has every node but the root."""
+or else that of ASTNode, whatever declares it; and what is inherited has every node, but that the root has a fault for it."""
 import os
 import random
 from typing import Dict, List, Optional
@@ -55,7 +55,7 @@ class Everywhere(ProgramTest):
         (self.folder / "x.jrag").write_text(it.aspect)
         asked = [(name, of) for name in range(ATTRIBUTES) for of in range(-1, CLASSES)]
         lines = [f"0 ask {path(of)} a{name}()" for name, of in asked] + [f"0 ask {path(of)} i()" for of in range(-1, CLASSES)]
-        wanted = [f"0 = {it.value(name, of)}" for name, of in asked] + ["0 refused 13 attribute"] + ["0 = 7"] * CLASSES
+        wanted = [f"0 = {it.value(name, of)}" for name, of in asked] + ["0 fault null in /.i"] + ["0 = 7"] * CLASSES
         out, err = self.begin(WORDS).communicate("".join(f"{line}\n" for line in lines).encode())
         self.assertEqual((out.decode().splitlines(), err.decode()), (wanted, ""), it.aspect)
 

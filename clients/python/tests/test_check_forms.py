@@ -163,12 +163,15 @@ class OfAnyNode(unittest.TestCase):
         self.assertIn("prev has the kind ASTNode, and no such class is declared", found[0][3])
 
     def test_the_root_has_none_above(self):
+        """It has what ASTNode inherits, as a fault, but where a class below the root's declares that itself."""
         text = "inh Stmt ASTNode.prev(); eq Program.getChild().prev() = null; syn int ASTNode.b() = prev() == null ? 0 : 1;"
-        (code, _, of, said), = self.told(text, "jastadd")
-        self.assertEqual((code, of), ("J3", section(2)))
-        self.assertIn("The class of the root, Program, has no prev", said)
-        self.assertIn("Give the class of the root an equation of its own", said)
-        self.assertEqual(self.told(f"{text} eq Program.b() = 0;", "jastadd"), [])
+        self.assertEqual(self.told(text, "jastadd"), [])
+        grammar = Source("p.ast", "P ::= S*;\nabstract Q : P;\nS;\n")
+        aspects = Source("p.jrag", "aspect A { inh S ASTNode.prev(); eq P.getS().prev() = null; syn S Q.prev() = null; syn S P.first() = prev(); }")
+        (found,) = check(grammar, [aspects], PROGRAM, "jastadd").findings
+        self.assertEqual((found.code, found.section), ("J3", section(2)))
+        self.assertIn("The class of the root, P, has no prev", found.message)
+        self.assertIn("Give the class of the root an equation of its own", f"{found.message} {found.hint}")
         found = self.told("inh Program ASTNode.all(); eq Program.getChild().all() = this;", "")
         self.assertEqual([(code, of) for code, _, of, _ in found], [("J8", section(2)), ("J3", section(2))])
         self.assertIn("declare it for each of the other classes", found[0][3])

@@ -74,7 +74,7 @@ AGAIN = """aspect A {
   int S.n() { return 1; } //: J2/8
 }
 """
-# And of what is declared for ASTNode: the root, a P, has no inherited one.
+# And of what is declared for ASTNode: the root, a P, has a fault in place of an inherited one.
 EVERYWHERE = """aspect A {
   public int ASTNode.a() { return 1; }
   eq P.a() = 2;
@@ -84,7 +84,8 @@ EVERYWHERE = """aspect A {
   inh P ASTNode.p();
   eq P.getS().p() = this;
   syn P U.q() = p();
-  syn P P.r() = p(); //: J3/2
+  syn P P.r() = p();
+  syn int P.s() = p(); //: J4/0
 }
 """
 # And of names that are synthesized in one class and inherited in another.

@@ -264,7 +264,8 @@ binds_twice form =
     || elim (body_in form) [ None ↦ false | Some b ↦ is_bound_again (param_names form ++ index_names form) b.expr ]
 
 abbrev pub twice_at : Arguments → Classes → List Located → ℕ → Located → Option Breach
-twice_at allowed classes ds i d = fault_if ((is_attribute d.decl.form && list_any (clashes allowed classes d) (take i ds)) || binds_twice d.decl.form) code.AttributeTwice d
+twice_at allowed classes ds i d =
+    fault_if ((is_attribute d.decl.form && list_any (clashes allowed classes d) (take i ds)) || binds_twice d.decl.form) code.AttributeTwice d
 
 -- an attribute clashes with one before it, or a name is bound twice
 abbrev pub declared_twice : Arguments → Classes → List Located → Option Breach

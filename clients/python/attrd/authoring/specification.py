@@ -75,11 +75,20 @@ class Specification:
         return "jastadd" in self.forms and it.form in ("syn", "inh") and it.of is not None and it.of.text == "ASTNode"
 
     def _stands_for(self, it: Declaration, of: str) -> bool:
-        """Whether an attribute is declared for a class: for that one, for one above it, or for ASTNode, but one inherited by the root."""
+        """Whether an attribute is declared for a class: for that one, for one above it, or for ASTNode. An inherited one of ASTNode isn't
+        declared for classes above that of the root; and for that one and those below it, where it has no value, only if none of these does."""
         if not self.is_everywhere(it):
             return it.of is not None and self.grammar.is_below(of, it.of.text)
         start = next(iter(self.grammar), None)
-        return it.form == "syn" or start is None or not (self.grammar.is_below(of, start.name) or self.grammar.is_below(start.name, of))
+        if it.form == "syn" or start is None or not self._is_on_line(of, start.name):
+            return True
+        assert it.name is not None
+        own = (placed.declaration.of for placed in self.named(it.name.text))
+        return self.grammar.is_below(of, start.name) and not any(word and self._is_on_line(word.text, start.name) for word in own)
+
+    def _is_on_line(self, of: str, other: str) -> bool:
+        """Whether a class is the other one, or above or below it."""
+        return self.grammar.is_below(of, other) or self.grammar.is_below(other, of)
 
     def is_overriding(self, it: Declaration) -> bool:
         """Whether a method would be an equation, since its name is declared for a class above its own."""
