@@ -167,8 +167,8 @@ class OfAnyNode(unittest.TestCase):
         text = "inh Stmt ASTNode.prev(); eq Program.getChild().prev() = null; syn int ASTNode.b() = prev() == null ? 0 : 1;"
         self.assertEqual(self.told(text, "jastadd"), [])
         grammar = Source("p.ast", "P ::= S*;\nabstract Q : P;\nS;\n")
-        aspects = Source("p.jrag", "aspect A { inh S ASTNode.prev(); eq P.getS().prev() = null; syn S Q.prev() = null; syn S P.first() = prev(); }")
-        (found,) = check(grammar, [aspects], PROGRAM, "jastadd").findings
+        aspects = "inh S ASTNode.prev(); eq P.getS().prev() = null; syn S Q.prev() = null; syn int ASTNode.b() = prev() == null ? 0 : 1;"
+        (found,) = check(grammar, [Source("p.jrag", f"aspect A {{ {aspects} }}")], PROGRAM, "jastadd").findings
         self.assertEqual((found.code, found.section), ("J3", section(2)))
         self.assertIn("The class of the root, P, has no prev", found.message)
         self.assertIn("Give the class of the root an equation of its own", f"{found.message} {found.hint}")

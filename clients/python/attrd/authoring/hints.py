@@ -219,8 +219,8 @@ class Hints:
         return None if of is None else self.specification.attribute(of, call.word.text)
 
     def is_missed_at_root(self, call: Expression, it: Declaration) -> bool:
-        """Whether a call asks the node itself for an inherited attribute of ASTNode, which isn't declared for the class of the root, where
-        the declaration is for that class, too."""
+        """Whether a call asks the node itself for an inherited attribute of ASTNode, which isn't declared for the class of the root where a
+        class below that one declares it itself, and the declaration is for the root, too."""
         grammar = self.specification.grammar
         if call.receiver is not None or it.of is None or not (it.of.text in NODES or grammar.is_below(grammar.start, it.of.text)):
             return False
