@@ -146,7 +146,7 @@ class Figures(unittest.TestCase):
         lines = as_text({"wait_median": None, "wait_longest": 1.5, "hub_memory": None}).splitlines()
         self.assertIn("wait of a line, median            not known", lines)
         self.assertIn("wait of a line, longest           1.5 ms", lines)
-        self.assertIn("kept values                       not known (no command of the program tells them)", lines)
+        self.assertIn("cached values                     not known (no command of the program tells them)", lines)
 
 
 class Counting(unittest.TestCase):
