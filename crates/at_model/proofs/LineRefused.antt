@@ -1,5 +1,5 @@
 -- A line is refused for the first reason that there is.
-use Rattle.std.proofs.Common.{◌≡◌, ◌⊎◌, ℕ, ◌<◌, ◌≤◌, inl, inr, Bool, true, false, not, ◌||◌, ◌&&◌, if◌then◌else◌, List, [], ◌∷◌, ◌++◌, map, Option, Some, None, Result, Ok, Err, refl, sym, ap, ◌∙◌, subst, arith}
+use Rattle.std.proofs.Common.{◌≡◌, ◌⊎◌, ℕ, suc, ◌<◌, ◌≤◌, inl, inr, Bool, true, false, not, ◌||◌, ◌&&◌, if◌then◌else◌, List, [], ◌∷◌, ◌++◌, length, map, Option, Some, None, Result, Ok, Err, refl, sym, ap, ◌∙◌, subst, arith}
 use Rattle.std.specs.Prelude.{nat_eq, nat_lt, nat_le, count_by, option_map, option_and_then, is_some, IsSome}
 use Rattle.std.specs.List.{slice_get, list_any, list_all, flat_map}
 use Rattle.std.proofs.lemmas.Bool.Decides.{nat_tests}
@@ -10,7 +10,7 @@ use Rattle.at_model.specs.Terms.{Term}
 use Rattle.at_model.specs.Paths.{Path, Node, tree_at, node_at, children_at, step_in}
 use Rattle.at_model.specs.Run.{Value, Instance}
 use Rattle.at_model.specs.Run as run
-use Rattle.at_model.specs.Rules.{Rules, attribute_named}
+use Rattle.at_model.specs.Rules.{Rules, attribute_asked}
 use Rattle.at_model.specs.Meaning.{Among}
 use Rattle.at_model.specs.Edits.{Edit, Refusal, edited, edited_within, left_by, has_component, shape_at, class_asked, list_class, optional_class, token_kind}
 use Rattle.at_model.specs.Edits as edit
@@ -21,7 +21,7 @@ use Rattle.at_model.specs.Replies.{Code}
 use Rattle.at_model.specs.Replies as code
 use Rattle.at_model.specs.Replies.{Written, At}
 use Rattle.at_model.specs.Machine.{State, Posted, Verdict, Refuses, Leaves, Edits, Asks, Posts, Waits, marked, is_marked, marks_used, node_named, node_below, value_named, each, suit, is_read, is_posted, code_of, max_marks, max_posted, is_edit, is_stale, changed, with_component, with_tree, obeyed, verdict}
-use Rattle.at_model.specs.Refusing.{number, rank, Breaks, places_in, Asked, component_asked, term_in, shape_named, HasComponent, class_for, tree_for, meant, ExpectsOther, IsRefusedAs, IsTooLarge, IsPastLast, MarksAgain, MarksTooMany, PostsTooMany, AsksNone, AsksAmiss, WaitsForNone, Applies}
+use Rattle.at_model.specs.Refusing.{number, rank, Breaks, places_in, Asked, component_asked, term_in, shape_named, HasComponent, class_for, tree_for, meant, attribute_at, ExpectsOther, IsRefusedAs, IsTooLarge, IsPastLast, MarksAgain, MarksTooMany, PostsTooMany, AsksNone, AsksAmiss, WaitsForNone, Applies}
 use Rattle.at_model.proofs.Options.{led, mapped, both, either_true, or_right}
 use Rattle.at_model.proofs.of_edits.Untouched.{tree_at-append}
 use Rattle.at_model.proofs.Chained.{nat_same}
@@ -33,6 +33,20 @@ use Rattle.at_model.proofs.of_edits.Larger.{within_edited, why_refused}
 none_some : {A : Type 0} (o : Option A) (a : A) → o ≡ None → o ≡ Some a → ⊥
 none_some None a e f = absurd cc
 none_some (Some b) a e f = absurd cc
+
+-- where each comes to a value there are as many values
+as_many : {A B : Type 0} (f : A → Option B) (as' : List A) (bs : List B) → each (map f as') ≡ Some bs → length bs ≡ length as'
+as_many f [] [] e = refl
+as_many f [] (b ∷ bs) e = absurd cc
+as_many {A} {B} f (a ∷ as') bs e = by (f a) (each (map f as')) (as_many f as') e
+  where
+    by : (o : Option B) (p : Option (List B)) → ((cs : List B) → p ≡ Some cs → length cs ≡ length as')
+        → option_and_then (λ c. option_map (λ cs. c ∷ cs) p) o ≡ Some bs → length bs ≡ suc (length as')
+    by None p more g = absurd cc
+    by (Some c) None more g = absurd cc
+    by (Some c) (Some cs) more g =
+        let same : c ∷ cs ≡ bs = cc in
+        sym (ap length same) ∙ ap suc (more cs refl)
 
 past_twelve : (r : Refusal) → 12 < rank r → ⊥
 past_twelve edit.Component l = omega (arith, l)
@@ -580,37 +594,43 @@ module _ (rules : Rules) (s : State) (session : ℕ) (expected : Option ℕ) (fr
       let c = Ask place name arguments in
       stage c (node_named rules.classes s session place) code.Path _ (λ none. first_path c mk (place, inl refl, none)) (λ n named.
       stage c (each (map (value_named rules.classes s session) arguments)) code.Path _ (λ none. let (p, among, x) = some_unnamed arguments none in first_path c mk (p, inr among, x)) (λ vs all.
-      stage c (option_and_then (λ u. attribute_named rules (class_of u) name) (tree_at s.tree n)) code.Attribute _
+      let many : length vs ≡ length arguments = as_many (value_named rules.classes s session) arguments vs all in
+      stage c (option_and_then (λ u. attribute_asked rules (class_of u) name (length vs)) (tree_at s.tree n)) code.Attribute _
       (λ none. first_other c code.Attribute mk refl refl refl (omega arith)
       (asked_places place n arguments vs named all) (λ l. not_marking place name arguments)
       (λ l. not_many_asked place name arguments) (λ l. absurd (past_itself 13 l)) (λ l. absurd (omega (arith, l)))
-      (record { place = place; name = name; arguments = arguments; node = n; asks = refl; named = named; none = none }))
+      (record { place = place; name = name; arguments = arguments; node = n; asks = refl; named = named; none = subst (λ k. attribute_at rules s.tree n name k ≡ None) many none }))
       (λ a found.
       by_fit c (suit rules s.tree a vs) _
       (λ amiss. first_other c code.Arguments mk refl refl refl (omega arith) (asked_places place n arguments vs named
       all) (λ l. not_marking place name arguments) (λ l. not_many_asked place name arguments)
-      (λ l. has_attribute place name arguments n a named found) (λ l. absurd (past_itself 14 l))
+      (λ l. has_attribute place name arguments n a named (counted n name a vs arguments many found)) (λ l. absurd (past_itself 14 l))
       (record { place = place; name = name; arguments = arguments; node = n; attribute = a; values = vs; asks = refl; named = named; found = found; told = all; amiss = amiss }))
       (λ fit. none_other c mk refl refl refl (asked_places place n arguments vs named all) (not_marking place name
-      arguments) (not_many_asked place name arguments) (has_attribute place name arguments n a named found)
+      arguments) (not_many_asked place name arguments) (has_attribute place name arguments n a named (counted n name a vs arguments many found))
       (fits_all place name arguments n a vs named found all fit) (λ x. let e = x.1 in absurd cc)))))
     where
-      has_attribute : (place : Place) (name : List ℕ) (arguments : List Argument) (n : Node) (a : ℕ) → node_named
-          rules.classes s session place ≡ Some n → option_and_then (λ u. attribute_named rules (class_of u) name)
-          (tree_at s.tree n) ≡ Some a → Isnt (Ask place name arguments) code.Attribute
+      counted : (n : Node) (name : List ℕ) (a : ℕ) (vs : List (Value Node)) (arguments : List Argument) → length vs ≡ length arguments
+          → attribute_at rules s.tree n name (length vs) ≡ Some a → attribute_at rules s.tree n name (length arguments) ≡ Some a
+      counted n name a vs arguments many found = subst (λ k. attribute_at rules s.tree n name k ≡ Some a) many found
+
+      has_attribute : (place : Place) (name : List ℕ) (arguments : List Argument) (n : Node) (a : ℕ)
+          → node_named rules.classes s session place ≡ Some n → attribute_at rules s.tree n name (length arguments) ≡ Some a
+          → Isnt (Ask place name arguments) code.Attribute
       has_attribute place name arguments n a named found x =
           let place_same : place ≡ x.place = let e = x.asks in cc in
           let name_same : name ≡ x.name = let e = x.asks in cc in
           let other : Some n ≡ Some x.node = sym named ∙ ap (node_named rules.classes s session) place_same ∙ x.named in
           let node_same : n ≡ x.node = cc in
-          none_some (option_and_then (λ u. attribute_named rules (class_of u) x.name) (tree_at s.tree x.node)) a x.none
-          (subst (λ m. option_and_then (λ u. attribute_named rules (class_of u) x.name) (tree_at s.tree m) ≡ Some a)
-          node_same (subst (λ z. option_and_then (λ u. attribute_named rules (class_of u) z) (tree_at s.tree n)
-          ≡ Some a) name_same found))
+          let arguments_same : arguments ≡ x.arguments = let e = x.asks in cc in
+          none_some (attribute_at rules s.tree x.node x.name (length x.arguments)) a x.none
+          (subst (λ as'. attribute_at rules s.tree x.node x.name (length as') ≡ Some a) arguments_same
+          (subst (λ m. attribute_at rules s.tree m x.name (length arguments) ≡ Some a) node_same
+          (subst (λ z. attribute_at rules s.tree n z (length arguments) ≡ Some a) name_same found)))
 
       fits_all : (place : Place) (name : List ℕ) (arguments : List Argument) (n : Node) (a : ℕ) (vs : List (Value Node))
-          → node_named rules.classes s session place ≡ Some n → option_and_then (λ u. attribute_named rules (class_of u)
-          name) (tree_at s.tree n) ≡ Some a → each (map (value_named rules.classes s session) arguments) ≡ Some vs
+          → node_named rules.classes s session place ≡ Some n → attribute_at rules s.tree n name (length vs) ≡ Some a
+          → each (map (value_named rules.classes s session) arguments) ≡ Some vs
           → suit rules s.tree a vs ≡ true → Isnt (Ask place name arguments) code.Arguments
       fits_all place name arguments n a vs named found all fit x =
           let place_same : place ≡ x.place = let e = x.asks in cc in
@@ -618,13 +638,14 @@ module _ (rules : Rules) (s : State) (session : ℕ) (expected : Option ℕ) (fr
           let arguments_same : arguments ≡ x.arguments = let e = x.asks in cc in
           let node : Some n ≡ Some x.node = sym named ∙ ap (node_named rules.classes s session) place_same ∙ x.named in
           let node_same : n ≡ x.node = cc in
-          let attribute : Some a ≡ Some x.attribute = sym found
-          ∙ ap (λ z. option_and_then (λ u. attribute_named rules (class_of u) z) (tree_at s.tree n)) name_same
-          ∙ ap (λ m. option_and_then (λ u. attribute_named rules (class_of u) x.name) (tree_at s.tree m)) node_same
-          ∙ x.found in
-          let attribute_same : a ≡ x.attribute = cc in
           let values : Some vs ≡ Some x.values = sym all ∙ ap (λ as'. each (map (value_named rules.classes s session) as')) arguments_same ∙ x.told in
           let values_same : vs ≡ x.values = cc in
+          let attribute : Some a ≡ Some x.attribute = sym found
+          ∙ ap (λ z. attribute_at rules s.tree n z (length vs)) name_same
+          ∙ ap (λ m. attribute_at rules s.tree m x.name (length vs)) node_same
+          ∙ ap (λ ws. attribute_at rules s.tree x.node x.name (length ws)) values_same
+          ∙ x.found in
+          let attribute_same : a ≡ x.attribute = cc in
           off_on (suit rules s.tree a vs)
           (ap (λ z. suit rules s.tree z vs) attribute_same ∙ ap (suit rules s.tree x.attribute) values_same ∙ x.amiss) fit
 

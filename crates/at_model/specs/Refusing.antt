@@ -1,12 +1,12 @@
 -- What each refusal says of an edit and of a line, in words of its own, and which comes first. `Edits` and `Machine` have the tests.
-use Rattle.std.specs.Prelude.{◌≡◌, ◌⊎◌, ℕ, ◌≤◌, Bool, true, false, nat_eq, nat_le, List, [], ◌∷◌, count_by, Option, Some, None, option_and_then, option_map, is_some, IsSome, map}
+use Rattle.std.specs.Prelude.{◌≡◌, ◌⊎◌, ℕ, ◌≤◌, Bool, true, false, nat_eq, nat_le, List, [], ◌∷◌, length, count_by, Option, Some, None, option_and_then, option_map, is_some, IsSome, map}
 use Rattle.std.specs.List.{flat_map}
 use Rattle.at_model.specs.Classes.{Classes, Shape}
 use Rattle.at_model.specs.Trees.{Tree, class_of, nodes}
 use Rattle.at_model.specs.Terms.{Term}
 use Rattle.at_model.specs.Paths.{Node, tree_at}
 use Rattle.at_model.specs.Run.{Value}
-use Rattle.at_model.specs.Rules.{Rules, attribute_named}
+use Rattle.at_model.specs.Rules.{Rules, attribute_asked}
 use Rattle.at_model.specs.Meaning.{Among}
 use Rattle.at_model.specs.Edits.{Edit, Refusal, has_component, fits_there, is_in_range, is_free, is_removable, is_outside, is_within_limits, left_by, shape_at, class_asked, list_class, optional_class, token_kind}
 use Rattle.at_model.specs.Edits as edit
@@ -136,9 +136,9 @@ meant classes s session command = None
 
 -- lines ----------------------------------------------------------------------------------------------------------------
 
--- the attribute of that name of the node
-abbrev pub attribute_at : Rules → Tree → Node → List ℕ → Option ℕ
-attribute_at rules t n name = option_and_then (λ u. attribute_named rules (class_of u) name) (tree_at t n)
+-- the attribute of that name of the node, asked with so many arguments
+abbrev pub attribute_at : Rules → Tree → Node → List ℕ → (count : ℕ) → Option ℕ
+attribute_at rules t n name count = option_and_then (λ u. attribute_asked rules (class_of u) name count) (tree_at t n)
 
 -- the line expects another version
 abbrev pub ExpectsOther : Option ℕ → ℕ → Type 0
@@ -178,7 +178,7 @@ pub record AsksNone (rules : Rules) (s : State) (l : Line) : Type 0 where
   pub node : Node
   pub asks : l.command ≡ Ask place name arguments
   pub named : node_named rules.classes s l.session place ≡ Some node
-  pub none : attribute_at rules s.tree node name ≡ None
+  pub none : attribute_at rules s.tree node name (length arguments) ≡ None
 
 -- the line asks an attribute for arguments that don't fit its parameters
 pub record AsksAmiss (rules : Rules) (s : State) (l : Line) : Type 0 where
@@ -190,7 +190,7 @@ pub record AsksAmiss (rules : Rules) (s : State) (l : Line) : Type 0 where
   pub values : List (Value Node)
   pub asks : l.command ≡ Ask place name arguments
   pub named : node_named rules.classes s l.session place ≡ Some node
-  pub found : attribute_at rules s.tree node name ≡ Some attribute
+  pub found : attribute_at rules s.tree node name (length values) ≡ Some attribute
   pub told : each (map (value_named rules.classes s l.session) arguments) ≡ Some values
   pub amiss : suit rules s.tree attribute values ≡ false
 

@@ -1,6 +1,6 @@
 -- Attributes and their equations: which equation an instance has, and how the instance is evaluated by it (JastAdd2
 -- reference manual, "Attributes"; Knuth 1968, "Semantics of context-free languages").
-use Rattle.std.specs.Prelude.{◌≡◌, ℕ, zero, suc, Bool, true, false, ◌&&◌, nat_eq, List, [], ◌∷◌, ◌++◌, map, Option, Some, None, option_map, option_and_then, IsSome, slice_get, find, position, bytes_eq}
+use Rattle.std.specs.Prelude.{◌≡◌, ℕ, zero, suc, ◌+◌, Bool, true, false, ◌&&◌, if◌then◌else◌, nat_eq, List, [], ◌∷◌, ◌++◌, map, Option, Some, None, option_map, option_and_then, IsSome, slice_get, find, position, bytes_eq}
 use Rattle.std.specs.Option.{option_or}
 use Rattle.at_model.specs.Classes.{Classes, chain, parts, class_in, is_sub, fits}
 use Rattle.at_model.specs.Trees.{Tree, class_of}
@@ -160,6 +160,24 @@ evaluation rules same i = evaluation_within max_depth rules same i
 -- the attribute of that name that the class or one above it declares
 abbrev pub attribute_named : Rules → ℕ → List ℕ → Option ℕ
 attribute_named rules c name = position (λ a. bytes_eq a.name name && is_sub rules.classes c a.class) rules.attributes
+
+-- The name of an attribute that is overloaded: others of its name have other numbers of parameters. Its own number stands behind a
+-- slash, which no name has.
+abbrev pub name_by : List ℕ → (count : ℕ) → List ℕ
+name_by name count = name ++ 47 ∷ (48 + count) ∷ []
+
+-- the name without that number, as lines and replies have it
+abbrev pub plain_name : List ℕ → List ℕ
+plain_name [] = []
+plain_name (b ∷ bs) = if nat_eq b 47 then [] else b ∷ plain_name bs
+
+-- the names of attributes that a question with so many arguments may mean: first the one with as many parameters
+abbrev pub names_asked : List ℕ → (count : ℕ) → List (List ℕ)
+names_asked name count = name_by name count ∷ name ∷ map (name_by name) (0 ∷ 1 ∷ 2 ∷ 3 ∷ 4 ∷ [])
+
+-- the attribute of that name that is asked with so many arguments: of several the one with as many parameters, if there is one
+abbrev pub attribute_asked : Rules → ℕ → List ℕ → (count : ℕ) → Option ℕ
+attribute_asked rules c name count = first_answer (attribute_named rules c) (names_asked name count)
 
 -- trees of class d may stand in a component of c for which c has no equation for the attribute
 pub record PassesDown (rules : Rules) (name : List ℕ) (c d : ℕ) : Type 0 where

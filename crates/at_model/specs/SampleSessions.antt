@@ -2,11 +2,11 @@
 use Rattle.std.specs.Prelude.{ℕ, zero, suc, pos, false, List, [], ◌∷◌, ◌++◌, decimal, replicate}
 use lib.Chars.{codes}
 use Rattle.at_model.specs.Bodies.{Same, Child, This, Name, IntLiteral, Arithmetic, Add, Multiply, Call, Passed, no_exprs, expr}
-use Rattle.at_model.specs.Rules.{Rules}
+use Rattle.at_model.specs.Rules.{Rules, name_by}
 use Rattle.at_model.specs.Rules as kind
 use Rattle.at_model.specs.Lines.{Command, From_root, Post, last_version}
 use Rattle.at_model.specs.Machine.{State, Marked, Posted}
-use Rattle.at_model.specs.Samples.{calc, synthesized, own}
+use Rattle.at_model.specs.Samples.{calc, one_by_zero, synthesized, own}
 use Rattle.at_model.specs.SampleLines.{opened, mark, printed_path}
 use Rattle.at_model.specs.Playing.{Exchange}
 
@@ -63,6 +63,14 @@ calc_with_numbers = record calc {
       ∷ synthesized (codes "far") 0 (kind.Int ∷ []) kind.Int false ∷ []);
   own = calc.own ++ (own 0 17 (Arithmetic Add (Name 0) (IntLiteral (pos 1)))
       ∷ own 0 18 (Call This 17 (expr (Passed (Arithmetic Multiply (Name 0) (IntLiteral (pos 1000000)))) no_exprs)) ∷ []);
+}
+
+-- calc.jrag with syn int Program.next() = 1 / 0; and syn int Program.next(int n) = n + 1;
+abbrev pub calc_overloaded : Rules
+calc_overloaded = record calc {
+  attributes = calc.attributes ++ (synthesized (name_by (codes "next") 0) 0 [] kind.Int false
+      ∷ synthesized (name_by (codes "next") 1) 0 (kind.Int ∷ []) kind.Int false ∷ []);
+  own = calc.own ++ (own 0 17 one_by_zero ∷ own 0 18 (Arithmetic Add (Name 0) (IntLiteral (pos 1))) ∷ []);
 }
 
 -- a declaration's name of so many letters

@@ -7,7 +7,7 @@ ghost use Rattle.at_model.specs.Replies as code;
 ghost use Rattle.at_model.specs.Machine.{Leaves, Refuses, verdict};
 ghost use Rattle.at_model.specs.Samples.{calc};
 ghost use Rattle.at_model.specs.SampleLines.{block_path, mark, nested, opened, says};
-ghost use Rattle.at_model.specs.SampleSessions.{at_last_version, calc_with_argument, calc_with_numbers, full_of_marks, marking, some_marks};
+ghost use Rattle.at_model.specs.SampleSessions.{at_last_version, calc_overloaded, calc_with_argument, calc_with_numbers, full_of_marks, marking, some_marks};
 
 /// Of two refusals that a line has, the first in their order is told.
 pub fn the_first_refusal_is_told()
@@ -100,6 +100,17 @@ pub fn numbers_are_arguments()
         ("0 ask / next(3)" ⟼ "0 refused 1 syntax"
         ∷ "0 at 5 ask $u next(true)" ⟼ "0 refused 1 syntax"
         ∷ "0 post / next(3)" ⟼ "0 refused 1 syntax"
+        ∷ []) }
+{}
+
+/// Of attributes that share a name the one is asked that has as many parameters as there are arguments, and its name is told as it was
+/// written. Where none has as many the arguments don't fit.
+pub fn overloaded_attributes_are_told_apart()
+    ensures { Plays calc_overloaded opened
+        ("0 ask / next(3)" ⟼ "0 = 4"
+        ∷ "0 ask / next()" ⟼ "0 fault zero in /.next"
+        ∷ "0 ask / next(3,4)" ⟼ "0 refused 14 arguments"
+        ∷ "0 ask /Block next()" ⟼ "0 refused 13 attribute"
         ∷ []) }
 {}
 

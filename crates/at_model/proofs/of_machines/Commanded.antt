@@ -1,5 +1,5 @@
 -- An edit that is accepted is that of its command, and which marks the other commands change.
-use Rattle.std.proofs.Common.{◌≡◌, ℕ, ◌+◌, Bool, true, false, ◌&&◌, not, nat_eq, nat_le, cond, if◌then◌else◌, List, [], ◌∷◌, ◌++◌, map, Option, Some, None, Result, Ok, Err, refl, sym, ap, ◌∙◌, subst, filter, option_and_then}
+use Rattle.std.proofs.Common.{◌≡◌, ℕ, ◌+◌, Bool, true, false, ◌&&◌, not, nat_eq, nat_le, cond, if◌then◌else◌, List, [], ◌∷◌, ◌++◌, length, map, Option, Some, None, Result, Ok, Err, refl, sym, ap, ◌∙◌, subst, filter, option_and_then}
 use Rattle.std.specs.List.{find, count_by, list_any}
 use Rattle.std.specs.Option.{option_map, option_or}
 use Rattle.std.specs.Prelude.{is_some}
@@ -12,7 +12,7 @@ use Rattle.at_model.specs.Trees.{Tree, class_of}
 use Rattle.at_model.specs.Terms.{Term, term_of}
 use Rattle.at_model.specs.Paths.{Node, tree_at}
 use Rattle.at_model.specs.Run.{Instance, Value}
-use Rattle.at_model.specs.Rules.{Rules, attribute_named}
+use Rattle.at_model.specs.Rules.{Rules, attribute_asked}
 use Rattle.at_model.specs.Edits.{Edit, edited, edited_within, class_asked, shape_at, list_class, optional_class, token_kind}
 use Rattle.at_model.specs.Edits as edit
 use Rattle.at_model.specs.Shaping.{shaped, names_classes}
@@ -181,7 +181,7 @@ module _ (rules : Rules) (s : State) (session : ℕ) where
 
   question_spares : (c : Command) (n : Node) (name : List ℕ) (vs : List (Value Node)) → Spares (about c) (questioned rules s.tree n name vs)
   question_spares c n name vs = at_option (Spares (about c)) (unchanged c)
-      (option_and_then (λ u. attribute_named rules (class_of u) name) (tree_at s.tree n)) code.Attribute
+      (option_and_then (λ u. attribute_asked rules (class_of u) name (length vs)) (tree_at s.tree n)) code.Attribute
       _ (λ a. if_both (Spares (about c)) (suit rules s.tree a vs)
       _ _ (λ other name e. refl) (unchanged c code.Arguments))
 
@@ -245,7 +245,7 @@ module _ (rules : Rules) (s : State) (session : ℕ) where
   pub same : (c : Command) → is_edit c ≡ false → is_marking c ≡ false → is_post c ≡ false → Same (obeyed rules s session c)
   same (Ask place attribute arguments) e f g = node_all Same stays rules.classes s session place _ (λ n.
       at_option Same stays (each (map (value_named rules.classes s session) arguments)) code.Path _ (λ vs. at_option
-      Same stays (option_and_then (λ u. attribute_named rules (class_of u) attribute) (tree_at s.tree n)) code.Attribute
+      Same stays (option_and_then (λ u. attribute_asked rules (class_of u) attribute (length vs)) (tree_at s.tree n)) code.Attribute
       _ (λ a. if_both Same (suit rules s.tree a vs) _ _ refl refl)))
   same (Set place t) e f g = absurd cc
   same (Put place part t) e f g = absurd cc

@@ -1,11 +1,11 @@
 -- Every line has a reply, but a question that has no answer, and so has every open question at a turn.
-use Rattle.std.proofs.Common.{◌≡◌, ℕ, zero, suc, ◌+◌, ◌<◌, ◌≤◌, Bool, true, false, nat_eq, cond, map, option_and_then, List, [], ◌∷◌, ◌++◌, Option, Some, None, ◌⊎◌, inl, inr, refl, sym, ap, ◌∙◌, subst, arith}
+use Rattle.std.proofs.Common.{◌≡◌, ℕ, zero, suc, ◌+◌, ◌<◌, ◌≤◌, Bool, true, false, nat_eq, cond, map, option_and_then, List, [], ◌∷◌, ◌++◌, length, Option, Some, None, ◌⊎◌, inl, inr, refl, sym, ap, ◌∙◌, subst, arith}
 use Rattle.std.specs.Prelude.{decimal}
 use Rattle.std.proofs.lemmas.Bool.{eqb-true, eqb-false, eq-eqb}
 use Rattle.at_model.specs.Trees.{class_of}
 use Rattle.at_model.specs.Paths.{Node, tree_at}
 use Rattle.at_model.specs.Run.{Instance}
-use Rattle.at_model.specs.Rules.{Rules, attribute_named}
+use Rattle.at_model.specs.Rules.{Rules, attribute_asked}
 use Rattle.at_model.specs.Meaning.{Answer}
 use Rattle.at_model.specs.Lines.{Line, Place, Argument, Ask, Spells, BeginsWith, IsSpaceOrEnd, IsSessionOf, max_sessions}
 use Rattle.at_model.specs.Replies.{Reply, Form, Code, Shows, Done, Opened, Refused, Memory}
@@ -113,7 +113,7 @@ asking_waits_not rules s session place attribute arguments number =
     let P : Verdict → Type 0 = λ v. v ≡ Waits number → ⊥ in
     let refused : (c : Code) → P (Refuses c) = λ c e. cc in
     node_all P refused rules.classes s session place _ (λ n. at_option P refused (each (map (value_named rules.classes s session) arguments)) code.Path _ (λ vs.
-    at_option P refused (option_and_then (λ u. attribute_named rules (class_of u) attribute) (tree_at s.tree n)) code.Attribute _ (λ a.
+    at_option P refused (option_and_then (λ u. attribute_asked rules (class_of u) attribute (length vs)) (tree_at s.tree n)) code.Attribute _ (λ a.
     if_both P (suit rules s.tree a vs) _ _ (λ e. cc) (refused code.Arguments))))
 
 -- what the open question asks has an answer

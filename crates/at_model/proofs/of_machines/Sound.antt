@@ -1,12 +1,12 @@
 -- A sound state stays sound over every line.
-use Rattle.std.proofs.Common.{◌≡◌, ℕ, ◌+◌, Bool, true, false, cond, if◌then◌else◌, not, nat_eq, nat_le, List, [], ◌∷◌, ◌++◌, map, Option, Some, None, Ok, refl, sym, ap, ◌∙◌, subst, filter, option_and_then, option_map}
+use Rattle.std.proofs.Common.{◌≡◌, ℕ, ◌+◌, Bool, true, false, cond, if◌then◌else◌, not, nat_eq, nat_le, List, [], ◌∷◌, ◌++◌, length, map, Option, Some, None, Ok, refl, sym, ap, ◌∙◌, subst, filter, option_and_then, option_map}
 use Rattle.std.specs.Prelude.{IsSome}
 use Rattle.std.specs.List.{AllByRecursion, slice_get, count_by, cons_option, list_any, find}
 use Rattle.at_model.specs.Classes.{Classes}
 use Rattle.at_model.specs.Trees.{Tree, class_of, conforms}
 use Rattle.at_model.specs.Paths.{Path, Node, children_at, tree_at, step_in, node_at}
 use Rattle.at_model.specs.Run.{Instance, Value}
-use Rattle.at_model.specs.Rules.{Rules, attribute_named}
+use Rattle.at_model.specs.Rules.{Rules, attribute_asked}
 use Rattle.at_model.specs.Edits.{Edit, carried, edited, edited_within}
 use Rattle.at_model.specs.Lines.{Line, Place, From_root, From_mark, Command, Ask, Set, Put, Drop, Insert, Token, Move, Show, Mark, Unmark, Where, Version, Post, Wait}
 use Rattle.at_model.specs.Replies.{Reply, Code, Shown}
@@ -141,7 +141,7 @@ safe_change classes s v (accepted e t is) = edits e t is
 module _ (rules : Rules) (s : State) (sound : IsSound rules.classes s) where
   safe_question : (n : Node) (name : List ℕ) (vs : List (Value Node)) → Safe rules.classes s (questioned rules s.tree n name vs)
   safe_question n name vs = at_option (Safe rules.classes s) refused (option_and_then (λ u.
-      attribute_named rules (class_of u) name) (tree_at s.tree n)) code.Attribute _ (λ a. if_both (Safe rules.classes s)
+      attribute_asked rules (class_of u) name (length vs)) (tree_at s.tree n)) code.Attribute _ (λ a. if_both (Safe rules.classes s)
       (suit rules s.tree a vs) _ _ (asked _) (refused code.Arguments))
 
   safe_mark : (session : ℕ) (name : List ℕ) (place : Place) (o : Option Node) → node_named rules.classes s session place

@@ -1,15 +1,16 @@
 -- What a line asks is well formed, and all nodes in it are there.
-use Rattle.std.proofs.Common.{◌≡◌, ℕ, zero, suc, ◌<◌, Bool, true, false, ◌&&◌, if◌then◌else◌, List, [], ◌∷◌, length, get_or, Option, Some, None, refl, ap, subst, arith, option_and_then, map}
+use Rattle.std.proofs.Common.{◌≡◌, ℕ, zero, suc, ◌<◌, Bool, true, false, ◌&&◌, if◌then◌else◌, List, [], ◌∷◌, length, get_or, Option, Some, None, refl, ap, ◌∙◌, subst, arith, option_and_then, map}
 use Rattle.std.specs.Prelude.{position}
 use Rattle.std.specs.List.{slice_get, list_all, AllByRecursion}
 use Rattle.std.specs.Str.{bytes_eq}
+use Rattle.std.specs.Option.{option_or}
 use Rattle.std.proofs.lemmas.List.Quantifiers.{position-Some}
 use Rattle.at_model.specs.Classes.{Classes, is_sub}
 use Rattle.at_model.specs.Trees.{Tree, class_of}
 use Rattle.at_model.specs.Paths.{Node, tree_at}
 use Rattle.at_model.specs.Run.{Value, Instance, Ref}
 use Rattle.at_model.specs.Run as run
-use Rattle.at_model.specs.Rules.{Rules, Attribute, Kind, attribute_named}
+use Rattle.at_model.specs.Rules.{Rules, Attribute, Kind, first_answer, attribute_named, names_asked, attribute_asked}
 use Rattle.at_model.specs.Rules as kind
 use Rattle.at_model.specs.Lines.{Line, Command, Ask}
 use Rattle.at_model.specs.Replies.{Code}
@@ -35,6 +36,16 @@ element_at p (x ∷ xs) i e =
     let (small, passes, first) = position-Some p (x ∷ xs) i x e in
     (get_or (x ∷ xs) i x, inside (x ∷ xs) i x small, passes)
 
+-- the first answer is that of one of them
+pub an_answer : {A B : Type 0} (f : A → Option B) (xs : List A) (b : B) → first_answer f xs ≡ Some b → (a : A) × (f a ≡ Some b)
+an_answer f [] b e = absurd cc
+an_answer {A} {B} f (x ∷ xs) b e = by (f x) refl (an_answer f xs b) e
+  where
+    by : (o : Option B) → f x ≡ o → (first_answer f xs ≡ Some b → (a : A) × (f a ≡ Some b)) → option_or o (first_answer f xs) ≡ Some b
+        → (a : A) × (f a ≡ Some b)
+    by None is more g = more g
+    by (Some c) is more g = (x, is ∙ g)
+
 module _ (rules : Rules) (s : State) where
   -- the verdict asks nothing else
   abbrev pub AsksWell : Verdict → Type 0
@@ -44,19 +55,20 @@ module _ (rules : Rules) (s : State) where
   none_asked code q e = absurd cc
 
   well_formed : (n : Node) (name : List ℕ) (vs : List (Value Node)) (attribute : ℕ)
-      → option_and_then (λ u. attribute_named rules (class_of u) name) (tree_at s.tree n) ≡ Some attribute
+      → option_and_then (λ u. attribute_asked rules (class_of u) name (length vs)) (tree_at s.tree n) ≡ Some attribute
       → suit rules s.tree attribute vs ≡ true →
       IsWellFormed rules s.tree (record { node = n; attribute = attribute; arguments = vs })
   well_formed n name vs attribute named fit =
-      let (u, found, is) = led (λ u. attribute_named rules (class_of u) name) (tree_at s.tree n) attribute named in
-      let (a, at, passes) = element_at (λ a. bytes_eq a.name name && is_sub rules.classes (class_of u) a.class) rules.attributes attribute is in
-      let (same, below) = both (bytes_eq a.name name) (is_sub rules.classes (class_of u) a.class) passes in
+      let (u, found, asked) = led (λ u. attribute_asked rules (class_of u) name (length vs)) (tree_at s.tree n) attribute named in
+      let (z, is) = an_answer (attribute_named rules (class_of u)) (names_asked name (length vs)) attribute asked in
+      let (a, at, passes) = element_at (λ a. bytes_eq a.name z && is_sub rules.classes (class_of u) a.class) rules.attributes attribute is in
+      let (same, below) = both (bytes_eq a.name z) (is_sub rules.classes (class_of u) a.class) passes in
       let (fits, near) = both (fit_parameters rules.classes s.tree (parameters_of rules attribute) vs) (list_all is_near vs) fit in
       let parameters : parameters_of rules attribute ≡ a.parameters = ap (λ (o : Option Attribute). elim o as (λ _. List Kind) [ None ↦ [] | Some b ↦ b.parameters ]) at in
       record { node = u; there = found; declared = a; attribute = at; has = below; fit = subst (λ ks. fit_parameters rules.classes s.tree ks vs ≡ true) parameters fits }
 
   by_fit : (n : Node) (name : List ℕ) (vs : List (Value Node)) (attribute : ℕ) (b : Bool)
-      → option_and_then (λ u. attribute_named rules (class_of u) name) (tree_at s.tree n) ≡ Some attribute
+      → option_and_then (λ u. attribute_asked rules (class_of u) name (length vs)) (tree_at s.tree n) ≡ Some attribute
       → suit rules s.tree attribute vs ≡ b →
       AsksWell (if b then Asks (record { node = n; attribute = attribute; arguments = vs }) else Refuses code.Arguments)
   by_fit n name vs attribute true named fit q e =
@@ -64,7 +76,7 @@ module _ (rules : Rules) (s : State) where
       subst (IsWellFormed rules s.tree) same (well_formed n name vs attribute named fit)
   by_fit n name vs attribute false named fit q e = absurd cc
 
-  by_name : (n : Node) (name : List ℕ) (vs : List (Value Node)) (o : Option ℕ) → option_and_then (λ u. attribute_named rules (class_of u) name) (tree_at s.tree n) ≡ o →
+  by_name : (n : Node) (name : List ℕ) (vs : List (Value Node)) (o : Option ℕ) → option_and_then (λ u. attribute_asked rules (class_of u) name (length vs)) (tree_at s.tree n) ≡ o →
       AsksWell (elim o [
         | None ↦ Refuses code.Attribute
         | Some attribute ↦ if suit rules s.tree attribute vs then Asks (record { node = n; attribute = attribute; arguments = vs }) else Refuses code.Arguments
@@ -76,7 +88,7 @@ module _ (rules : Rules) (s : State) where
   asks_well session (Ask place attribute arguments) b is =
       node_all AsksWell none_asked rules.classes s session place _ (λ n. at_option AsksWell none_asked
       (each (map (value_named rules.classes s session) arguments)) code.Path _ (λ vs. by_name n attribute vs
-      (option_and_then (λ u. attribute_named rules (class_of u) attribute) (tree_at s.tree n)) refl))
+      (option_and_then (λ u. attribute_asked rules (class_of u) attribute (length vs)) (tree_at s.tree n)) refl))
   asks_well session c true is = absurd cc
   asks_well session c false is = λ q e. absurd (tellable rules s session c is q e)
 
