@@ -11,7 +11,7 @@ use Rattle.std.proofs.lemmas.Iterator.Adapters.{position_from-zero}
 use Rattle.at_rules.specs.RulesView.{text_of}
 use Rattle.at_rules.proofs.Numbers.{differs}
 
-stands_from : {Z : Type 0} (text : List ℕ) (names : List (String Z)) → IsDistinct string_eq names → (i n : ℕ) → n < length names → bytes_eq text (text_of names n) ≡ true
+pub stands_from : {Z : Type 0} (text : List ℕ) (names : List (String Z)) → IsDistinct string_eq names → (i n : ℕ) → n < length names → bytes_eq text (text_of names n) ≡ true
     → position_from (λ k. bytes_eq text (string_bytes k)) i names ≡ Some (i + n)
 unfolding IsDistinct
 stands_from text [] apart i n less here = absurd (omega arith)

@@ -1,3 +1,4 @@
+mod Counting
 mod Dispatching
 pub mod FirstNaming
 mod Starting

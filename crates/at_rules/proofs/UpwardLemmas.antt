@@ -71,7 +71,7 @@ empty_differs (b ∷ bs) some = refl
 beyond_differs : {Z : Type 0} (names : List (String Z)) (text : List ℕ) → (text ≡ [] → ⊥) → (m : ℕ) → nat_lt m (length names) ≡ false → bytes_eq (text_of names m) text ≡ false
 beyond_differs names text some m out = ap (λ o. bytes_eq (elim o [ None ↦ [] | Some t ↦ string_bytes t ]) text) (slice_get_past names m (ltb-false m (length names) out)) ∙ empty_differs text some
 
-name_at : {Z : Type 0} (names : List (String Z)) (text : List ℕ) (n : ℕ) → position (λ k. bytes_eq text (string_bytes k)) names ≡ Some n → (n < length names) × (text ≡ text_of names n)
+pub name_at : {Z : Type 0} (names : List (String Z)) (text : List ℕ) (n : ℕ) → position (λ k. bytes_eq text (string_bytes k)) names ≡ Some n → (n < length names) × (text ≡ text_of names n)
 name_at [] text n is = absurd (none-some n is)
 name_at (s ∷ ss) text n is =
     let p = position-Some (λ k. bytes_eq text (string_bytes k)) (s ∷ ss) n s is in

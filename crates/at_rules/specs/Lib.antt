@@ -1,6 +1,7 @@
 pub mod Begun
 pub mod Bodies
 pub mod Circular
+pub mod Counted
 pub mod Dispatch
 pub mod FirstNamed
 pub mod Holding

@@ -2,6 +2,7 @@
 
 use crate::attribute::AttrId;
 use crate::body::{Body, Kind};
+use crate::counted::Counted;
 use crate::dispatch::{Dispatch, Precedence};
 use crate::first_named::declared_above;
 use crate::guesses::Guesses;
@@ -72,6 +73,7 @@ pub struct Rules {
     bodies: Dispatch,
     declared: Dispatch,
     holders: Holders,
+    counted: Counted,
 }
 
 /// One call, where each exit that lets it go would else have a case for each collection.
@@ -85,6 +87,7 @@ impl Drop for Rules {
             bodies: _,
             declared: _,
             holders: _,
+            counted: _,
         } = self;
     }
 }
@@ -99,20 +102,20 @@ impl Model for Rules {
     ghost coded = { Prim.hlevel (codes, expr_code) };
 
     ghost use Rattle.std.specs.Prelude.{map};
-    ghost use Rattle.at_rules.specs.RulesView.{attribute_view, own_view, inherited_view, named};
+    ghost use Rattle.at_rules.specs.RulesView.{attribute_view, own_view, inherited_view, named, text_of};
 
     ghost view = { λ r. record { classes = r.classes; attributes = map (attribute_view r.names.keys) r.equations.attributes.entries; own = map own_view r.equations.own.entries; inherited = map (inherited_view r.names.keys) (named r.names.keys r.equations.inherited.entries) } };
 
     ghost use Rattle.std.specs.Map.{keys_of};
     ghost use Rattle.at_rules.specs.Tables.{AreTables};
 
-    ghost invariant = { λ r. AreTables r.classes r.equations r.bodies r.declared r.holders };
+    ghost invariant = { λ r. AreTables (text_of r.names.keys) r.classes r.equations r.bodies r.declared r.holders r.counted };
 }
 
 impl Rules {
-    ghost use Rattle.std.specs.Prelude.{◌≡◌, ◌<◌, [], length, map, option_map, slice_get, IfSome};
+    ghost use Rattle.std.specs.Prelude.{◌≡◌, ◌<◌, [], ◌∷◌, length, map, option_map, slice_get, IfSome};
     ghost use Rattle.at_model.specs.Machine.{parameters_of, takes_numbers};
-    ghost use Rattle.at_model.specs.Rules.{attribute_name, attribute_named, inherited_equation, is_inherited, is_lazy, own_equation, own_in, start_of};
+    ghost use Rattle.at_model.specs.Rules.{attribute_asked, attribute_name, attribute_named, first_answer, inherited_equation, is_inherited, is_lazy, name_by, own_equation, own_in, plain_name, start_of};
     ghost use Rattle.at_rules.specs.Bodies.{body_view, kind_view};
     ghost use Rattle.at_rules.specs.RulesView.{attribute_view, own_view, inherited_view, named};
     ghost use Rattle.at_rules.specs.Upward.{result_of};
@@ -146,6 +149,7 @@ impl Rules {
         );
         let holders = Holders::of(alloc, &classes, &equations.inherited, names.len());
         let guesses = Guesses::of(alloc, &names);
+        let counted = Counted::of(alloc, &names);
         Rules {
             classes,
             names,
@@ -154,6 +158,7 @@ impl Rules {
             bodies,
             declared,
             holders,
+            counted,
         }
     }
 
@@ -178,6 +183,63 @@ impl Rules {
         ensures named { (name.now ≡ [] → ⊥) → result ≡ attribute_named self.now class name.now }
     {
         let name = number_named(&self.names, &self.guesses, name)?;
+        let position = declared_up(
+            &self.declared,
+            &self.classes,
+            &self.equations.attributes,
+            class,
+            name,
+        )?;
+        Some(AttrId::new(position))
+    }
+
+    /// The attribute that a question by that name with so many arguments is of. Of several of that name it is the one with as many
+    /// parameters, if there is one. Of the name without characters nothing is said.
+    #[inline(always)]
+    pub fn attribute_asked(&self, class: ClassId, name: &str, count: usize) -> Option<AttrId>
+        ensures within { IfSome result (λ a. a < length self.now.attributes) }
+        ensures named { (name.now ≡ [] → ⊥) → result ≡ attribute_asked self.now class name.now count }
+    {
+        if self.counted.are_none() {
+            return self.attribute(class, name);
+        }
+        self.attribute_among(class, name, count)
+    }
+
+    /// The same, where attributes are overloaded.
+    #[inline(never)]
+    fn attribute_among(&self, class: ClassId, name: &str, count: usize) -> Option<AttrId>
+        ensures within { IfSome result (λ a. a < length self.now.attributes) }
+        ensures named { (name.now ≡ [] → ⊥) → result ≡ attribute_asked self.now class name.now count }
+    {
+        if let Some(found) = self.attribute_by(class, name, count) {
+            return Some(found);
+        }
+        if let Some(found) = self.attribute(class, name) {
+            return Some(found);
+        }
+        self.attribute_by_any(class, name)
+    }
+
+    /// The first attribute that is overloaded by that name, by the number of its parameters.
+    fn attribute_by_any(&self, class: ClassId, name: &str) -> Option<AttrId>
+        ensures within { IfSome result (λ a. a < length self.now.attributes) }
+        ensures named { result ≡ first_answer (λ count. attribute_named self.now class (name_by name.now count)) (0 ∷ 1 ∷ 2 ∷ 3 ∷ 4 ∷ []) }
+    {
+        for count in 0..5 {
+            if let Some(found) = self.attribute_by(class, name, count) {
+                return Some(found);
+            }
+        }
+        None
+    }
+
+    /// The attribute that is overloaded by that name and has so many parameters.
+    fn attribute_by(&self, class: ClassId, name: &str, count: usize) -> Option<AttrId>
+        ensures within { IfSome result (λ a. a < length self.now.attributes) }
+        ensures named { result ≡ attribute_named self.now class (name_by name.now count) }
+    {
+        let name = self.counted.number(&self.names, name, count)?;
         let position = declared_up(
             &self.declared,
             &self.classes,
@@ -223,6 +285,13 @@ impl Rules {
             Some((key, _)) => text_at(&self.names, key.1),
             None => "",
         }
+    }
+
+    /// The attribute's name as lines and replies have it, without the number by which it is overloaded.
+    pub fn told_name(&self, attribute: AttrId) -> &str
+        ensures { result.now ≡ plain_name (attribute_name self.now attribute) }
+    {
+        to_slash(self.name_of(attribute))
     }
 
     /// The class that declares the attribute; none for a number that no attribute has.
@@ -314,7 +383,7 @@ ghost use Rattle.std.specs.Prelude.{◌≡◌, ◌<◌, true, false, Some, lengt
 ghost use Rattle.std.specs.List.{IsDistinct};
 ghost use Rattle.std.specs.String.{string_eq};
 ghost use Rattle.at_model.specs.Classes.{chain};
-ghost use Rattle.at_model.specs.Rules.{first_answer};
+ghost use Rattle.at_model.specs.Rules.{first_answer, plain_name};
 ghost use Rattle.at_rules.specs.Bodies.{body_view, is_numeric};
 ghost use Rattle.at_rules.specs.RulesView.{text_of, name_in, numbered_in, LacksText};
 ghost use Rattle.at_rules.specs.declared.dispatch.Precedence.TheVariants.{Earliest};
@@ -486,6 +555,16 @@ fn inherited_in<'a>(
     match inherited.get(&(class.index(), Some(part), name)) {
         Some(body) => Some(body),
         None => inherited.get(&(class.index(), None, name)),
+    }
+}
+
+/// The text before its first slash, all of it where it has none.
+fn to_slash(text: &str) -> &str
+    ensures { result.now ≡ plain_name text.now }
+{
+    match text.find('/') {
+        Some(at) => text.split_at(at).0,
+        None => text,
     }
 }
 
