@@ -9,7 +9,7 @@ import re
 from typing import Dict, Iterable, List, Set, Tuple
 
 # The crates that make up the first part. What is evaluated deep in the tree, by functions that call each other, is all here.
-ANSWERING = ("at_class", "at_tree", "at_store", "at_body", "at_cache", "at_evict", "at_evaluate", "at_solve", "at_search", "at_demand", "at_engine")
+ANSWERING = ("at_class", "at_tree", "at_store", "at_body", "at_index", "at_cache", "at_evict", "at_evaluate", "at_solve", "at_search", "at_demand", "at_engine")
 # The library that reads the command line. What it alone leads to runs at the start, and isn't optimized: that takes a third of the time.
 PLAIN = "clap"
 # What stands in front of the attributes in the first line of a function's definition.

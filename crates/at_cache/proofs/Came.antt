@@ -6,7 +6,7 @@ use Rattle.at_model.specs.Run.{Instance}
 use Rattle.at_body.specs.Same.{same_instance}
 use Rattle.at_cache.specs.declared.entry.Entry.{Entry}
 use Rattle.at_cache.specs.Attributes.{HaveCome, has_come}
-use Rattle.at_cache.proofs.Ending.{both}
+use Rattle.at_model.proofs.Options.{both}
 
 pub none_by : {A : Type 0} (o : Option A) → is_some o ≡ false → o ≡ None
 none_by None h = refl

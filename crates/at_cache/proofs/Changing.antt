@@ -7,20 +7,21 @@ use Rattle.slab.specs.Slab.{get}
 use Rattle.indexmap.specs.Layout.{set_value_at, length-set_value_at}
 use Rattle.at_model.specs.Run.{Instance}
 use Rattle.at_body.specs.Same.{same_instance}
-use Rattle.at_cache.specs.declared.edge.Edge.{Edge}
+use Rattle.at_index.specs.declared.edge.Edge.{Edge}
 use Rattle.at_cache.specs.declared.entry.Entry.{Entry}
 use Rattle.at_cache.specs.declared.mark.Mark.{Mark}
 use Rattle.at_cache.specs.declared.table.Table.{Table}
 use Rattle.at_cache.specs.Attributes.{HaveCome}
 use Rattle.at_cache.specs.Flushing.{doomed}
 use Rattle.at_cache.specs.Marking.{HasMark}
-use Rattle.at_cache.specs.Edges.{edges_in}
+use Rattle.at_index.specs.Edges.{edges_in}
 use Rattle.at_cache.specs.Info.{Info, Memory, info, is_going, next_of}
 use Rattle.at_cache.specs.Placed.{IsPlaced, at}
 use Rattle.at_cache.specs.Putting.{Enters}
 use Rattle.at_cache.specs.Slots.{HasWritten, with_mark}
 use Rattle.at_cache.proofs.Came.{come_on}
-use Rattle.at_cache.proofs.Moving.{at_changed, at_none, at_slot, at_some, placed, table_by, table_changed, apart_changed, within}
+use Rattle.at_cache.proofs.Moving.{at_changed, at_none, at_slot, at_some, placed, table_by, table_changed, apart_changed}
+use Rattle.std.proofs.lemmas.Option.{slice_get_within}
 
 absent_set : (test : Instance ℕ → Bool) (es : List (Instance ℕ × Entry)) (p : ℕ) (w : Entry) → lookup test es ≡ None → lookup test (set_value_at es p w) ≡ None
 absent_set test [] p w h = refl
@@ -37,7 +38,7 @@ absent_set test (e ∷ es) (suc p) w h = by (test e.0) h (absent_set test es p w
 
 module _ (es : List (Instance ℕ × Entry)) (slots : ℕ → Option ℕ) (slot p : ℕ) (is : IsPlaced es slots) (was : slots slot ≡ Some p) where
   pub place_within : p < length es
-  place_within = let (e, there, of_slot) = (table_by is).from slot p was in within es p e there
+  place_within = let (e, there, of_slot) = (table_by is).from slot p was in slice_get_within es p e there
 
   module _ (fs : List (Instance ℕ × Entry)) (f : Entry → Entry) (keeps : (e : Entry) → (f e).slot ≡ e.slot) (written : HasWritten f p es fs) where
     fs_is : (e : Instance ℕ × Entry) → slice_get es p ≡ Some e → fs ≡ set_value_at es p (f e.1)

@@ -3,13 +3,10 @@ use Rattle.std.proofs.Common.{◌≡◌, ◌&&◌, ◌⊎◌, inl, inr, ℕ, Lis
 use Rattle.std.proofs.lemmas.Bool.{cases_eq, eq-eqb, ne_eqb}
 use Rattle.std.proofs.lemmas.Option.{none-some, same_Some}
 use Rattle.slab.proofs.SlabLemmas.{Contains-cons, Contains-cons_cases}
-use Rattle.at_cache.specs.declared.edge.Edge.{Edge}
-use Rattle.at_cache.specs.Info.{Info}
-use Rattle.at_cache.specs.Info.{Memory}
+use Rattle.at_index.specs.declared.edge.Edge.{Edge}
+use Rattle.at_cache.specs.Info.{Info, Memory}
+use Rattle.at_index.proofs.Lists.{head_of}
 use Rattle.at_cache.specs.Flushing.{Reached, Work, IsChain, IsDoomed, IsSame, doomed, dooms, first_after, is_fresh}
-
-pub head_of : {X : Type 0} (x : X) (xs : List X) → Contains (x ∷ xs) x
-head_of x xs = (0, omega arith, refl)
 
 -- those of a chain are there, and going
 pub chain_going : (m : Memory) (first : Option ℕ) (ss : List ℕ) → IsChain m first ss → (s : ℕ) → Contains ss s → (e : Info) × (m s ≡ Some e) × (e.going ≡ true)

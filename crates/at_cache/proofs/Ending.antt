@@ -1,29 +1,18 @@
 -- Where a flush has ended: just what stands for none of the locations is left, and is found as before.
-use Rattle.std.proofs.Common.{◌≡◌, ◌⊎◌, inl, inr, ℕ, zero, suc, ◌<◌, List, [], ◌∷◌, ◌&&◌, ◌||◌, Bool, true, false, Option, None, Some, option_map, Contains, refl, sym, ap, ◌∙◌, subst, arith, eqb-true}
+use Rattle.std.proofs.Common.{◌≡◌, ◌⊎◌, inl, inr, ℕ, zero, suc, ◌<◌, List, [], ◌∷◌, ◌||◌, Bool, true, false, Option, None, Some, option_map, Contains, refl, sym, ap, ◌∙◌, subst, arith}
 use Rattle.std.specs.List.{list_any}
-use Rattle.std.proofs.lemmas.Bool.{eq-eqb}
+use Rattle.std.proofs.lemmas.Bool.{eq-eqb, or_left, or_cases, and_from, or_right}
 use Rattle.std.proofs.lemmas.Option.{none-some, same_Some}
-use Rattle.slab.proofs.SlabLemmas.{Contains-cons, Contains-cons_cases}
 use Rattle.at_model.specs.Run.{Location}
-use Rattle.at_cache.specs.declared.edge.Edge.{Edge}
+use Rattle.at_index.specs.declared.edge.Edge.{Edge}
 use Rattle.at_cache.specs.Info.{Info, Memory}
 use Rattle.at_cache.specs.Flushing.{Reached, Work, IsChain, IsDoomed, IsSame, Begins}
 use Rattle.at_cache.specs.Flushing as flushing
-use Rattle.at_cache.specs.Recorded.{covers, edge_to, is_listed, same_edge}
+use Rattle.at_cache.specs.Recorded.{covers, edge_to}
+use Rattle.at_index.specs.Edges.{is_listed, same_edge}
 use Rattle.at_cache.proofs.Index.{Index, LeavesSlots, LosesSlots, Standing, kept_at, standing}
-use Rattle.at_cache.proofs.Dooming.{head_of}
-use Rattle.at_cache.proofs.Taking.{none_in}
-
-pub either : (a b : Bool) → (a || b) ≡ true → (a ≡ true) ⊎ (b ≡ true)
-either true b h = inl refl
-either false b h = inr h
-
-pub on_left : (a b : Bool) → a ≡ true → (a || b) ≡ true
-on_left a b h = ap (λ c. c || b) h
-
-pub on_right : (a b : Bool) → b ≡ true → (a || b) ≡ true
-on_right true b h = refl
-on_right false b h = h
+use Rattle.at_index.proofs.Listing.{is_in}
+use Rattle.at_index.proofs.Lists.{none_in, any_of, some_of, any_same}
 
 -- where nothing is to do any more, nothing goes
 pub none_goes : {old m : Memory} {start : List Edge} → Work old start [] None m
@@ -34,50 +23,9 @@ none_goes {m = m} w s e there going = by w.chain w.linked (w.all s e there going
     by [] h c = none_in s c
     by (t ∷ ts) h c = none-some t (h.0)
 
-pub agree : (a b : Bool) → (a ≡ true → b ≡ true) → (b ≡ true → a ≡ true) → a ≡ b
-agree true b f g = sym (f refl)
-agree false true f g = g refl
-agree false false f g = refl
-
-module _ {X : Type 0} where
-  pub some_of : (p : X → Bool) (xs : List X) → list_any p xs ≡ true → (x : X) × Contains xs x × (p x ≡ true)
-  some_of p [] h = absurd (cc)
-  some_of p (x ∷ xs) h = elim (either (p x) (list_any p xs) h) [
-    | inl here ↦ (x, head_of x xs, here)
-    | inr there ↦ let (y, c, is) = some_of p xs there in (y, Contains-cons x y xs c, is)
-  ]
-
-  pub any_of : (p : X → Bool) (xs : List X) (x : X) → Contains xs x → p x ≡ true → list_any p xs ≡ true
-  any_of p [] x c is = absurd (none_in x c)
-  any_of p (y ∷ ys) x c is = elim (Contains-cons_cases y x ys c) [
-    | inl same ↦ on_left (p y) (list_any p ys) (ap p same ∙ is)
-    | inr rest ↦ on_right (p y) (list_any p ys) (any_of p ys x rest is)
-  ]
-
-  pub any_same : (p q : X → Bool) (xs : List X) → ((x : X) → Contains xs x → p x ≡ q x) → list_any p xs ≡ list_any q xs
-  any_same p q [] h = refl
-  any_same p q (x ∷ xs) h = ap (λ b. b || list_any p xs) (h x (head_of x xs)) ∙ ap (λ b. q x || b) (any_same p q xs (λ y c. h y (Contains-cons x y xs c)))
-
-pub both : (a b : Bool) → (a && b) ≡ true → (a ≡ true) × (b ≡ true)
-both true b h = (refl, h)
-both false b h = absurd (cc)
-
-pub and : (a b : Bool) → a ≡ true → b ≡ true → (a && b) ≡ true
-and a b h k = ap (λ c. c && b) h ∙ k
-
-pub has : (xs : List Edge) (x : Edge) → Contains xs x → list_any (same_edge x) xs ≡ true
-has xs x c = any_of (same_edge x) xs x c (and _ _ (eq-eqb x.slot x.slot refl) (eq-eqb x.stamp x.stamp refl))
-
-pub is_in : (xs : List Edge) (x : Edge) → list_any (same_edge x) xs ≡ true → Contains xs x
-is_in xs x h =
-    let (y, c, is) = some_of (same_edge x) xs h in
-    let (slots, stamps) = both _ _ is in
-    let same : x ≡ y = λ i. record { slot = eqb-true x.slot y.slot slots i; stamp = eqb-true x.stamp y.stamp stamps i } in
-    subst (Contains xs) (sym same) c
-
 -- an edge of the location to the entry
 pub has_edge : (edges : List Edge) (x : Edge) (e : Info) → Contains edges x → e.stamp ≡ x.stamp → is_listed (edge_to x.slot e) edges ≡ true
-has_edge edges x e c same = any_of (same_edge (edge_to x.slot e)) edges x c (and _ _ (eq-eqb x.slot x.slot refl) (eq-eqb e.stamp x.stamp same))
+has_edge edges x e c same = any_of (same_edge (edge_to x.slot e)) edges x c (and_from _ _ (eq-eqb x.slot x.slot refl) (eq-eqb e.stamp x.stamp same))
 
 module _ (lists : Location ℕ → List Edge) where
   -- what an entry covers
@@ -102,11 +50,11 @@ module _ {lists : Location ℕ → List Edge} {puts : ℕ} {old : Memory} (index
     touches _ (flushing.by_start x c e there same) =
         let (l, said, d) = begins.from x c in
         let direct = has_edge (lists l) x e d same in
-        (l, covers_more x.slot e there l (opened lists old puts x.slot e there l ∙ on_left _ (list_any (λ p. covers lists old puts p l) e.links) direct), said)
+        (l, covers_more x.slot e there l (opened lists old puts x.slot e there l ∙ or_left _ (list_any (λ p. covers lists old puts p l) e.links) direct), said)
     touches _ (flushing.by_user p r f found x c e there same) =
         let (l, is, said) = touches p r in
         let linked : list_any (λ p. covers lists old puts p l) e.links ≡ true = any_of (λ p. covers lists old puts p l) e.links p (indexed.uses p f found x c e there same) is in
-        (l, covers_more x.slot e there l (opened lists old puts x.slot e there l ∙ on_right (is_listed (edge_to x.slot e) (lists l)) _ linked), said)
+        (l, covers_more x.slot e there l (opened lists old puts x.slot e there l ∙ or_right (is_listed (edge_to x.slot e) (lists l)) _ linked), said)
 
     module _ {m : Memory} (w : Work old start [] None m) where
       quiet_false : (s : ℕ) (e : Info) → m s ≡ Some e → e.going ≡ false
@@ -137,7 +85,7 @@ module _ {lists : Location ℕ → List Edge} {puts : ℕ} {old : Memory} (index
       safe zero s e there l h = absurd (cc)
       safe (suc far) s e there l h =
           let (o, was, alike) = w.same s e there in
-          elim (either _ _ (sym (opened lists old far s o was l) ∙ h)) [
+          elim (or_cases _ _ (sym (opened lists old far s o was l) ∙ h)) [
             | inl direct ↦ untouched l (edge_to s o) (is_in (lists l) (edge_to s o) direct) (λ c. not_doomed s e o there alike.stamp (w.started (edge_to s o) c))
             | inr linked ↦
                 let (p, in_links, is) = some_of (λ p. covers lists old far p l) o.links linked in

@@ -2,13 +2,16 @@
 use Rattle.std.proofs.Common.{◌≡◌, inl, inr, ℕ, zero, suc, ◌+◌, List, ◌||◌, Option, None, Some, option_map, Contains, refl, sym, ap, ◌∙◌, subst, arith}
 use Rattle.std.specs.List.{list_any}
 use Rattle.at_model.specs.Run.{Location}
-use Rattle.at_cache.specs.declared.edge.Edge.{Edge}
+use Rattle.at_index.specs.declared.edge.Edge.{Edge}
 use Rattle.at_cache.specs.Info.{Info, Memory}
-use Rattle.at_cache.specs.Recorded.{covers, edge_to, is_listed}
+use Rattle.at_cache.specs.Recorded.{covers, edge_to}
+use Rattle.at_index.specs.Edges.{is_listed}
 use Rattle.at_cache.proofs.Index.{Index, kept_at, standing}
-use Rattle.at_cache.specs.Putting.{Reads, Uses, users_at}
-use Rattle.at_cache.proofs.Ending.{any_same, far_enough, opened}
-use Rattle.at_cache.proofs.Listing.{back, listed_still, users_of}
+use Rattle.at_index.specs.Linking.{Reads}
+use Rattle.at_cache.specs.Putting.{Uses, users_at, is_current}
+use Rattle.at_index.proofs.Lists.{any_same}
+use Rattle.at_cache.proofs.Ending.{far_enough, opened}
+use Rattle.at_cache.proofs.Users.{back, listed_still, users_of, current}
 
 -- what is kept in a slot, by its entry
 pub kept_of : (lists : Location ℕ → List Edge) (m : Memory) (puts s : ℕ) (e : Info) → m s ≡ Some e → kept_at lists m puts s ≡ Some (standing lists m puts s e)
@@ -23,7 +26,7 @@ same_kept lists later m n far near s e f there found same value h =
     kept_of later n far s f found ∙ ap Some (λ i. record { instance = same i; kept = record { value = value i; covers = λ l. h l i } }) ∙ sym (kept_of lists m near s e there)
 
 -- edges of an entry that isn't there yet
-module _ {lists : Location ℕ → List Edge} {puts : ℕ} {m mid : Memory} {x : Edge} {reads : List (Location ℕ)} {uses : List ℕ} (later : Location ℕ → List Edge) (i : Index lists puts m) (stamp : x.stamp ≡ puts) (r : Reads m x reads lists later) (u : Uses m x uses m mid) where
+module _ {lists : Location ℕ → List Edge} {puts : ℕ} {m mid : Memory} {x : Edge} {reads : List (Location ℕ)} {uses : List ℕ} (later : Location ℕ → List Edge) (i : Index lists puts m) (stamp : x.stamp ≡ puts) (r : Reads (is_current m) x reads lists later) (u : Uses m x uses m mid) where
   not_new : (k : ℕ) (f : Info) → mid k ≡ Some f → f.stamp ≡ x.stamp → ⊥
   not_new k f found same = let (e, there, is) = back u k f found in let known = i.known k e there in let a = ap (λ (n : Info). n.stamp) is in omega arith
 
@@ -38,7 +41,7 @@ module _ {lists : Location ℕ → List Edge} {puts : ℕ} {m mid : Memory} {x :
         let (h, had, alike) = u.there p g was in
         let a = ap (λ (n : Info). n.since) is in
         let b = ap (λ (n : Info). n.since) alike in
-        let listed : Contains (users_at mid p) (edge_to k e) = u.users.keeps p (edge_to k e) (subst (λ es. Contains es (edge_to k e)) (sym (users_of m p g was)) edge) e there refl in (
+        let listed : Contains (users_at mid p) (edge_to k e) = u.users.keeps p (edge_to k e) (subst (λ es. Contains es (edge_to k e)) (sym (users_of m p g was)) edge) (current m (edge_to k e) e there refl) in (
           h,
           had,
           omega arith,
@@ -60,7 +63,7 @@ module _ {lists : Location ℕ → List Edge} {puts : ℕ} {m mid : Memory} {x :
 
   -- an entry that is there has the edges that it had
   listed_same : (s : ℕ) (e : Info) → m s ≡ Some e → (l : Location ℕ) → is_listed (edge_to s e) (later l) ≡ is_listed (edge_to s e) (lists l)
-  listed_same s e there = listed_still r s e there
+  listed_same s e there = listed_still r s e (current m (edge_to s e) e there refl)
       (λ same. let known = i.known s e there in omega (arith, known, same, stamp))
 
   covers_mid : (far s : ℕ) (e : Info) → m s ≡ Some e → (l : Location ℕ) → covers later mid far s l ≡ covers lists m far s l

@@ -1,7 +1,7 @@
 -- The index by membership, and what is kept by slots.
 use Rattle.std.proofs.Common.{◌≡◌, ◌<◌, ◌⊎◌, ℕ, List, Bool, true, false, Option, Some, option_map, Contains}
 use Rattle.at_model.specs.Run.{Instance, Location}
-use Rattle.at_cache.specs.declared.edge.Edge.{Edge}
+use Rattle.at_index.specs.declared.edge.Edge.{Edge}
 use Rattle.at_cache.specs.Info.{Info, Memory}
 use Rattle.at_cache.specs.Kept.{Kept}
 use Rattle.at_cache.specs.Recorded.{covers, edge_to}

@@ -1,7 +1,7 @@
 -- The last entry takes the place of one that is taken out.
 use Rattle.std.proofs.Common.{◌≡◌, ◌⊎◌, inl, inr, ℕ, zero, suc, ◌<◌, ◌≤◌, ◌-◌, List, [], ◌∷◌, ◌++◌, Option, None, Some, option_map, nat_eq, if◌then◌else◌, length, take, get_or, slice_get, slice_set, swap_remove, refl, sym, ap, ◌∙◌, subst, arith, eqb-true, Bool, true, false, true≢false}
 use Rattle.std.proofs.lemmas.Bool.{cases_eq, cases_lt, eq-eqb, ne_eqb}
-use Rattle.std.proofs.lemmas.Option.{none-some, same_Some}
+use Rattle.std.proofs.lemmas.Option.{none-some, same_Some, slice_get_within}
 use Rattle.std.specs.List.{IsDistinct}
 use Rattle.std.specs.Map.{keys_of}
 use Rattle.std.proofs.lemmas.Map.Keys.{apart_from_distinct}
@@ -10,8 +10,8 @@ use Rattle.at_model.specs.Run.{Instance}
 use Rattle.at_body.specs.Same.{same_instance}
 use Rattle.at_body.specs.Sameness.{instances_equiv}
 use Rattle.at_cache.specs.declared.entry.Entry.{Entry}
-use Rattle.at_cache.proofs.Gained.{get_other}
-use Rattle.at_cache.proofs.Lists.{get_left, get_push, get_seam}
+use Rattle.at_index.proofs.Gained.{get_other}
+use Rattle.at_index.proofs.Lists.{get_left, get_push, get_seam, got}
 use Rattle.at_cache.specs.Placed.{IsMoved, IsPlaced, at}
 
 -- where each slot's entry is, with the entry
@@ -37,16 +37,6 @@ module _ {X : Type 0} where
   take_past (suc n) (x ∷ xs) zero h = absurd (omega arith)
   take_past (suc n) (x ∷ xs) (suc k) h = take_past n xs k (omega arith)
 
-  pub within : (xs : List X) (k : ℕ) (x : X) → slice_get xs k ≡ Some x → k < length xs
-  within [] k x h = absurd (none-some x h)
-  within (y ∷ ys) zero x h = omega arith
-  within (y ∷ ys) (suc k) x h = let w = within ys k x h in omega arith
-
-  pub got : (xs : List X) (k : ℕ) (d : X) → k < length xs → slice_get xs k ≡ Some (get_or xs k d)
-  got [] k d h = absurd (omega arith)
-  got (x ∷ xs) zero d h = refl
-  got (x ∷ xs) (suc k) d h = got xs k d (omega arith)
-
   module _ (xs : List X) (i : ℕ) (d : X) (h : i < length xs) where
     pub moved : i < length xs - 1 → slice_get (swap_remove xs i d) i ≡ slice_get xs (length xs - 1)
     moved before = take_within (length xs - 1) _ i before ∙ set_here xs i _ h ∙ sym (got xs (length xs - 1) d (omega arith))
@@ -69,7 +59,7 @@ module _ (es : List (Instance ℕ × Entry)) (slots mid new : ℕ → Option ℕ
   fs = swap_remove es p e
 
   inside : p < length es
-  inside = within es p e there
+  inside = slice_get_within es p e there
 
   apart : (k q : ℕ) → (k ≡ slot → ⊥) → slots k ≡ Some q → q ≡ p → ⊥
   apart k q differs h same =
@@ -86,7 +76,7 @@ module _ (es : List (Instance ℕ × Entry)) (slots mid new : ℕ → Option ℕ
     where_now k q f differs h found = elim (cases_eq q (length es - 1)) [
       | inl last ↦ let other = apart k q differs h in let before : p < length es - 1 = omega (arith, inside, other) in
           (p, at_last k differs (h ∙ ap Some last), moved es p e inside before ∙ ap (slice_get es) (sym last) ∙ found)
-      | inr q_other ↦ let w = within es q f found in (q, at_other k q differs h q_other, stayed es p e inside q (omega (arith, w, q_other)) (apart k q differs h) ∙ found)
+      | inr q_other ↦ let w = slice_get_within es q f found in (q, at_other k q differs h q_other, stayed es p e inside q (omega (arith, w, q_other)) (apart k q differs h) ∙ found)
     ]
 
     pub table_after : IsTable fs new

@@ -1,8 +1,7 @@
 -- A flush begins at the nodes that places name.
-use Rattle.std.proofs.Common.{◌≡◌, ◌⊎◌, inl, inr, ℕ, ◌+◌, ◌<◌, List, [], ◌∷◌, ◌++◌, ◌||◌, Bool, true, false, true≢false, Option, None, Some, Contains, take, slice_get, get_or, length, nat_eq, nat_lt, refl, sym, ap, ◌∙◌, subst, eqb-true}
+use Rattle.std.proofs.Common.{◌≡◌, ◌⊎◌, inl, inr, ℕ, ◌+◌, ◌<◌, List, [], ◌∷◌, ◌++◌, ◌||◌, Bool, true, false, true≢false, Option, None, Some, Contains, take, slice_get, get_or, length, nat_eq, refl, sym, ap, ◌∙◌, subst, eqb-true, cond, ◌≤◌, arith}
 use Rattle.std.specs.List.{list_any}
-use Rattle.std.proofs.lemmas.Bool.{cases_eq, eq-eqb, ltb-false, ltb-true}
-use Rattle.std.proofs.lemmas.Option.{slice_get_past}
+use Rattle.std.proofs.lemmas.Bool.{cases_eq, eq-eqb, and_from, or_cases}
 use Rattle.std.proofs.lemmas.List.{take_more}
 use Rattle.std.proofs.lemmas.List.Elements.{Contains-append_cases, Contains-append_left, Contains-append_right}
 use Rattle.smallvec.specs.SmallVec.{SmallVec}
@@ -15,34 +14,34 @@ use Rattle.at_store.specs.declared.places.Places.{Places}
 use Rattle.at_store.specs.Places.{is_index_among, is_node, named, names_around}
 use Rattle.at_cache.specs.declared.cut.Cut.{Cut}
 use Rattle.at_cache.specs.declared.cut.Loss.TheVariants as loss
-use Rattle.at_cache.specs.declared.edge.Edge.{Edge}
-use Rattle.at_cache.specs.declared.facet.Readers.{Readers}
-use Rattle.at_cache.specs.declared.run.AllReaders.{AllReaders}
-use Rattle.at_cache.specs.declared.scope.Scope.{Scope}
-use Rattle.at_cache.specs.declared.scope.Scope.TheVariants as scope
-use Rattle.at_cache.specs.Asking.{AreNoted, Asked, GoesOn, looks_at, sees}
-use Rattle.at_cache.specs.Finding.{edges_to}
+use Rattle.at_index.specs.declared.edge.Edge.{Edge}
+use Rattle.at_index.specs.declared.facet.Readers.{Readers}
+use Rattle.at_index.specs.declared.run.AllReaders.{AllReaders}
+use Rattle.at_index.specs.declared.scope.Scope.{Scope}
+use Rattle.at_index.specs.declared.scope.Scope.TheVariants as scope
+use Rattle.at_index.specs.Asking.{AreNoted, Asked, looks_at, sees, Answers}
+use Rattle.at_cache.specs.Marking.{GoesOn, GoesOver}
+use Rattle.at_index.specs.Finding.{edges_to}
 use Rattle.at_cache.specs.Flushing.{Begins}
-use Rattle.at_cache.specs.Kept.{Answers, AreNamed, node_at}
-use Rattle.at_cache.specs.Marking.{GoesOver}
-use Rattle.at_cache.specs.Readers.{edges_among, edges_at}
-use Rattle.at_cache.proofs.Beginning.{among_others, begins_by}
-use Rattle.at_cache.proofs.of_runs.Drawers.{unread}
-use Rattle.at_cache.proofs.Ending.{and, any_of, both, either, has, some_of}
-use Rattle.at_cache.proofs.Listed.{edges_are, no_edges}
-use Rattle.at_cache.proofs.Moving.{got}
+use Rattle.at_cache.specs.Kept.{AreNamed}
+use Rattle.at_index.specs.Sameness.{node_at}
+use Rattle.at_index.specs.Readers.{edges_among, edges_at}
+use Rattle.at_index.proofs.Beginning.{among_others}
+use Rattle.at_index.proofs.of_runs.Drawers.{unread}
+use Rattle.at_index.proofs.of_runs.Over.{beyond, either_empty, not_seen, on_nowhere, over_at, over_none as seat_none, seen_node as seen_at}
+use Rattle.at_index.specs.Readers.{is_of_index}
+use Rattle.at_index.specs.Runs.{edges_on, edges_over, is_seen}
+use Rattle.at_index.specs.declared.run.Run.{Run}
+use Rattle.at_index.specs.declared.run.Seat.{Seat}
+use Rattle.at_index.proofs.Beginning.{asked_both}
+use Rattle.at_index.proofs.Lists.{any_of, some_of, none_in}
+use Rattle.at_model.proofs.Options.{both}
+use Rattle.at_index.proofs.Listing.{has}
+use Rattle.at_index.proofs.Listed.{edges_are, no_edges}
 use Rattle.at_cache.proofs.of_cut.Passing.{over_none, over_then}
-use Rattle.at_cache.proofs.Taking.{none_in}
-
--- what a list has at a number
-pub node_there : {X : Type 0} (xs : List X) (i node : ℕ) (x : X) → i ≡ node → true ≡ nat_lt i (length xs) → x ≡ get_or xs i x → slice_get xs node ≡ Some x
-node_there xs i node x is less here = ap (slice_get xs) (sym is) ∙ got xs i x (ltb-true i (length xs) (sym less)) ∙ ap Some (sym here)
-
-pub node_past : {X : Type 0} (xs : List X) (i node : ℕ) → i ≡ node → false ≡ nat_lt i (length xs) → slice_get xs node ≡ None
-node_past xs i node is past = ap (slice_get xs) (sym is) ∙ slice_get_past xs i (ltb-false i (length xs) (sym past))
 
 any_push : (p : ℕ → Bool) (node : ℕ) (ns : List ℕ) → list_any p (ns ++ node ∷ []) ≡ true → (list_any p ns || p node) ≡ true
-any_push p node [] h = elim (either (p node) false h) [ inl e ↦ e | inr e ↦ absurd (true≢false (sym e)) ]
+any_push p node [] h = elim (or_cases (p node) false h) [ inl e ↦ e | inr e ↦ absurd (true≢false (sym e)) ]
 any_push p node (n ∷ ns) h = by (p n) h (any_push p node ns)
   where
     by : (b : Bool) → (b || list_any p (ns ++ node ∷ [])) ≡ true → (list_any p (ns ++ node ∷ []) ≡ true → (list_any p ns || p node) ≡ true) → ((b || list_any p ns) || p node) ≡ true
@@ -65,7 +64,7 @@ module _ {says : Location ℕ → Bool → Type 0} {lists : Location ℕ → Lis
     over_then loss.Both done ended,
     record {
       from = λ x c. elim (Contains-append_cases more rest x c) [ inl d ↦ asked.from x d | inr d ↦ then_asked.from x d ];
-      all = λ l s. elim (either (seen l) (also l) s) [
+      all = λ l s. elim (or_cases (seen l) (also l) s) [
         | inl h ↦ elim (asked.all l h) [ inl said ↦ inl said | inr all ↦ inr (λ x c. Contains-append_left more rest x (all x c)) ]
         | inr h ↦ elim (then_asked.all l h) [ inl said ↦ inl said | inr all ↦ inr (λ x c. Contains-append_right more rest x (all x c)) ]
       ];
@@ -88,9 +87,6 @@ module _ {says : Location ℕ → Bool → Type 0} {lists : Location ℕ → Lis
       → GoesOn says (λ l. list_any (λ n. sees s n l) (take i nodes)) lists first p mid q → GoesOn says (sees s node) lists mid q last r
       → GoesOn says (λ l. list_any (λ n. sees s n l) (take (i + 1) nodes)) lists first p last r
   goes_next nodes i node s is less a b = goes_as (λ l h. inl (any_push (λ n. sees s n l) node (take i nodes) (subst (λ ns. list_any (λ n. sees s n l) ns ≡ true) (take_more nodes i node less ∙ ap (λ n. take i nodes ++ n ∷ []) (sym is)) h))) (goes_further a b)
-
-seen_at : (node : ℕ) (s : Scope) (l : Location ℕ) → sees s node l ≡ true → node_at l ≡ node
-seen_at node s l h = sym (eqb-true node (node_at l) (both _ _ h).0)
 
 module _ {says : Location ℕ → Bool → Type 0} (readers : List (SmallVec Readers)) (node : ℕ) (s : Scope) where
   -- the readers of the node, among those of all
@@ -119,10 +115,10 @@ module _ {says : Location ℕ → Bool → Type 0} (readers : List (SmallVec Rea
 seen_index : (nodes : List ℕ) (n : ℕ) → list_any (nat_eq n) nodes ≡ true → list_any (λ k. sees scope.Index k (Idx n)) nodes ≡ true
 seen_index nodes n h =
     let (k, c, is) = some_of (nat_eq n) nodes h in
-    any_of (λ k. sees scope.Index k (Idx n)) nodes k c (and _ _ (eq-eqb k n (sym (eqb-true n k is))) refl)
+    any_of (λ k. sees scope.Index k (Idx n)) nodes k c (and_from _ _ (eq-eqb k n (sym (eqb-true n k is))) refl)
 
 seen_node : (node : ℕ) (l : Location ℕ) → nat_eq node (node_of l) ≡ true → sees scope.All node l ≡ true
-seen_node node l h = and _ _ (ap (nat_eq node) (by l) ∙ h) refl
+seen_node node l h = and_from _ _ (ap (nat_eq node) (by l) ∙ h) refl
   where
     by : (l : Location ℕ) → node_at l ≡ node_of l
     by (Is n) = refl
@@ -191,6 +187,17 @@ module _ {says : Location ℕ → Bool → Type 0} {lists : Location ℕ → Lis
       → GoesOn says (names_around p.target) lists f2 m2 f3 m3 → GoesOn says (names_around p.source) lists f3 m3 f4 m4 → GoesOn says (named p) lists f0 m0 f4 m4
   goes_to_named p a b c d = goes_further (goes_further (goes_further (goes_to_nodes p.leaving.now a) b) c) d
 
+module _ {says : Location ℕ → Bool → Type 0} {seen : Location ℕ → Bool} {lists : Location ℕ → List Edge} {start : List Edge} where
+  -- what isn't seen has the answer `false`, or no edge
+  pub begins_by : Asked says seen lists start
+      → ((l : Location ℕ) → seen l ≡ false → says l false ⊎ ((x : Edge) → Contains (lists l) x → ⊥))
+      → Begins says lists start
+  begins_by a others = record { from = a.from; all = λ l. by l (seen l) refl }
+    where
+      by : (l : Location ℕ) (b : Bool) → seen l ≡ b → says l false ⊎ ((x : Edge) → Contains (lists l) x → Contains start x)
+      by l true s = a.all l s
+      by l false s = elim (others l s) [ inl said ↦ inl said | inr none ↦ inr (λ x c. absurd (none x c)) ]
+
 -- what isn't named has the answer `false`; a drawer has no edge
 pub begins_named : {post : Loc → Bool → Type 0} (rs : AllReaders) {later : Option ℕ} {a b : Cut} (p : Places)
     → AreNamed p post → GoesOn (Answers post) (named p) (edges_to rs) None a later b
@@ -204,3 +211,30 @@ begins_named {post = post} rs p answers (start, done, asked) = (start, done, beg
     by (Up n) h = inl (loc.Up n, refl, answers (loc.Up n) h)
     by (Idx n) h = inl (loc.Idx n, refl, answers (loc.Idx n) h)
     by (Drawer n part key mark) h = inr (λ x c. none_in x (subst (λ es. Contains es x) (unread n part key mark rs) c))
+
+-- a node that sits nowhere, or whose index is looked at there, has no edge that is seen
+pub goes_past_seat : {says : Location ℕ → Bool → Type 0} (s : Scope) (seats : List Seat) (runs : List Run) (node : ℕ)
+    → ((seat : Seat) → slice_get seats node ≡ Some seat → (seat.place ≡ 0) ⊎ (is_of_index seat.facet ≡ true))
+    → (first : Option ℕ) (c : Cut) → GoesOn says (sees s node) (edges_over seats runs) first c first c
+goes_past_seat s seats runs node none first c = goes_nowhere first c (λ l h x c.
+    let at = seen_at node s l h in none_in x (subst (λ es. Contains es x) (by l at (slice_get seats node) refl) c))
+  where
+    by : (l : Location ℕ) → node_at l ≡ node → (o : Option Seat) → slice_get seats node ≡ o → edges_over seats runs l ≡ []
+    by l at None h = seat_none seats runs l (ap (slice_get seats) at ∙ h)
+    by l at (Some seat) h = over_at seats runs l seat (ap (slice_get seats) at ∙ h) ∙ elim (none seat h) [
+      | inl is ↦ either_empty (is_seen (node_at l) seat l) (on_nowhere runs seat is)
+      | inr index ↦ ap (λ b. cond b (edges_on runs seat) []) (not_seen node seat l index at)
+    ]
+
+-- one list after the other, of the same locations
+pub goes_both : {says : Location ℕ → Bool → Type 0} {seen : Location ℕ → Bool} {lists more all : Location ℕ → List Edge} {first mid later : Option ℕ} {a b c : Cut}
+    → ((l : Location ℕ) → all l ≡ lists l ++ more l) → GoesOn says seen lists first a mid b → GoesOn says seen more mid b later c → GoesOn says seen all first a later c
+goes_both is (edges, done, asked) (rest, ended, then_asked) = (edges ++ rest, over_then loss.Both done ended, asked_both is asked then_asked)
+
+module _ {says : Location ℕ → Bool → Type 0} (rs : AllReaders) where
+  -- no node was ever looked at
+  pub goes_unread : (count : ℕ) → length rs.own.items ≤ count → length rs.seats.items ≤ count → count ≡ 0
+      → {seen : Location ℕ → Bool} (first : Option ℕ) (c : Cut) → GoesOn says seen (edges_to rs) first c first c
+  goes_unread count own seats none first c = goes_nowhere first c (λ l h x c.
+      let all : count ≤ node_at l = omega (arith, none) in
+      none_in x (subst (λ es. Contains es x) (beyond rs count own seats l all) c))

@@ -1,15 +1,16 @@
 -- The index by tests is the index.
 use Rattle.std.proofs.Common.{◌≡◌, ◌<◌, ℕ, List, Bool, true, false, ◌&&◌, Option, None, Some, nat_eq, nat_lt, Contains, refl, sym, ap, ◌∙◌, subst, eqb-true}
 use Rattle.std.specs.List.{list_any}
-use Rattle.std.proofs.lemmas.Bool.{eq-eqb, lt-ltb, ltb-true}
+use Rattle.std.proofs.lemmas.Bool.{eq-eqb, lt-ltb, ltb-true, and_from}
 use Rattle.at_model.specs.Run.{Location}
-use Rattle.at_cache.specs.declared.edge.Edge.{Edge}
-use Rattle.at_cache.specs.Info.{Info}
-use Rattle.at_cache.specs.Info.{Memory}
-use Rattle.at_cache.specs.Recorded.{edge_to}
+use Rattle.at_index.specs.declared.edge.Edge.{Edge}
+use Rattle.at_cache.specs.Info.{Info, Memory}
+use Rattle.at_cache.specs.Recorded.{IsIndexed, is_used, edge_to}
 use Rattle.at_cache.proofs.Index.{Index}
-use Rattle.at_cache.specs.Recorded.{IsIndexed, is_used, same_edge}
-use Rattle.at_cache.proofs.Ending.{and, any_of, both, has, is_in, some_of}
+use Rattle.at_index.specs.Edges.{same_edge}
+use Rattle.at_index.proofs.Lists.{any_of, some_of}
+use Rattle.at_model.proofs.Options.{both}
+use Rattle.at_index.proofs.Listing.{has, is_in}
 
 has_number : (xs : List ℕ) (x : ℕ) → Contains xs x → list_any (nat_eq x) xs ≡ true
 has_number xs x c = any_of (nat_eq x) xs x c (eq-eqb x x refl)
@@ -21,7 +22,7 @@ module _ (m : Memory) where
   used_test : (s : ℕ) (e : Info) (p : ℕ) → (f : Info) × (m p ≡ Some f) × (f.since < e.since) × Contains f.users (edge_to s e) → is_used m s e p ≡ true
   used_test s e p (f, found, before, c) =
       ap (λ (o : Option Info). elim o as (λ _. Bool) [ None ↦ false | Some f ↦ nat_lt f.since e.since && list_any (same_edge (edge_to s e)) f.users ]) found
-      ∙ and _ _ (lt-ltb f.since e.since before) (has f.users (edge_to s e) c)
+      ∙ and_from _ _ (lt-ltb f.since e.since before) (has f.users (edge_to s e) c)
 
   used_fact : (s : ℕ) (e : Info) (p : ℕ) → is_used m s e p ≡ true → (f : Info) × (m p ≡ Some f) × (f.since < e.since) × Contains f.users (edge_to s e)
   used_fact s e p h = by (m p) refl h

@@ -1,6 +1,6 @@
 -- A flush under way: what is left of the entries, of which some are going.
 use Rattle.std.specs.Prelude.{◌≡◌, ◌&&◌, ◌⊎◌, ℕ, List, [], ◌∷◌, Bool, true, false, not, Option, None, Some, option_map, nat_eq, if◌then◌else◌, Contains}
-use Rattle.at_cache.specs.declared.edge.Edge.{Edge}
+use Rattle.at_index.specs.declared.edge.Edge.{Edge}
 use Rattle.at_model.specs.Run.{Location}
 use Rattle.at_cache.specs.Info.{Info, Memory}
 

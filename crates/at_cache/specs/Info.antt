@@ -4,12 +4,12 @@ use Rattle.slab.specs.Slab.{get}
 use Rattle.indexmap.specs.IndexMap.{index_map_len}
 use Rattle.at_model.specs.Run.{Value, Instance}
 use Rattle.at_body.specs.Values.{value_view}
-use Rattle.at_cache.specs.declared.edge.Edge.{Edge}
+use Rattle.at_index.specs.declared.edge.Edge.{Edge}
 use Rattle.at_cache.specs.declared.entry.Entry.{Entry}
 use Rattle.at_cache.specs.declared.mark.Mark.{Mark}
 use Rattle.at_cache.specs.declared.mark.Mark.TheVariants as mark
 use Rattle.at_cache.specs.declared.table.Table.{Table}
-use Rattle.at_cache.specs.Edges.{edges_in}
+use Rattle.at_index.specs.Edges.{edges_in}
 use Rattle.at_cache.specs.Placed.{at}
 
 -- whether an entry goes

@@ -1,6 +1,6 @@
 -- What is kept, and what is remembered beside it.
 use Rattle.at_cache.specs.declared.keep_recorded.KeepRecorded.{KeepRecorded}
-use Rattle.at_cache.specs.Finding.{edges_to}
+use Rattle.at_index.specs.Finding.{edges_to}
 use Rattle.at_cache.specs.Kept.{Entries}
 use Rattle.at_cache.specs.Shedding.{kept_cut, remembered_cut}
 use Rattle.at_cache.specs.Traced.{Memories}

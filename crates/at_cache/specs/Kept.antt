@@ -1,48 +1,13 @@
 -- What a keeper keeps, and the laws of its calls.
-use Rattle.std.specs.Prelude.{◌≡◌, ℕ, List, [], ◌∷◌, Bool, true, false, ◌&&◌, ◌||◌, ◌⊎◌, Option, Some, None, IsSome, Contains, nat_eq, bytes_eq, option_and_then, if◌then◌else◌}
+use Rattle.std.specs.Prelude.{◌≡◌, ℕ, List, Bool, true, false, ◌||◌, ◌⊎◌, Option, Some, None, IsSome, Contains, option_and_then, if◌then◌else◌}
 use Rattle.std.specs.List.{list_any}
-use Rattle.at_model.specs.Run.{Value, Instance, Location, Is, Tok, Slot, Up, Idx, Drawer}
+use Rattle.at_model.specs.Run.{Value, Instance, Location}
 use Rattle.at_store.specs.declared.node.Loc.{Loc}
 use Rattle.at_body.specs.Same.{same_instance}
+use Rattle.at_index.specs.Sameness.{same_location}
 use Rattle.at_store.specs.Located.{loc_view}
 use Rattle.at_store.specs.Places.{named}
 use Rattle.at_store.specs.declared.places.Places.{Places}
-
--- the form of a location, its node, and its component or 0
-abbrev pub form_of : Location ℕ → ℕ
-form_of (Is n) = 0
-form_of (Tok n part) = 1
-form_of (Slot n part) = 2
-form_of (Up n) = 3
-form_of (Idx n) = 4
-form_of (Drawer n part key mark) = 5
-
-abbrev pub node_at : Location ℕ → ℕ
-node_at (Is n) = n
-node_at (Tok n part) = n
-node_at (Slot n part) = n
-node_at (Up n) = n
-node_at (Idx n) = n
-node_at (Drawer n part key mark) = n
-
-abbrev pub part_at : Location ℕ → ℕ
-part_at (Is n) = 0
-part_at (Tok n part) = part
-part_at (Slot n part) = part
-part_at (Up n) = 0
-part_at (Idx n) = 0
-part_at (Drawer n part key mark) = part
-
--- the numbers of a drawer's key, and its mark: they tell it from others of the component
-abbrev pub marks_at : Location ℕ → List ℕ
-marks_at (Drawer n part key mark) = key.first ∷ key.classes ∷ key.token ∷ mark ∷ []
-marks_at l = []
-
--- whether two locations are the same
-abbrev pub same_location : Location ℕ → Location ℕ → Bool
-same_location l m =
-    nat_eq (form_of l) (form_of m) && (nat_eq (node_at l) (node_at m)
-    && (nat_eq (part_at l) (part_at m) && bytes_eq (marks_at l) (marks_at m)))
 
 -- what stands ready of an instance: its value, where that is kept, and the locations that the entry stands for
 pub record Kept : Type 0 where
@@ -95,10 +60,6 @@ LeavesKept old new = (i : Instance ℕ) (k : Kept) → new i ≡ Some k → old 
 -- each of the instances has an entry
 abbrev pub AreKept : Entries → List (Instance ℕ) → Type 0
 AreKept entries uses = (u : Instance ℕ) → Contains uses u → IsSome (entries u)
-
--- a closure may give the answer for the location
-abbrev pub Answers : (post : Loc → Bool → Type 0) → Location ℕ → Bool → Type 0
-Answers post l b = (x : Loc) × (loc_view x ≡ l) × post x b
 
 -- of what isn't named the closure answers `false`
 abbrev pub AreNamed : Places → (post : Loc → Bool → Type 0) → Type 0

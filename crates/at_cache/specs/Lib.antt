@@ -1,16 +1,10 @@
 pub mod Kept
-pub mod Rows
-pub mod Edges
-pub mod Readers
 pub mod Placed
 pub mod Info
 pub mod Recorded
 pub mod Flushing
 pub mod Putting
 pub mod Slots
-pub mod Asking
-pub mod Runs
-pub mod Finding
 pub mod Keeping
 pub mod Blocking
 pub mod Attributes

@@ -1,12 +1,13 @@
 -- What an edit takes away, by marks of what goes.
-use Rattle.std.specs.Prelude.{◌≡◌, ◌⊎◌, ℕ, zero, suc, List, [], ◌∷◌, ◌++◌, length, Bool, true, false, Option, None, Some, option_map, Contains, if◌then◌else◌}
+use Rattle.std.specs.Prelude.{◌≡◌, ◌⊎◌, ℕ, List, [], ◌++◌, length, Bool, true, false, Option, None, Some, option_map, Contains}
 use Rattle.at_model.specs.Run.{Location}
 use Rattle.at_cache.specs.declared.cut.Cut.{Cut}
 use Rattle.at_cache.specs.declared.cut.Loss.{Loss}
 use Rattle.at_cache.specs.declared.cut.Loss.TheVariants as loss
-use Rattle.at_cache.specs.declared.edge.Edge.{Edge}
+use Rattle.at_index.specs.declared.edge.Edge.{Edge}
 use Rattle.at_cache.specs.declared.mark.Mark.{Mark}
 use Rattle.at_cache.specs.declared.standing.Standing.{Standing}
+use Rattle.at_index.specs.Asking.{Asked}
 use Rattle.at_cache.specs.Info.{Info, Memory, is_going, memory_of, next_of, table_len}
 use Rattle.at_cache.specs.Flushing.{Begins, Work}
 use Rattle.at_cache.specs.Standings.{held, held_among, standing_of, untraced}
@@ -95,3 +96,8 @@ pub record TakesAway (says : Location ℕ → Bool → Type 0) (lists : Location
   pub works : Work (held standings m) start [] None (held later n)
   pub traces : Untraces start (stamps_of m) standings later
   pub entries : (k : ℕ) → n k ≡ m k
+
+-- All edges of what reads a location that is seen and touched were gone over.
+abbrev pub GoesOn : (says : Location ℕ → Bool → Type 0) (seen : Location ℕ → Bool) (lists : Location ℕ → List Edge)
+    → (first : Option ℕ) (old : Cut) (later : Option ℕ) (new : Cut) → Type 0
+GoesOn says seen lists first old later new = (edges : List Edge) × GoesOver loss.Both edges first old later new × Asked says seen lists edges

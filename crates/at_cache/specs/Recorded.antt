@@ -2,18 +2,13 @@
 use Rattle.std.specs.Prelude.{◌≡◌, ◌<◌, ℕ, zero, suc, List, Bool, true, false, ◌&&◌, ◌||◌, None, Some, nat_eq, nat_lt}
 use Rattle.std.specs.List.{list_any}
 use Rattle.at_model.specs.Run.{Location}
-use Rattle.at_cache.specs.declared.edge.Edge.{Edge}
+use Rattle.at_index.specs.declared.edge.Edge.{Edge}
+use Rattle.at_index.specs.Edges.{is_listed}
 use Rattle.at_cache.specs.Info.{Info, Memory}
-
-abbrev pub same_edge : Edge → Edge → Bool
-same_edge x y = nat_eq x.slot y.slot && nat_eq x.stamp y.stamp
 
 -- the edge to the entry in the slot
 abbrev pub edge_to : ℕ → Info → Edge
 edge_to s e = record { slot = s; stamp = e.stamp }
-
-abbrev pub is_listed : Edge → List Edge → Bool
-is_listed x edges = list_any (same_edge x) edges
 
 -- whether the entry in the slot stands for the location: the location's edges have one to it, or an entry that it used stands
 -- for it. Each link leads to an entry that came to be kept earlier, so that the number of those is far enough to look

@@ -1,11 +1,11 @@
 -- What leaves memory: what isn't kept, and more beyond a bound.
-use Rattle.std.specs.Prelude.{◌≡◌, ◌+◌, ◌/◌, ℕ, List, Bool, true, Some, nat_lt}
+use Rattle.std.specs.Prelude.{◌≡◌, ℕ, List, true, Some}
 use Rattle.at_model.specs.Run.{Location}
 use Rattle.at_cache.specs.declared.cut.Cut.{Cut}
-use Rattle.at_cache.specs.declared.edge.Edge.{Edge}
+use Rattle.at_index.specs.declared.edge.Edge.{Edge}
 use Rattle.at_cache.specs.declared.standing.Standing.{Standing}
 use Rattle.at_cache.specs.declared.table.Table.{Table}
-use Rattle.at_cache.specs.Info.{Info, Memory, memory_of, table_len}
+use Rattle.at_cache.specs.Info.{Info, Memory, memory_of}
 use Rattle.at_cache.specs.Recorded.{IsIndexed}
 use Rattle.at_cache.specs.Standings.{held, kept_held, remembered, standing_of, untraced}
 use Rattle.at_cache.specs.Kept.{Entries, LeavesKept}

@@ -7,13 +7,14 @@ use Rattle.at_model.specs.Run.{Instance, Location, Value}
 use Rattle.at_body.specs.Same.{same_instance}
 use Rattle.at_body.specs.Values.{value_view}
 use Rattle.at_cache.specs.declared.cut.Cut.{Cut}
-use Rattle.at_cache.specs.declared.edge.Edge.{Edge}
+use Rattle.at_index.specs.declared.edge.Edge.{Edge}
 use Rattle.at_cache.specs.declared.entry.Entry.{Entry}
 use Rattle.at_cache.specs.declared.standing.Standing.{Standing}
 use Rattle.at_cache.specs.declared.table.Table.{Table}
 use Rattle.at_cache.specs.Info.{Info, Memory, memory_of, table_len}
 use Rattle.at_cache.specs.Kept.{Entries, Kept, value_at}
-use Rattle.at_cache.specs.Recorded.{covers, edge_to, is_listed}
+use Rattle.at_cache.specs.Recorded.{covers, edge_to}
+use Rattle.at_index.specs.Edges.{is_listed}
 use Rattle.at_cache.specs.Traced.{Memories, Trace}
 
 -- how what isn't there stands

@@ -4,7 +4,8 @@ use Rattle.std.specs.List.{list_any}
 use Rattle.at_model.specs.Run.{Value, Instance, Location}
 use Rattle.at_cache.specs.declared.keeper.Order.{Order}
 use Rattle.at_cache.specs.declared.keeper.Order.TheVariants as order
-use Rattle.at_cache.specs.Kept.{Entries, PutsBy, same_location, value_at}
+use Rattle.at_cache.specs.Kept.{Entries, PutsBy, value_at}
+use Rattle.at_index.specs.Sameness.{same_location}
 
 -- the value of an instance, the locations that were looked at for it, and the instances that were taken for it, in order
 pub record Trace : Type 0 where

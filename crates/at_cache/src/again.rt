@@ -7,12 +7,12 @@ ghost use Rattle.at_cache.specs.Info.{memory_of};
 ghost use Rattle.at_cache.specs.Putting.{AreTaken};
 ghost use Rattle.at_cache.specs.Theirs.{AreTheirs, HasSlot};
 
-use crate::edge::Slot;
 use crate::entry::Links;
 use crate::likely::Likely;
 use crate::putting::slots_of;
 use crate::table::Table;
 use at_body::Inst;
+use at_index::edge::Slot;
 use std::alloc::{AllocError, Global};
 
 // Whether the entry of the instance is in the slot.

@@ -3,10 +3,10 @@
 ghost use Rattle.std.specs.Prelude.{◌≡◌, IfSome};
 ghost use Rattle.at_cache.specs.Blocking.{IsFirstOpen, LeadsTo, is_known};
 
-use crate::edge::Slot;
 use crate::settling::LEVELS;
 use crate::standing::{Standing, standing_at};
 use crate::table::Table;
+use at_index::edge::Slot;
 
 // Whether the entry in the slot is kept with a value. What can be kept again has one.
 fn is_kept(entries: &Table, standings: &[Standing], slot: Slot) -> bool

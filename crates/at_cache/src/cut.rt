@@ -4,7 +4,7 @@ ghost use Rattle.std.specs.Prelude.{◌≡◌, ◌+◌, ℕ, List, None, Some, f
 ghost use Rattle.std.specs.Map.{lookup};
 ghost use Rattle.at_model.specs.Run.{Location};
 ghost use Rattle.at_body.specs.Same.{same_instance};
-ghost use Rattle.at_cache.specs.declared.edge.Edge.{Edge};
+ghost use Rattle.at_index.specs.declared.edge.Edge.{Edge};
 ghost use Rattle.at_cache.specs.Flushing.{is_fresh};
 ghost use Rattle.at_cache.specs.Info.{Info, memory_of};
 ghost use Rattle.at_cache.specs.Marking.{held_in};
@@ -12,11 +12,12 @@ ghost use Rattle.at_cache.specs.Putting.{is_current};
 ghost use Rattle.at_cache.specs.Standings.{IsChanged, alive_in, held_among, held_of, remembered, standing_of, unheld, untraced};
 
 use crate::again::slot_by;
-use crate::edge::{Edge, Slot};
 use crate::entry::Entry;
 use crate::standing::{Standing, is_alive, set_standing, standing_at};
 use crate::table::Table;
 use at_body::Inst;
+use at_index::edge::{Edge, Slot};
+use at_index::tells::Tells;
 
 /// What an entry loses that an edge tells of.
 #[derive(Clone, Copy)]
@@ -88,16 +89,6 @@ impl Cut {
         }
     }
 
-    /// Whether the edge tells of an entry that is kept, or can be kept again.
-    pub fn tells_of(&self, edge: &Edge) -> bool
-        ensures { result ≡ is_current (alive_in self.now) edge.now }
-    {
-        if !is_alive(standing_at(self.standings.as_slice(), edge.slot)) {
-            return false;
-        }
-        self.entries.is_current(edge)
-    }
-
     /// Whether the entry in the slot is kept, if there is one.
     pub fn holds(&self, slot: Slot) -> bool
         ensures { result ≡ (standing_of self.now.standings.items slot).holds }
@@ -110,6 +101,18 @@ impl Cut {
         ensures { result ≡ is_fresh edge.now (held_in self.now edge.now.slot) }
     {
         self.holds(edge.slot) && self.entries.is_fresh(edge)
+    }
+}
+
+/// Edges tell of entries that are kept, or can be kept again.
+impl Tells for Cut {
+    ghost tells = { λ cut. is_current (alive_in cut) };
+
+    fn tells_of(&self, edge: &Edge) -> bool {
+        if !is_alive(standing_at(self.standings.as_slice(), edge.slot)) {
+            return false;
+        }
+        self.entries.is_current(edge)
     }
 }
 

@@ -2,9 +2,9 @@
 
 ghost use Rattle.std.specs.Prelude.{◌≡◌};
 
-use crate::edge::{Edges, Slot};
 use crate::mark::Mark;
 use at_body::Value;
+use at_index::edge::{Edges, Slot};
 use smallvec::SmallVec;
 
 /// Slots of entries; four stand inline.

@@ -1,17 +1,17 @@
 //! What has fewer entries of what is kept.
 
 ghost use Rattle.std.specs.Prelude.{ℕ, List, OnOk};
-ghost use Rattle.at_cache.specs.Asking.{AreNoted};
-ghost use Rattle.at_cache.specs.Finding.{edges_to};
+ghost use Rattle.at_index.specs.Asking.{AreNoted};
+ghost use Rattle.at_index.specs.Finding.{edges_to};
 ghost use Rattle.at_cache.specs.Info.{memory_of};
 ghost use Rattle.at_cache.specs.Recorded.{IsIndexed};
 ghost use Rattle.at_cache.specs.Shedding.{AreHeld, FoldsHeld};
 ghost use Rattle.at_cache.specs.Standings.{held};
 ghost use Rattle.at_cache.specs.declared.standing.Standing.{Standing};
 
-use crate::run::AllReaders;
 use crate::standing::Standing;
 use crate::table::Table;
+use at_index::run::AllReaders;
 use std::alloc::{AllocError, Global};
 
 /// What is known of the last times.

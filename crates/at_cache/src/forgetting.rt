@@ -2,24 +2,23 @@
 
 ghost use Rattle.std.specs.Prelude.{◌≡◌, ◌≤◌, ◌∷◌, ◌^◌, ℕ, [], MatchBool, Option, length, true, false};
 ghost use Rattle.at_model.specs.Run.{Location};
-ghost use Rattle.at_cache.specs.declared.edge.Edge.{Edge};
-ghost use Rattle.at_cache.specs.Edges.{edges_in};
-ghost use Rattle.at_cache.specs.Rows.{edges_along, edges_of};
+ghost use Rattle.at_index.specs.declared.edge.Edge.{Edge};
+ghost use Rattle.at_index.specs.Edges.{edges_in};
+ghost use Rattle.at_index.specs.Rows.{edges_along, edges_of};
 ghost use Rattle.at_cache.specs.declared.cut.Loss.TheVariants as loss_code;
-ghost use Rattle.at_cache.specs.Marking.{GoesOver};
-ghost use Rattle.at_cache.specs.Asking.{GoesOn, looks_at, sees};
-ghost use Rattle.at_cache.specs.Readers.{edges_among, edges_at, stands_for};
-ghost use Rattle.at_cache.specs.Finding.{edges_to};
-ghost use Rattle.at_cache.specs.Runs.{edges_on, edges_over, edges_past};
-ghost use Rattle.at_cache.specs.Kept.{Answers};
+ghost use Rattle.at_cache.specs.Marking.{GoesOver, GoesOn};
+ghost use Rattle.at_index.specs.Asking.{looks_at, sees, Answers};
+ghost use Rattle.at_index.specs.Readers.{edges_among, edges_at, stands_for};
+ghost use Rattle.at_index.specs.Finding.{edges_to};
+ghost use Rattle.at_index.specs.Runs.{edges_on, edges_over, edges_past};
 
 use crate::cut::{Cut, Loss, take_trace};
-use crate::edge::{Edge, Edges, Slot};
-use crate::facet::{Facet, Facets, Readers};
-use crate::row::Row;
-use crate::run::{AllReaders, Reach, Run, Seat};
-use crate::scope::Scope;
-use crate::seating::seat_of;
+use at_index::edge::{Edge, Edges, Slot};
+use at_index::facet::{Facet, Facets, Readers};
+use at_index::row::Row;
+use at_index::run::{AllReaders, Reach, Run, Seat};
+use at_index::scope::Scope;
+use at_index::seating::seat_of;
 use at_store::{Loc, Node};
 
 // The entry that the edge tells of can't be kept again, if it is there.

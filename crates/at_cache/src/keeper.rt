@@ -5,7 +5,8 @@ ghost use Rattle.std.specs.Option.{option_map};
 ghost use Rattle.at_model.specs.Run.{Instance, Value};
 ghost use Rattle.at_body.specs.Values.{value_view};
 ghost use Rattle.at_store.specs.Located.{loc_view};
-ghost use Rattle.at_cache.specs.Kept.{AreNamed, Kept, KeepsAll, Puts, AreKept, Answers, LeavesUntouched, LosesTouched, value_at};
+ghost use Rattle.at_cache.specs.Kept.{AreNamed, Kept, KeepsAll, Puts, AreKept, LeavesUntouched, LosesTouched, value_at};
+ghost use Rattle.at_index.specs.Asking.{Answers};
 ghost use Rattle.at_cache.specs.Traced.{AreAlike, FlushesTraces, IsNext, Memories, PutsTrace, Settled, SparesAtEdit, SparesOthers, StayTraced};
 
 use at_body::{Inst, Value};

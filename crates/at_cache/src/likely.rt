@@ -1,7 +1,7 @@
 //! Where entries are likely to stand.
 
-use crate::edge::Slot;
 use at_body::Inst;
+use at_index::edge::Slot;
 use std::alloc::Global;
 
 // How many marks a node has. Its instances share them, by the positions of their attributes.

@@ -3,7 +3,7 @@
 ghost use Rattle.std.specs.Prelude.{◌≡◌, true};
 ghost use Rattle.at_cache.specs.Info.{is_going, next_of};
 
-use crate::edge::Slot;
+use at_index::edge::Slot;
 
 /// Whether an entry goes in the flush under way, and which one goes next.
 #[derive(Clone, Copy)]

@@ -4,15 +4,15 @@ ghost use Rattle.std.specs.Prelude.{None};
 ghost use Rattle.std.specs.List.{list_any};
 ghost use Rattle.at_model.specs.Touches.{node_of};
 ghost use Rattle.at_store.specs.Places.{is_index_among, is_node, named, names_around};
-ghost use Rattle.at_cache.specs.Asking.{AreNoted, GoesOn, sees};
-ghost use Rattle.at_cache.specs.Kept.{Answers};
-ghost use Rattle.at_cache.specs.Finding.{edges_to};
+ghost use Rattle.at_index.specs.Asking.{AreNoted, sees, Answers};
+ghost use Rattle.at_cache.specs.Marking.{GoesOn};
+ghost use Rattle.at_index.specs.Finding.{edges_to};
 
 use crate::cut::Cut;
-use crate::edge::Slot;
 use crate::forgetting::{begin_node, count_of};
-use crate::run::AllReaders;
-use crate::scope::Scope;
+use at_index::edge::Slot;
+use at_index::run::AllReaders;
+use at_index::scope::Scope;
 use at_store::{Changing, Loc, Node, Places};
 
 // So does what reads one in that scope of any of the nodes.

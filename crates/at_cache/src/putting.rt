@@ -7,11 +7,11 @@ ghost use Rattle.at_cache.specs.Info.{info, memory_of};
 ghost use Rattle.at_cache.specs.Putting.{AreTaken, fresh_entry};
 ghost use Rattle.at_cache.specs.Theirs.{AreTheirs};
 
-use crate::edge::{Edge, Edges};
 use crate::entry::{Entry, Links};
 use crate::mark::Mark;
 use crate::table::Table;
 use at_body::{Inst, Value};
+use at_index::edge::{Edge, Edges};
 use std::alloc::{AllocError, Global};
 
 /// The slots of these instances. Mostly they came last, one behind the other, as their evaluations ended.

@@ -4,31 +4,32 @@ ghost use Rattle.std.specs.Prelude.{◌≡◌, ℕ, List, None, Some, IfOk, IsSo
 ghost use Rattle.at_model.specs.Run.{Instance, Location};
 ghost use Rattle.at_body.specs.Values.{value_view};
 ghost use Rattle.at_store.specs.Located.{loc_view};
-ghost use Rattle.at_cache.specs.declared.edge.Edge.{Edge};
+ghost use Rattle.at_index.specs.declared.edge.Edge.{Edge};
 ghost use Rattle.at_cache.specs.declared.keeper.Order.TheVariants as orders;
-ghost use Rattle.at_cache.specs.Asking.{AreNoted};
+ghost use Rattle.at_index.specs.Asking.{AreNoted};
 ghost use Rattle.at_cache.specs.Flushing.{IsIdle};
 ghost use Rattle.at_cache.specs.Info.{Info, info, memory_of};
 ghost use Rattle.at_cache.specs.Kept.{AreKept};
 ghost use Rattle.at_cache.specs.Marking.{held_in};
 ghost use Rattle.at_cache.specs.Putting.{fresh_entry};
-ghost use Rattle.at_cache.specs.Finding.{edges_to};
+ghost use Rattle.at_index.specs.Finding.{edges_to};
 ghost use Rattle.at_cache.specs.Renewing.{Compares, EntersHeld, IsAwaited, IsSlotFor, PutsIn, StaysAwaited};
 ghost use Rattle.at_cache.specs.Shedding.{kept_cut};
 
 use crate::again::{slot_by, slots_again};
 use crate::cut::{Cut, Loss, take_trace};
 use crate::cutting::doom_users;
-use crate::edge::{Edge, Slot};
 use crate::entry::{Entry, Links};
 use crate::keeper::Order;
 use crate::likely::Likely;
-use crate::linking::{add_readers, add_users};
 use crate::putting::fresh;
-use crate::run::AllReaders;
 use crate::standing::{Standing, make_standing, set_standing};
 use crate::table::Table;
+use crate::using::add_users;
 use at_body::{Inst, Value};
+use at_index::edge::{Edge, Slot};
+use at_index::linking::add_readers;
+use at_index::run::AllReaders;
 use at_store::{Loc, Node};
 use std::alloc::{AllocError, Global};
 

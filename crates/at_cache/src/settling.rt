@@ -2,14 +2,14 @@
 
 ghost use Rattle.std.specs.Prelude.{ℕ, List, true};
 ghost use Rattle.at_model.specs.Run.{Location};
-ghost use Rattle.at_cache.specs.declared.edge.Edge.{Edge};
+ghost use Rattle.at_index.specs.declared.edge.Edge.{Edge};
 ghost use Rattle.at_cache.specs.Info.{memory_of};
 ghost use Rattle.at_cache.specs.Putting.{AreTaken};
 ghost use Rattle.at_cache.specs.Settling.{CanKeep, HasSettled, HasSettledAll, IsWhole};
 
-use crate::edge::Slot;
 use crate::standing::{Standing, is_verified, set_standing, standing_at};
 use crate::table::Table;
+use at_index::edge::Slot;
 
 /// How many levels deep what was used is gone into at most. A level takes some hundred bytes of the native stack.
 pub const LEVELS: usize = 400;

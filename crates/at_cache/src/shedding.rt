@@ -5,10 +5,10 @@ ghost use Rattle.at_cache.specs.Info.{memory_of, table_len};
 ghost use Rattle.at_cache.specs.Shedding.{LosesTraces, Sheds, ShedsAt};
 
 use crate::cut::take_trace;
-use crate::edge::Slot;
-use crate::facet::small;
 use crate::standing::{Standing, standing_at};
 use crate::table::Table;
+use at_index::edge::Slot;
+use at_index::facet::small;
 use std::alloc::AllocError;
 
 // What is in the slot goes, if it isn't kept.

@@ -3,7 +3,7 @@
 ghost use Rattle.std.specs.Prelude.{◌≡◌, ◌<◌, ℕ, IsTrue, OnOk, length, slice_set, true};
 ghost use Rattle.at_cache.specs.Standings.{is_alive, standing_of};
 
-use crate::edge::Slot;
+use at_index::edge::Slot;
 use std::alloc::AllocError;
 
 /// How an entry stands.

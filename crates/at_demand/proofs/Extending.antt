@@ -2,7 +2,7 @@
 use Rattle.std.proofs.Common.{◌≡◌, ℕ, zero, suc, ◌<◌, List, [], ◌∷◌, ◌++◌, length, map, slice_get, Some, inl, inr, refl, sym, ap, ◌∙◌, subst, append_assoc, append-nil, arith}
 use Rattle.at_model.specs.Meaning.{Among}
 use Rattle.at_model.proofs.Listed.{among_left}
-use Rattle.at_cache.proofs.Lists.{get_left}
+use Rattle.at_index.proofs.Lists.{get_left}
 use Rattle.at_demand.specs.Covering.{Extends}
 
 module _ {A : Type 0} where

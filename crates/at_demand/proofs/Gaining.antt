@@ -7,7 +7,7 @@ use Rattle.at_model.specs.Meaning.{Among}
 use Rattle.at_model.specs.of_fixpoints.Resting.{Comes, Leads, goes, stays}
 use Rattle.at_rules.specs.Circular.{AreCircularLazy}
 use Rattle.at_cache.specs.Kept.{Kept, Entries}
-use Rattle.at_cache.proofs.Lists.{get_push, get_contains}
+use Rattle.at_index.proofs.Lists.{get_push, get_contains}
 use Rattle.at_demand.specs.declared.evaluation.Find.{Find}
 use Rattle.at_evaluate.specs.Valued.{meaning, AreValued, IsKept}
 use Rattle.at_demand.specs.Known.{IsFound}

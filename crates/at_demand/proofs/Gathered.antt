@@ -15,9 +15,10 @@ use Rattle.at_model.proofs.Listed.{among_map, among_right}
 use Rattle.at_model.proofs.Options.{or_right}
 use Rattle.at_store.specs.Located.{loc_view}
 use Rattle.at_body.specs.Same.{same_instance}
-use Rattle.at_cache.specs.Kept.{Kept, Entries, AreKept, Puts, covered, covers_at, same_location}
-use Rattle.at_cache.proofs.Lists.{get_contains}
-use Rattle.at_cache.proofs.Locations.{same_location-itself}
+use Rattle.at_cache.specs.Kept.{Kept, Entries, AreKept, Puts, covered, covers_at}
+use Rattle.at_index.specs.Sameness.{same_location}
+use Rattle.at_index.proofs.Lists.{get_contains}
+use Rattle.at_index.proofs.Locations.{same_location-itself}
 use Rattle.at_demand.specs.declared.evaluation.Find.{Find}
 use Rattle.at_demand.specs.declared.gathering.Sources.{Sources}
 use Rattle.at_evaluate.specs.Valued.{meaning}

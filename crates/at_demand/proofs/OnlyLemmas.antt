@@ -20,9 +20,10 @@ use Rattle.at_body.specs.Rest.{resumed}
 use Rattle.at_body.specs.declared.value.Value.{Value as ValueCode}
 use Rattle.at_body.specs.declared.trial.Step.TheVariants as step
 use Rattle.at_body.specs.declared.trial.Trial.{Trial}
-use Rattle.at_cache.specs.Kept.{Kept, Entries, Puts, covered, covers_at, same_location}
-use Rattle.at_cache.proofs.Locations.{same_location-is}
-use Rattle.at_cache.proofs.Lists.{get_push}
+use Rattle.at_cache.specs.Kept.{Kept, Entries, Puts, covered, covers_at}
+use Rattle.at_index.specs.Sameness.{same_location}
+use Rattle.at_index.proofs.Locations.{same_location-is}
+use Rattle.at_index.proofs.Lists.{get_push}
 use Rattle.at_demand.specs.declared.evaluation.Demanded.{Demanded}
 use Rattle.at_demand.specs.declared.evaluation.Find.{Find}
 use Rattle.at_demand.specs.declared.evaluation.Frame.{Frame}

@@ -15,7 +15,7 @@ use Rattle.at_body.specs.Rest.{reached, resumed}
 use Rattle.at_body.specs.declared.value.Value.{Value as ValueCode}
 use Rattle.at_body.specs.declared.trial.Step.{Step}
 use Rattle.at_body.specs.declared.trial.Step.TheVariants as step
-use Rattle.at_cache.proofs.Lists.{get_push}
+use Rattle.at_index.proofs.Lists.{get_push}
 use Rattle.at_demand.specs.declared.evaluation.Demanded.{Demanded}
 use Rattle.at_demand.specs.declared.evaluation.Find.{Find}
 use Rattle.at_demand.specs.declared.evaluation.Frame.{Frame}

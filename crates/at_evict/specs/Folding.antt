@@ -2,12 +2,12 @@
 use Rattle.std.specs.Prelude.{◌≡◌, ◌⊎◌, ℕ, List, [], ◌∷◌, Bool, true, Option, None, Some, Contains, slice_get}
 use Rattle.smallvec.specs.SmallVec.{SmallVec}
 use Rattle.at_model.specs.Run.{Location}
-use Rattle.at_cache.specs.declared.edge.Edge.{Edge}
-use Rattle.at_cache.specs.declared.facet.Readers.{Readers}
-use Rattle.at_cache.specs.Edges.{edges_in}
+use Rattle.at_index.specs.declared.edge.Edge.{Edge}
+use Rattle.at_index.specs.declared.facet.Readers.{Readers}
+use Rattle.at_index.specs.Edges.{edges_in}
 use Rattle.at_cache.specs.Info.{Info, Memory}
 use Rattle.at_cache.specs.Putting.{is_current}
-use Rattle.at_cache.specs.Readers.{edges_among}
+use Rattle.at_index.specs.Readers.{edges_among}
 use Rattle.at_cache.specs.Recorded.{edge_to}
 
 -- the list of a slot

@@ -1,11 +1,11 @@
 -- What is looked at of a node by the same entries has one list of edges.
 use Rattle.std.specs.Prelude.{◌≡◌, ◌<◌, ◌||◌, ℕ, List, Some, Contains, slice_get}
 use Rattle.at_model.specs.Run.{Location}
-use Rattle.at_cache.specs.declared.edge.Edge.{Edge}
-use Rattle.at_cache.specs.declared.facet.Facet.{Facet}
-use Rattle.at_cache.specs.declared.facet.Readers.{Readers}
-use Rattle.at_cache.specs.Edges.{edges_in}
-use Rattle.at_cache.specs.Readers.{edges_among, stands_for}
+use Rattle.at_index.specs.declared.edge.Edge.{Edge}
+use Rattle.at_index.specs.declared.facet.Facet.{Facet}
+use Rattle.at_index.specs.declared.facet.Readers.{Readers}
+use Rattle.at_index.specs.Edges.{edges_in}
+use Rattle.at_index.specs.Readers.{edges_among, stands_for}
 
 -- Both have the same edges, and the facet stands for what theirs stand for.
 pub record AreJoint (some more : Readers) (f : Facet) : Type 0 where

@@ -1,13 +1,13 @@
 -- Edges of runs that tell of entries which are folded.
 use Rattle.std.specs.Prelude.{◌≡◌, ◌&&◌, ◌⊎◌, ℕ, List, [], Bool, true, not, Option, None, Some, Contains, if◌then◌else◌, nat_lt}
-use Rattle.at_cache.specs.declared.edge.Edge.{Edge}
-use Rattle.at_cache.specs.declared.run.Reach.{Reach}
-use Rattle.at_cache.specs.declared.run.Run.{Run}
+use Rattle.at_index.specs.declared.edge.Edge.{Edge}
+use Rattle.at_index.specs.declared.run.Reach.{Reach}
+use Rattle.at_index.specs.declared.run.Run.{Run}
 use Rattle.at_evict.specs.Folding.{Refolded}
 use Rattle.at_cache.specs.Info.{Memory}
 use Rattle.at_cache.specs.Putting.{is_current}
-use Rattle.at_cache.specs.Recorded.{same_edge}
-use Rattle.at_cache.specs.Runs.{edges_past}
+use Rattle.at_index.specs.Edges.{same_edge}
+use Rattle.at_index.specs.Runs.{edges_past}
 
 -- into which the entry is folded that the edge tells of, if it tells of one
 abbrev pub targets_of : (there : Edge → Bool) → (into : ℕ → List ℕ) → Edge → List ℕ

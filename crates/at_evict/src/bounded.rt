@@ -7,10 +7,10 @@ ghost use Rattle.at_cache.specs.Traced.{StayTraced};
 use crate::choosing::choose;
 use crate::folding::fold;
 use at_cache::folding::{Fold, Last};
-use at_cache::run::AllReaders;
 use at_cache::standing::Standing;
 use at_cache::table::Table;
 use at_cache::{KeepInTurns, KeepRecorded, Keeper};
+use at_index::run::AllReaders;
 use std::alloc::{AllocError, Global};
 use std::mem;
 

@@ -1,19 +1,19 @@
 //! Whether entries may be folded by a plan.
 
 ghost use Rattle.std.specs.Prelude.{◌≡◌, ◌⊎◌, ℕ, Bool, Contains, IsTrue, Some, true};
-ghost use Rattle.at_cache.specs.declared.edge.Edge.{Edge};
-ghost use Rattle.at_cache.specs.Edges.{edges_in};
+ghost use Rattle.at_index.specs.declared.edge.Edge.{Edge};
+ghost use Rattle.at_index.specs.Edges.{edges_in};
 ghost use Rattle.at_evict.specs.Folding.{AreLone, AreTaken, FoldsAt, HasUser, IsBelow, slots_at};
 ghost use Rattle.at_cache.specs.Info.{Info, memory_of};
 ghost use Rattle.at_cache.specs.Putting.{is_current};
-ghost use Rattle.at_cache.specs.Rows.{edges_along, edges_of};
+ghost use Rattle.at_index.specs.Rows.{edges_along, edges_of};
 
 use crate::folding::{does_stay, has, slots_at};
 use crate::lone::Lone;
-use at_cache::edge::{Edge, Edges, Slot};
 use at_cache::entry::{Entry, Links};
-use at_cache::row::Row;
 use at_cache::table::Table;
+use at_index::edge::{Edge, Edges, Slot};
+use at_index::row::Row;
 
 // Whether each of these is one of the others.
 fn are_among(slots: &[Slot], others: &[Slot]) -> bool

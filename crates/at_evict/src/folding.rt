@@ -6,8 +6,8 @@
 ghost use Rattle.std.specs.Prelude.{◌≡◌, ℕ, Contains, IfOk, IsTrue, List, OnOk, nat_eq};
 ghost use Rattle.std.specs.List.{list_any};
 ghost use Rattle.slab.specs.Slab.{get};
-ghost use Rattle.at_cache.specs.Asking.{AreNoted};
-ghost use Rattle.at_cache.specs.Finding.{edges_to};
+ghost use Rattle.at_index.specs.Asking.{AreNoted};
+ghost use Rattle.at_index.specs.Finding.{edges_to};
 ghost use Rattle.at_evict.specs.Folding.{AreOrdered, AreTaken, slots_at};
 ghost use Rattle.at_cache.specs.Info.{memory_of};
 ghost use Rattle.at_cache.specs.Recorded.{IsIndexed};
@@ -21,11 +21,11 @@ use crate::relinking::{links_of, relink, remove_folded};
 use crate::rerunning::rerun;
 use crate::rewriting::rewrite;
 use crate::room::Room;
-use at_cache::edge::Slot;
 use at_cache::entry::Links;
-use at_cache::run::AllReaders;
 use at_cache::slots::slot_at;
 use at_cache::table::Table;
+use at_index::edge::Slot;
+use at_index::run::AllReaders;
 use std::alloc::{AllocError, Global};
 
 /// How many slots or edges at the end of a list are looked at.

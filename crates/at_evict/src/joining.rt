@@ -3,7 +3,7 @@
 ghost use Rattle.std.specs.Prelude.{◌≡◌, ◌<◌, IfSome, MatchBool, length};
 ghost use Rattle.at_evict.specs.Joining.{AreJoint, HaveSame, Joins};
 
-use at_cache::facet::{Facet, Facets, INLINE, Readers};
+use at_index::facet::{Facet, Facets, INLINE, Readers};
 
 // The facet of both, where they have the same edges and there is one.
 fn joint(some: &Readers, more: &Readers) -> Option<Facet>

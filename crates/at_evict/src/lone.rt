@@ -1,18 +1,18 @@
 //! Entries that a plan leaves by themselves, and lists of edges to such alone, which it leaves as they are.
 
 ghost use Rattle.std.specs.Prelude.{◌≡◌, ◌∷◌, [], ℕ, Bool, Contains, IfOk, IfSome, IsTrue, List, true};
-ghost use Rattle.at_cache.specs.declared.edge.Edge.{Edge};
-ghost use Rattle.at_cache.specs.Edges.{edges_in};
+ghost use Rattle.at_index.specs.declared.edge.Edge.{Edge};
+ghost use Rattle.at_index.specs.Edges.{edges_in};
 ghost use Rattle.at_evict.specs.Folding.{AreAlone, AreLone, IsLone, Stays, slots_at};
 ghost use Rattle.at_cache.specs.Info.{memory_of};
 ghost use Rattle.at_cache.specs.Putting.{is_current};
-ghost use Rattle.at_cache.specs.Rows.{edges_along, edges_of};
+ghost use Rattle.at_index.specs.Rows.{edges_along, edges_of};
 
 use crate::folding::slots_at;
-use at_cache::edge::{Edge, Edges, Slot};
 use at_cache::entry::Links;
-use at_cache::row::Row;
 use at_cache::table::Table;
+use at_index::edge::{Edge, Edges, Slot};
+use at_index::row::Row;
 use std::alloc::{AllocError, Global};
 
 /// By slots, the numbers of those entries that are folded into themselves alone.

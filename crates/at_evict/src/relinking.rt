@@ -2,8 +2,8 @@
 
 ghost use Rattle.std.specs.Prelude.{◌≡◌, ◌<◌, ◌∷◌, [], ℕ, Bool, Contains, IfOk, IsTrue, List, OnOk, Some};
 ghost use Rattle.slab.specs.Slab.{get};
-ghost use Rattle.at_cache.specs.declared.edge.Edge.{Edge};
-ghost use Rattle.at_cache.specs.Edges.{edges_in};
+ghost use Rattle.at_index.specs.declared.edge.Edge.{Edge};
+ghost use Rattle.at_index.specs.Edges.{edges_in};
 ghost use Rattle.at_evict.specs.Folding.{AreAlone, AreLinks, AreLone, AreOrdered, AreTaken, HasLinked, HasSame, IsRelinked, Linked, LinkedTo, Relinks, RelinksAt, Remains, RemovesAt, Stays, listed_at, slots_at};
 ghost use Rattle.at_cache.specs.Info.{Info, memory_of};
 ghost use Rattle.at_cache.specs.Putting.{is_current};
@@ -12,9 +12,9 @@ use crate::folding::{does_stay, is_near, list_at, slots_at};
 use crate::lone::{Lone, is_only};
 use crate::rewriting::rewrite_list;
 use crate::room::Room;
-use at_cache::edge::{Edges, Slot};
 use at_cache::entry::{Entry, Links};
 use at_cache::table::Table;
+use at_index::edge::{Edges, Slot};
 use std::alloc::{AllocError, Global};
 
 // One link more, if the entry in that slot stays. Of the list only the end is looked at, so that many links cost no more than their number.

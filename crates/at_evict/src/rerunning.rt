@@ -2,18 +2,18 @@
 
 ghost use Rattle.std.specs.Prelude.{◌≡◌, ◌∷◌, [], List, IfOk, OnOk};
 ghost use Rattle.std.specs.List.{list_any};
-ghost use Rattle.at_cache.specs.declared.run.Seat.{Seat};
+ghost use Rattle.at_index.specs.declared.run.Seat.{Seat};
 ghost use Rattle.at_evict.specs.Folding.{Refolded, slots_at};
 ghost use Rattle.at_cache.specs.Info.{memory_of};
 ghost use Rattle.at_cache.specs.Putting.{is_current};
 ghost use Rattle.at_evict.specs.Rerunning.{AreRerun, Covers, GoNoFurther, Reaches, is_as_wide, targets_of};
-ghost use Rattle.at_cache.specs.Runs.{AreSeated, edges_on};
+ghost use Rattle.at_index.specs.Runs.{AreSeated, edges_on};
 
 use crate::folding::{NEAR, slots_at};
-use at_cache::edge::{Edge, Slot};
 use at_cache::entry::Links;
-use at_cache::run::{Reach, Run};
 use at_cache::table::Table;
+use at_index::edge::{Edge, Slot};
+use at_index::run::{Reach, Run};
 use std::alloc::{AllocError, Global};
 
 // Into which the entry is folded that the edge tells of; none where it tells of no entry.

@@ -2,25 +2,25 @@
 
 ghost use Rattle.std.specs.Prelude.{◌≡◌, ◌<◌, ◌∷◌, ◌++◌, [], ℕ, Bool, IfOk, IfSome, IsTrue, List, OnOk, Some, length, slice_get, true};
 ghost use Rattle.at_model.specs.Run.{Location};
-ghost use Rattle.at_cache.specs.declared.edge.Edge.{Edge};
-ghost use Rattle.at_cache.specs.Edges.{edges_in};
+ghost use Rattle.at_index.specs.declared.edge.Edge.{Edge};
+ghost use Rattle.at_index.specs.Edges.{edges_in};
 ghost use Rattle.at_evict.specs.Folding.{Added, AreAlone, AreLone, AreRefolded, Gathered, IsRefolded, Parted, Refolded, slots_at};
 ghost use Rattle.at_cache.specs.Info.{Info, Memory, memory_of};
 ghost use Rattle.at_cache.specs.Putting.{is_current};
-ghost use Rattle.at_cache.specs.Readers.{edges_at};
+ghost use Rattle.at_index.specs.Readers.{edges_at};
 ghost use Rattle.at_cache.specs.Recorded.{edge_to};
-ghost use Rattle.at_cache.specs.Rows.{edges_along, edges_of};
+ghost use Rattle.at_index.specs.Rows.{edges_along, edges_of};
 
 use crate::folding::slots_at;
 use crate::joining::join;
 use crate::lone::Lone;
 use crate::room::Room;
-use at_cache::edge::{Edge, Edges, Many, Slot};
 use at_cache::entry::Links;
-use at_cache::facet::Facets;
-use at_cache::linking::push_edge;
-use at_cache::row::Row;
 use at_cache::table::Table;
+use at_index::edge::{Edge, Edges, Many, Slot};
+use at_index::facet::Facets;
+use at_index::linking::push_edge;
+use at_index::row::Row;
 use std::alloc::{AllocError, Global};
 
 // These slots, too: mostly it is one.

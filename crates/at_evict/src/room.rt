@@ -1,11 +1,11 @@
 //! Room for work where lists of edges are made anew.
 
 ghost use Rattle.std.specs.Prelude.{◌≡◌, Contains, IsTrue};
-ghost use Rattle.at_cache.specs.Rows.{edges_along};
+ghost use Rattle.at_index.specs.Rows.{edges_along};
 
-use at_cache::edge::{Edge, Slot};
-use at_cache::facet::small;
-use at_cache::row::Row;
+use at_index::edge::{Edge, Slot};
+use at_index::facet::small;
+use at_index::row::Row;
 use std::alloc::{AllocError, Global};
 
 /// What is gathered for a list, and where its edges stand.

@@ -6,11 +6,11 @@
 //!
 //! Entries are looked at by their places, from the oldest to the newest: what one used stands before it.
 
-use at_cache::edge::{Edge, Edges, Slot};
 use at_cache::entry::Entry;
-use at_cache::facet::{Facets, Readers, small};
-use at_cache::row::Row;
-use at_cache::run::{Reach, Run};
+use at_index::edge::{Edge, Edges, Slot};
+use at_index::facet::{Facets, Readers, small};
+use at_index::row::Row;
+use at_index::run::{Reach, Run};
 
 /// Into how many entries one is folded at most: so many slots stand inline.
 pub const MANY: usize = 4;

@@ -2,24 +2,26 @@
 use Rattle.std.proofs.Common.{◌≡◌, ◌≤◌, inl, inr, ℕ, List, Bool, true, false, None, Some, nat_eq, if◌then◌else◌, refl, ap, ◌∙◌, subst, arith}
 use Rattle.std.proofs.lemmas.Option.{none-some}
 use Rattle.at_model.specs.Run.{Location}
-use Rattle.at_cache.specs.declared.edge.Edge.{Edge}
+use Rattle.at_index.specs.declared.edge.Edge.{Edge}
 use Rattle.at_cache.specs.declared.standing.Standing.{Standing}
 use Rattle.at_cache.specs.Info.{Info, Memory}
-use Rattle.at_cache.specs.Putting.{Reads, Uses, is_current, reused}
+use Rattle.at_index.specs.Linking.{Reads}
+use Rattle.at_cache.specs.Putting.{Uses, is_current, reused}
 use Rattle.at_cache.specs.Standings.{IsTied, alive, is_alive, standing_of}
-use Rattle.at_cache.proofs.Ending.{either, on_left, on_right}
-use Rattle.at_cache.proofs.Listing.{IsToldOn, reused_from}
+use Rattle.std.proofs.lemmas.Bool.{or_cases, or_left, or_right}
+use Rattle.at_cache.specs.Recorded.{edge_to}
+use Rattle.at_cache.proofs.Users.{reused_from, current, told_of}
 
 pub by_holding : (s : Standing) → s.holds ≡ true → is_alive s ≡ true
-by_holding s on = on_left s.holds s.traced on
+by_holding s on = or_left s.holds s.traced on
 
 pub by_trace : (s : Standing) → s.traced ≡ true → is_alive s ≡ true
-by_trace s on = on_right s.holds s.traced on
+by_trace s on = or_right s.holds s.traced on
 
 -- what stands so later stood so before
 pub was_alive : (s t : Standing) → (t.holds ≡ true → s.holds ≡ true) → (t.traced ≡ true → s.traced ≡ true)
     → is_alive t ≡ true → is_alive s ≡ true
-was_alive s t holds traced on = elim (either t.holds t.traced on) [
+was_alive s t holds traced on = elim (or_cases t.holds t.traced on) [
   | inl h ↦ by_holding s (holds h)
   | inr h ↦ by_trace s (traced h)
 ]
@@ -27,6 +29,9 @@ was_alive s t holds traced on = elim (either t.holds t.traced on) [
 module _ (st : List Standing) (m : Memory) (k : ℕ) (e : Info) where
   pub alive_on : m k ≡ Some e → is_alive (standing_of st k) ≡ true → alive st m k ≡ Some e
   alive_on there on = ap (λ b. if b then m k else None) on ∙ there
+
+  pub tells_on : m k ≡ Some e → is_alive (standing_of st k) ≡ true → is_current (alive st m) (edge_to k e) ≡ true
+  tells_on there on = current (alive st m) (edge_to k e) e (alive_on there on) refl
 
   pub alive_from : alive st m k ≡ Some e → (m k ≡ Some e) × (is_alive (standing_of st k) ≡ true)
   alive_from h = by (is_alive (standing_of st k)) refl h
@@ -49,27 +54,30 @@ module _ (st : List Standing) (m : Memory) (x : Edge) where
 
 -- they are told of still where one has other users, and where several have
 pub told_reused : (st : List Standing) (s : ℕ) (us : List Edge) (m mid : Memory) → ((k : ℕ) → mid k ≡ reused s us m k)
-    → IsToldOn (alive st m) (alive st mid)
-told_reused st s us m mid is k e h =
-    let (there, on) = alive_from st m k e h in
-    let (f, found, same) = reused_from s us m mid is k e there in
-    (f, alive_on st mid k f found on, same)
+    → (y : Edge) → is_current (alive st m) y ≡ true → is_current (alive st mid) y ≡ true
+told_reused st s us m mid is y h =
+    let (e, told, stamp) = told_of (alive st m) y h in
+    let (there, on) = alive_from st m y.slot e told in
+    let (f, found, same) = reused_from s us m mid is y.slot e there in
+    current (alive st mid) y f (alive_on st mid y.slot f found on) (same ∙ stamp)
 
 pub told_uses : {told : Memory} {x : Edge} {slots : List ℕ} (st ts : List Standing) (m mid : Memory) → ts ≡ st
-    → Uses told x slots m mid → IsToldOn (alive st m) (alive ts mid)
-told_uses st ts m mid same u k e h =
-    let (there, on) = alive_from st m k e h in
-    let (f, found, is) = u.there k e there in
-    (f, alive_on ts mid k f found (ap (λ ss. is_alive (standing_of ss k)) same ∙ on), ap (λ (i : Info). i.stamp) is)
+    → Uses told x slots m mid → (y : Edge) → is_current (alive st m) y ≡ true → is_current (alive ts mid) y ≡ true
+told_uses st ts m mid same u y h =
+    let (e, told, stamp) = told_of (alive st m) y h in
+    let (there, on) = alive_from st m y.slot e told in
+    let (f, found, is) = u.there y.slot e there in
+    current (alive ts mid) y f (alive_on ts mid y.slot f found (ap (λ ss. is_alive (standing_of ss y.slot)) same ∙ on))
+    (ap (λ (i : Info). i.stamp) is ∙ stamp)
 
 -- by standings that are the same
 module _ (st ts : List Standing) (same : (k : ℕ) → standing_of ts k ≡ standing_of st k) (m : Memory) where
   alive_alike : alive ts m ≡ alive st m
   alive_alike n k = if is_alive (same k n) then m k else None
 
-  pub reads_stand : {L : Type 0} {x : Edge} {reads : List L} {lists later : L → List Edge} → Reads (alive ts m) x reads lists later
-      → Reads (alive st m) x reads lists later
-  reads_stand {L} {x} {reads} {lists} {later} r = subst (λ told. Reads told x reads lists later) alive_alike r
+  pub reads_stand : {L : Type 0} {x : Edge} {reads : List L} {lists later : L → List Edge} → Reads (is_current (alive ts m)) x reads lists later
+      → Reads (is_current (alive st m)) x reads lists later
+  reads_stand {L} {x} {reads} {lists} {later} r = subst (λ told. Reads (is_current told) x reads lists later) alive_alike r
 
   pub uses_stand : {x : Edge} {slots : List ℕ} {old new : Memory} → Uses (alive ts m) x slots old new → Uses (alive st m) x slots old new
   uses_stand {x} {slots} {old} {new} u = subst (λ told. Uses told x slots old new) alive_alike u

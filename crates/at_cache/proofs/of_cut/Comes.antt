@@ -7,22 +7,27 @@ use Rattle.std.proofs.lemmas.Option.{none-some, same_Some}
 use Rattle.at_model.specs.Run.{Instance, Location}
 use Rattle.at_body.specs.Same.{same_instance}
 use Rattle.at_body.specs.Sameness.{instances_equiv}
-use Rattle.at_cache.specs.declared.edge.Edge.{Edge}
+use Rattle.at_index.specs.declared.edge.Edge.{Edge}
 use Rattle.at_cache.specs.declared.entry.Entry.{Entry}
 use Rattle.at_cache.specs.declared.standing.Standing.{Standing}
 use Rattle.at_cache.specs.declared.table.Table.{Table}
 use Rattle.at_cache.specs.Info.{Info, Memory, memory_of}
-use Rattle.at_cache.specs.Kept.{Kept, Puts, covered, same_location}
-use Rattle.at_cache.specs.Putting.{AreListed, Reads, with_users}
-use Rattle.at_cache.specs.Recorded.{IsIndexed, covers, edge_to, is_listed}
+use Rattle.at_cache.specs.Kept.{Kept, Puts, covered}
+use Rattle.at_index.specs.Sameness.{same_location}
+use Rattle.at_index.specs.Linking.{AreListed, Reads}
+use Rattle.at_cache.specs.Putting.{with_users, is_current}
+use Rattle.at_cache.specs.Recorded.{IsIndexed, covers, edge_to}
+use Rattle.at_index.specs.Edges.{is_listed}
 use Rattle.at_cache.specs.Standings.{IsTied, alive, held, instances_in, is_alive, kept_held, standing_of}
 use Rattle.at_cache.proofs.of_cut.Again.{held_as, held_on, is_among, tied_there}
-use Rattle.at_cache.proofs.of_cut.Alive.{alive_on, by_holding}
-use Rattle.at_cache.proofs.Ending.{agree, any_of, any_same, far_enough, has, is_in, opened, some_of}
+use Rattle.at_cache.proofs.of_cut.Alive.{by_holding, tells_on}
+use Rattle.at_index.proofs.Lists.{agree, any_of, any_same, some_of}
+use Rattle.at_cache.proofs.Ending.{far_enough, opened}
+use Rattle.at_index.proofs.Listing.{has, is_in}
 use Rattle.at_cache.proofs.of_cut.HeldSlots.{as_kept, covers_slots, entry_in, kept_none, kept_slot, off_slot, slot_of}
 use Rattle.at_body.proofs.SamenessLemmas.{same_true}
-use Rattle.at_cache.proofs.Listing.{listed_still}
-use Rattle.at_cache.proofs.Locations.{same_location-is, same_location-itself}
+use Rattle.at_cache.proofs.Users.{listed_still}
+use Rattle.at_index.proofs.Locations.{same_location-is, same_location-itself}
 use Rattle.at_cache.proofs.of_cut.Renewed.{held_indexed, held_links, held_since}
 use Rattle.at_cache.proofs.Testing.{indexed_by}
 
@@ -96,12 +101,12 @@ module _ {lists : Location ℕ → List Edge} {m new : Memory} {st ts : List Sta
               (c.hold p other ∙ holds, omega (arith, less, b, d))
         ]
 
-    module _ {reads : List (Location ℕ)} (r : Reads (alive st m) (edge_to slot e) reads lists later)
+    module _ {reads : List (Location ℕ)} (r : Reads (is_current (alive st m)) (edge_to slot e) reads lists later)
         (listed : AreListed (edge_to slot e) reads later) where
       -- an entry that was there has the edges that it had
       pub listed_same : (k : ℕ) (g : Info) → m k ≡ Some g → is_alive (standing_of st k) ≡ true → (l : Location ℕ)
           → is_listed (edge_to k g) (later l) ≡ is_listed (edge_to k g) (lists l)
-      listed_same k g had live = listed_still r k g (alive_on st m k g had live)
+      listed_same k g had live = listed_still r k g (tells_on st m k g had live)
           (λ same. let known = tied.known k g had in let a : g.stamp ≡ e.stamp = same in let b = c.stamp in
           omega (arith, known, a, b))
 
@@ -166,7 +171,7 @@ module _ {lists : Location ℕ → List Edge} (later : Location ℕ → List Edg
     {puts slot : ℕ} {e : Info}
     (c : Comes (memory_of told) (memory_of tnew) st ts puts slot e) (tied : IsTied lists puts st (memory_of told))
     (indexed : IsIndexed lists puts (held st (memory_of told)))
-    {reads : List (Location ℕ)} (r : Reads (alive st (memory_of told)) (edge_to slot e) reads lists later)
+    {reads : List (Location ℕ)} (r : Reads (is_current (alive st (memory_of told))) (edge_to slot e) reads lists later)
     (listed : AreListed (edge_to slot e) reads later)
     (one : (g : Info) → memory_of told slot ≡ Some g → g.instance ≡ e.instance) where
   abbrev entry : Kept

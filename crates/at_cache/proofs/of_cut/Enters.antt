@@ -4,33 +4,34 @@ use Rattle.std.specs.List.{list_any}
 use Rattle.std.proofs.lemmas.Bool.{cases_eq, eq-eqb, false_from_ne_true}
 use Rattle.std.proofs.lemmas.Option.{same_Some}
 use Rattle.at_model.specs.Run.{Instance, Location, Value}
-use Rattle.at_cache.specs.declared.edge.Edge.{Edge}
+use Rattle.at_index.specs.declared.edge.Edge.{Edge}
 use Rattle.at_cache.specs.declared.keeper.Order.{Order}
 use Rattle.at_cache.specs.declared.keeper.Order.TheVariants as order
 use Rattle.at_cache.specs.declared.standing.Standing.{Standing}
 use Rattle.at_cache.specs.declared.table.Table.{Table}
 use Rattle.at_cache.specs.Info.{Info, Memory, memory_of}
 use Rattle.at_cache.specs.Kept.{AreKept, Puts}
-use Rattle.at_cache.specs.Putting.{AreListed, AreTaken, Reads, Uses, users_at, with_users}
+use Rattle.at_index.specs.Linking.{AreListed, Reads}
+use Rattle.at_cache.specs.Putting.{AreTaken, Uses, users_at, with_users, is_current}
 use Rattle.at_cache.specs.Recorded.{IsIndexed, edge_to}
 use Rattle.at_cache.specs.Renewing.{IsAnother, IsUser, PutsIn}
 use Rattle.at_cache.specs.Standings.{AreValued, IsTied, alive, held, instances_in, is_alive, kept_held, remembered, standing_of}
 use Rattle.at_cache.specs.Theirs.{AreTheirs}
 use Rattle.at_cache.specs.Traced.{IsOutdated, IsSpared, IsStill, IsTraceOf, PutsTrace, SparesOthers, Trace}
 use Rattle.at_cache.proofs.of_cut.Again.{tied_there}
-use Rattle.at_cache.proofs.of_cut.Alive.{alive_on, by_trace, was_alive}
+use Rattle.at_cache.proofs.of_cut.Alive.{by_trace, was_alive, tells_on}
 use Rattle.at_cache.proofs.of_cut.Comes.{Comes, comes_indexed, puts_comes}
 use Rattle.at_cache.proofs.of_cut.EnteredHeld.{they_are, they_hold}
-use Rattle.at_cache.proofs.Ending.{is_in}
-use Rattle.at_cache.proofs.Ending as ending
+use Rattle.at_index.proofs.Listing.{is_in}
+use Rattle.at_index.proofs.Listing as listing
 use Rattle.at_cache.proofs.of_cut.HeldSlots.{kept_slot, not_kept}
-use Rattle.at_cache.proofs.Listing.{back, users_of}
+use Rattle.at_cache.proofs.Users.{back, users_of}
 use Rattle.at_cache.proofs.of_cut.Renewed.{renewed_tied}
 use Rattle.at_cache.proofs.of_cut.Goes.{instance_among}
 use Rattle.at_cache.proofs.of_cut.Retraced.{last_slot, puts_traces, trace_is, traced_in}
 use Rattle.at_cache.proofs.of_cut.Seeing.{set_is}
 use Rattle.at_cache.proofs.of_cut.Spared.{kept_trace, last_at}
-use Rattle.at_cache.proofs.Taking.{none_in}
+use Rattle.at_index.proofs.Lists.{none_in}
 use Rattle.at_body.specs.Same.{same_instance}
 use Rattle.at_body.specs.Sameness.{instances_equiv}
 use Rattle.at_body.proofs.SamenessLemmas.{same_true}
@@ -59,7 +60,7 @@ module _ (lists later : Location ℕ → List Edge) (told tnew : Table) (mid : M
     (named : (e : Info) → memory_of told slot ≡ Some e → e.instance ≡ inst)
     (taken : AreTaken (memory_of told) links) (theirs : AreTheirs told uses links)
     (room : (k : ℕ) → standing_of one_st k ≡ standing_of zero_st k)
-    (r : Reads (alive zero_st (memory_of told)) (record { slot = slot; stamp = puts }) reads lists later)
+    (r : Reads (is_current (alive zero_st (memory_of told))) (record { slot = slot; stamp = puts }) reads lists later)
     (listed : AreListed (record { slot = slot; stamp = puts }) reads later)
     (same : slots ≡ links)
     (u0 : Uses (alive zero_st (memory_of told)) (record { slot = slot; stamp = puts }) slots (memory_of told) mid)
@@ -162,8 +163,8 @@ module _ (lists later : Location ℕ → List Edge) (told tnew : Table) (mid : M
             let live_k = by_trace (standing_of zero_st k) (fewer k g had differs on) in
             let (a, in_a, edge) = tied_there (memory_of told) k g slot (tied.used k g had live_k slot h) in
             let c = u.users.keeps slot (edge_to k g) (subst (λ es. Contains es (edge_to k g))
-            (sym (users_of (memory_of told) slot a in_a)) (is_in a.users (edge_to k g) edge)) g
-            (alive_on zero_st (memory_of told) k g had live_k) refl in
+            (sym (users_of (memory_of told) slot a in_a)) (is_in a.users (edge_to k g) edge))
+            (tells_on zero_st (memory_of told) k g had live_k) in
             let gone = lost (edge_to k g) (subst (λ es. Contains es (edge_to k g)) (users_of mid slot f found) c) n now
             (ap (λ (x : Info). x.stamp) same) in
             absurd (true≢false (sym on ∙ ap (λ (z : Standing). z.traced) (stands k differs) ∙ gone))
@@ -188,7 +189,7 @@ module _ (lists later : Location ℕ → List Edge) (told tnew : Table) (mid : M
       was_used old None none = absurd (none_in user.edge (subst (λ es. Contains es user.edge)
           (ap (λ (o : Option Info). elim o as (λ _. List Edge) [ None ↦ [] | Some e ↦ e.users ]) none) old))
       was_used old (Some a) in_a = tied.uses slot a in_a user.edge
-          (ending.has a.users user.edge (subst (λ es. Contains es user.edge) (users_of (memory_of told) slot a in_a) old)) g its
+          (listing.has a.users user.edge (subst (λ es. Contains es user.edge) (users_of (memory_of told) slot a in_a) old)) g its
           (sym (ap (λ (z : Info). z.stamp) is) ∙ user.stamp)
 
   spared_flag : (k : ℕ) (g : Info) → memory_of told k ≡ Some g → (k ≡ slot → ⊥) → (standing_of zero_st k).traced ≡ true
@@ -233,7 +234,7 @@ module _ (lists later : Location ℕ → List Edge) (told tnew : Table) (mid : M
       (instances_in (memory_of told) links) (kept_held later tnew ts (puts + 1))) p.put.0
       (subst (λ ls. Puts (kept_held lists told zero_st puts) p.entry.instance p.entry.value reads
       (instances_in (memory_of told) ls) (kept_held later tnew ts (puts + 1))) p.put.1
-      (puts_comes later told tnew comes tied indexed (subst (λ x. Reads (alive zero_st (memory_of told)) x reads lists later)
+      (puts_comes later told tnew comes tied indexed (subst (λ x. Reads (is_current (alive zero_st (memory_of told))) x reads lists later)
       edge_is r) (subst (λ x. AreListed x reads later) edge_is listed)
       (λ g had. named g had ∙ sym its_instance))))
 
@@ -246,7 +247,7 @@ module _ (lists later : Location ℕ → List Edge) (told tnew : Table) (mid : M
       (remembered lists told zero_st) (remembered later tnew ts)) p.put.0
       (subst (λ ls. PutsTrace p.entry.instance p.entry.value reads (instances_in (memory_of told) ls) o
       (remembered lists told zero_st) (remembered later tnew ts)) p.put.1
-      (puts_traces later told tnew comes tied indexed (subst (λ x. Reads (alive zero_st (memory_of told)) x reads lists later)
+      (puts_traces later told tnew comes tied indexed (subst (λ x. Reads (is_current (alive zero_st (memory_of told))) x reads lists later)
       edge_is r) (subst (λ x. AreListed x reads later) edge_is listed)
       (λ g had. named g had ∙ sym its_instance) fewer alike o
       (λ on. ordered (ap (λ (z : Standing). z.traced) (sym stands_here) ∙ on)))))

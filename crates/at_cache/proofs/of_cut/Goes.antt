@@ -6,7 +6,7 @@ use Rattle.std.specs.Option.{option_and_then}
 use Rattle.std.proofs.lemmas.Option.{same_Some}
 use Rattle.at_model.specs.Run.{Instance, Location, Value}
 use Rattle.at_body.specs.Same.{same_instance}
-use Rattle.at_cache.specs.declared.edge.Edge.{Edge}
+use Rattle.at_index.specs.declared.edge.Edge.{Edge}
 use Rattle.at_cache.specs.declared.entry.Entry.{Entry}
 use Rattle.at_cache.specs.declared.settling.Counts.{Counts}
 use Rattle.at_cache.specs.declared.standing.Standing.{Standing}
@@ -20,17 +20,16 @@ use Rattle.at_cache.specs.Standings.{IsTied, instances_in, is_alive, kept_held, 
 use Rattle.at_cache.specs.Theirs.{HasSlot}
 use Rattle.at_cache.specs.Traced.{AreAlike, AreAllKept, Memories, Settled, StayTraced, Trace, itself}
 use Rattle.at_cache.proofs.of_cut.Behind.{KeepsOn, all_kept_on, settles_below, settles_itself, settles_none, settles_on, settles_then}
-use Rattle.at_cache.proofs.Dooming.{head_of}
-use Rattle.std.proofs.lemmas.Bool.{cases_eq, eq-eqb, eqb-true, false_from_ne_true}
+use Rattle.at_index.proofs.Lists.{head_of, none_in}
+use Rattle.std.proofs.lemmas.Bool.{cases_eq, eq-eqb, eqb-true, false_from_ne_true, or_cases}
 use Rattle.std.proofs.lemmas.List.{take_more}
 use Rattle.std.proofs.lemmas.List.Elements.{Contains-append_cases, Contains-append_left, Contains-append_right, Contains-get_or}
-use Rattle.at_cache.proofs.Listing.{from_kept}
+use Rattle.at_cache.proofs.Users.{from_kept}
 use Rattle.at_cache.specs.Putting.{AreTaken}
-use Rattle.at_cache.specs.Recorded.{IsIndexed, edge_to, is_listed}
+use Rattle.at_cache.specs.Recorded.{IsIndexed, edge_to}
+use Rattle.at_index.specs.Edges.{is_listed}
 use Rattle.at_cache.proofs.of_cut.Again.{again, again_indexed, is_among, tied_there}
 use Rattle.at_cache.proofs.of_cut.Alive.{by_trace, tied_on}
-use Rattle.at_cache.proofs.Ending.{either}
-use Rattle.at_cache.proofs.Taking.{none_in}
 use Rattle.slab.proofs.SlabLemmas.{Contains-cons_cases}
 use Rattle.at_cache.proofs.of_cut.HeldSlots.{entry_in, holds_slot, kept_slot, off_slot, puts_again, slot_of}
 
@@ -165,7 +164,7 @@ module _ (lists : Location ℕ → List Edge) (t : Table) where
   pub instance_among : (ps : List ℕ) (p : ℕ) (f : Info) → memory_of t p ≡ Some f → list_any (nat_eq p) ps ≡ true
       → Contains (instances_in (memory_of t) ps) f.instance
   instance_among [] p f in_p h = absurd (true≢false (sym h))
-  instance_among (q ∷ qs) p f in_p h = elim (either (nat_eq p q) (list_any (nat_eq p) qs) h) [
+  instance_among (q ∷ qs) p f in_p h = elim (or_cases (nat_eq p q) (list_any (nat_eq p) qs) h) [
     | inl same ↦
         Contains-append_left _ (instances_in (memory_of t) qs) f.instance
         (subst (λ (o : Option Info). Contains (elim o as (λ _. List (Instance ℕ))

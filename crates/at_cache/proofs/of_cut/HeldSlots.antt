@@ -8,17 +8,18 @@ use Rattle.at_model.specs.Run.{Instance, Location, Value}
 use Rattle.at_body.specs.Same.{same_instance}
 use Rattle.at_body.specs.Sameness.{instances_equiv}
 use Rattle.at_body.specs.Values.{value_view}
-use Rattle.at_cache.specs.declared.edge.Edge.{Edge}
+use Rattle.at_index.specs.declared.edge.Edge.{Edge}
 use Rattle.at_cache.specs.declared.entry.Entry.{Entry}
 use Rattle.at_cache.specs.declared.standing.Standing.{Standing}
 use Rattle.at_cache.specs.declared.table.Table.{Table}
 use Rattle.at_cache.specs.Info.{Info, Memory, info, memory_of}
 use Rattle.at_cache.specs.Kept.{Kept, PutsBy, covered_by, covers_at, value_at}
-use Rattle.at_cache.specs.Recorded.{IsIndexed, covers, edge_to, is_listed}
+use Rattle.at_cache.specs.Recorded.{IsIndexed, covers, edge_to}
+use Rattle.at_index.specs.Edges.{is_listed}
 use Rattle.at_cache.specs.Standings.{IsTied, held, held_of, instances_in, kept_held, standing_of}
 use Rattle.at_cache.proofs.of_cut.Again.{again, covers_it, covers_still, held_as, held_on, is_among}
-use Rattle.at_cache.proofs.Dooming.{head_of}
-use Rattle.at_cache.proofs.Ending.{on_right}
+use Rattle.at_index.proofs.Lists.{head_of}
+use Rattle.std.proofs.lemmas.Bool.{or_right}
 use Rattle.at_body.proofs.SamenessLemmas.{same_true}
 use Rattle.at_cache.proofs.Moving.{at_none, at_some, table_by}
 use Rattle.at_cache.proofs.Shown.{entry_at, first_at, slot_taken}
@@ -132,7 +133,7 @@ module _ (lists : Location ℕ → List Edge) (t : Table) (st : List Standing) (
       on_head p ps = is_among (p ∷ ps) p (head_of p ps)
 
       on_tail : (p : ℕ) (ps : List ℕ) (q : ℕ) → list_any (nat_eq q) ps ≡ true → list_any (nat_eq q) (p ∷ ps) ≡ true
-      on_tail p ps q h = on_right (nat_eq q p) (list_any (nat_eq q) ps) h
+      on_tail p ps q h = or_right (nat_eq q p) (list_any (nat_eq q) ps) h
 
 module _ (lists : Location ℕ → List Edge) (t : Table) (old new : List Standing) (puts s : ℕ) (e : Info)
     (there : memory_of t s ≡ Some e)

@@ -11,7 +11,7 @@ use Rattle.slab.specs.Slab.{get}
 use Rattle.at_model.specs.Run.{Instance, Location, Value}
 use Rattle.at_body.specs.Same.{same_instance}
 use Rattle.at_body.specs.Values.{value_view}
-use Rattle.at_cache.specs.declared.edge.Edge.{Edge}
+use Rattle.at_index.specs.declared.edge.Edge.{Edge}
 use Rattle.at_cache.specs.declared.entry.Entry.{Entry}
 use Rattle.at_cache.specs.declared.standing.Standing.{Standing}
 use Rattle.at_cache.specs.declared.table.Table.{Table}
@@ -23,10 +23,9 @@ use Rattle.at_cache.specs.Standings.{AreValued, IsTied, instances_in, kept_held,
 use Rattle.at_cache.specs.Traced.{AreAllKept, IsNext, below, itself}
 use Rattle.at_cache.proofs.of_cut.Again.{is_among, tied_there}
 use Rattle.at_cache.proofs.of_cut.Alive.{by_trace}
-use Rattle.at_cache.proofs.Dooming.{head_of}
+use Rattle.at_index.proofs.Lists.{head_of, none_in}
 use Rattle.at_cache.proofs.of_cut.Goes.{before_place, has_shown, instances_at, trace_slot, value_kept}
 use Rattle.at_cache.proofs.of_cut.HeldSlots.{slot_of}
-use Rattle.at_cache.proofs.Taking.{none_in}
 
 -- the value of an entry that has one
 has_value : (e : Info) → is_some e.value ≡ true → (v : Value ℕ) × (e.value ≡ Some v)

@@ -6,14 +6,15 @@ use Rattle.at_model.specs.Run.{Instance, Location, Value}
 use Rattle.at_body.specs.Same.{same_instance}
 use Rattle.at_body.specs.Values.{value_view}
 use Rattle.at_cache.specs.declared.cut.Cut.{Cut}
-use Rattle.at_cache.specs.declared.edge.Edge.{Edge}
+use Rattle.at_index.specs.declared.edge.Edge.{Edge}
 use Rattle.at_cache.specs.declared.entry.Entry.{Entry}
 use Rattle.at_cache.specs.declared.keeper.Order.{Order}
 use Rattle.at_cache.specs.declared.standing.Standing.{Standing}
 use Rattle.at_cache.specs.declared.table.Table.{Table}
 use Rattle.at_cache.specs.Info.{Info, Memory, memory_of}
 use Rattle.at_cache.specs.Kept.{Entries, Kept, KeepsAll, Puts}
-use Rattle.at_cache.specs.Putting.{Reads, Uses}
+use Rattle.at_index.specs.Linking.{Reads}
+use Rattle.at_cache.specs.Putting.{Uses, is_current}
 use Rattle.at_cache.specs.Recorded.{IsIndexed, covers}
 use Rattle.at_cache.specs.Renewing.{EntersHeld}
 use Rattle.at_cache.specs.Shedding.{kept_cut}
@@ -21,7 +22,8 @@ use Rattle.at_cache.specs.Standings.{AreValued, IsTied, alive, held, is_alive, k
 use Rattle.at_cache.specs.Traced.{KeepsTrace, SparesOthers, StayTraced}
 use Rattle.at_cache.proofs.of_cut.Alive.{tied_on}
 use Rattle.at_cache.proofs.of_cut.Lifting.{kept_still, stale_held}
-use Rattle.at_cache.proofs.Listing.{back, reads_none, uses_none}
+use Rattle.at_cache.proofs.Users.{back, uses_none}
+use Rattle.at_index.proofs.Listing.{reads_none}
 use Rattle.at_cache.proofs.of_cut.Retraced.{stale_traces, trace_is, traced_in}
 use Rattle.at_cache.proofs.of_cut.Spared.{kept_trace, last_at}
 use Rattle.at_cache.proofs.of_cut.Tying.{tied_still}
@@ -62,7 +64,7 @@ module _ (lists later : Location ℕ → List Edge) (told tnew : Table)
     (i : IsIndexed lists puts (held st (memory_of told))) (t : IsTied lists puts st (memory_of told)) (v : AreValued st
     (memory_of told)) (stamp : x.stamp ≡ puts)
     (same : (k : ℕ) → standing_of ts k ≡ standing_of st k)
-    (r : Reads (alive st (memory_of told)) x reads lists later)
+    (r : Reads (is_current (alive st (memory_of told))) x reads lists later)
     (u : Uses (alive st (memory_of told)) x links (memory_of told) (memory_of tnew)) where
   trace_left : (j : Instance ℕ) → KeepsTrace j (remembered lists told st) (remembered later tnew ts)
   trace_left j trace traced =

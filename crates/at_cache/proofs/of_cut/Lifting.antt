@@ -3,12 +3,14 @@ use Rattle.std.proofs.Common.{◌≡◌, inl, inr, ℕ, ◌+◌, List, [], true,
 use Rattle.std.specs.Option.{option_and_then}
 use Rattle.std.proofs.lemmas.Option.{none-some}
 use Rattle.at_model.specs.Run.{Location}
-use Rattle.at_cache.specs.declared.edge.Edge.{Edge}
+use Rattle.at_index.specs.declared.edge.Edge.{Edge}
+use Rattle.at_cache.proofs.Users.{current, told_of}
 use Rattle.at_cache.specs.declared.standing.Standing.{Standing}
 use Rattle.at_cache.specs.declared.table.Table.{Table}
 use Rattle.at_cache.specs.Info.{Info, Memory, memory_of}
 use Rattle.at_cache.specs.Kept.{KeepsAll}
-use Rattle.at_cache.specs.Putting.{Reads, Uses, users_at, with_users}
+use Rattle.at_index.specs.Linking.{Reads}
+use Rattle.at_cache.specs.Putting.{Uses, users_at, with_users, is_current}
 use Rattle.at_cache.specs.Recorded.{IsIndexed}
 use Rattle.at_cache.specs.Standings.{alive, held, kept_held, shown, standing_of}
 use Rattle.at_cache.proofs.Entered.{kept_mid, stale_indexed}
@@ -17,7 +19,7 @@ use Rattle.at_cache.proofs.of_cut.Alive.{alive_on, by_holding}
 use Rattle.at_cache.proofs.of_cut.Flushed.{shown_held}
 use Rattle.at_cache.proofs.of_cut.Passing.{not_shown}
 use Rattle.at_cache.proofs.Showing.{same_of}
-use Rattle.at_cache.proofs.Taking.{none_in}
+use Rattle.at_index.proofs.Lists.{none_in}
 use Rattle.at_cache.proofs.Testing.{indexed_by, tested}
 
 module _ (ss : List Standing) where
@@ -37,14 +39,15 @@ module _ (ss : List Standing) where
       by None none = absurd (none_in y (subst (λ (es : List Edge). Contains es y) (ap (λ (o : Option Info). elim o as (λ _. List Edge) [ None ↦ [] | Some e ↦ e.users ]) none) c))
       by (Some e) there = (e, there)
 
+  tells_held : (m : Memory) (y : Edge) → is_current (held ss m) y ≡ true → is_current (alive ss m) y ≡ true
+  tells_held m y live =
+      let (e, there, same) = told_of (held ss m) y live in
+      let (f, found, on, is) = held_from ss m y.slot e there in
+      current (alive ss m) y f (alive_on ss m y.slot f found (by_holding (standing_of ss y.slot) on)) (ap (λ (z : Info). z.stamp) is ∙ same)
+
   module _ (m : Memory) {x : Edge} where
-    pub reads_held : {reads : List (Location ℕ)} {lists later : Location ℕ → List Edge} → Reads (alive ss m) x reads lists later → Reads (held ss m) x reads lists later
-    reads_held r = record {
-      keeps = λ l y c e there same.
-          let (f, found, on, is) = held_from ss m y.slot e there in
-          r.keeps l y c f (alive_on ss m y.slot f found (by_holding (standing_of ss y.slot) on)) (ap (λ (z : Info). z.stamp) is ∙ same);
-      only = r.only;
-    }
+    pub reads_held : {reads : List (Location ℕ)} {lists later : Location ℕ → List Edge} → Reads (is_current (alive ss m)) x reads lists later → Reads (is_current (held ss m)) x reads lists later
+    reads_held r = record { keeps = λ l y c live. r.keeps l y c (tells_held m y live); only = r.only }
 
   module _ {m n : Memory} {x : Edge} where
     pub uses_held : {slots : List ℕ} → Uses (alive ss m) x slots m n → Uses (held ss m) x slots (held ss m) (held ss n)
@@ -52,14 +55,12 @@ module _ (ss : List Standing) where
       there = λ k e h. let (f, found, on, is) = held_from ss m k e h in come k e f found on is;
       free = λ k none. free k none (m k) refl;
       users = record {
-        keeps = λ l y c e there same.
+        keeps = λ l y c live.
             let (p, p_there) = has_users m l y c in
-            let (f, found, on, is) = held_from ss m y.slot e there in
             let (g, g_found, g_on, g_is) = held_from ss m l p p_there in
             let (q, q_there, alike) = come l p g g_found g_on g_is in
             subst (λ (es : List Edge). Contains es y) (sym (held_users n l q q_there)) (u.users.keeps l y
-            (subst (λ (es : List Edge). Contains es y) (held_users m l p p_there) c) f (alive_on ss m y.slot f found (by_holding (standing_of ss y.slot) on))
-            (ap (λ (z : Info). z.stamp) is ∙ same));
+            (subst (λ (es : List Edge). Contains es y) (held_users m l p p_there) c) (tells_held m y live));
         only = λ l y c.
             let (q, q_there) = has_users n l y c in
             elim (u.users.only l y (subst (λ (es : List Edge). Contains es y) (held_users n l q q_there) c)) [
@@ -88,7 +89,7 @@ module _ (ss : List Standing) where
 
 -- Where the entry doesn't come all is kept as it was.
 module _ (ss : List Standing) (old mid : Table) (lists later : Location ℕ → List Edge) (puts : ℕ) (x : Edge) (reads : List (Location ℕ)) (links : List ℕ)
-    (i : IsIndexed lists puts (held ss (memory_of old))) (stamp : x.stamp ≡ puts) (r : Reads (alive ss (memory_of old)) x reads lists later)
+    (i : IsIndexed lists puts (held ss (memory_of old))) (stamp : x.stamp ≡ puts) (r : Reads (is_current (alive ss (memory_of old))) x reads lists later)
     (u : Uses (alive ss (memory_of old)) x links (memory_of old) (memory_of mid)) where
   pub stale_held : IsIndexed later (puts + 1) (held ss (memory_of mid))
   stale_held = tested (stale_indexed later (indexed_by i) stamp (reads_held ss (memory_of old) r) (uses_held ss u))

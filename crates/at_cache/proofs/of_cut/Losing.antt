@@ -6,7 +6,7 @@ use Rattle.std.proofs.lemmas.Option.{none-some, same_Some}
 use Rattle.at_model.specs.Run.{Instance, Value}
 use Rattle.at_cache.specs.declared.cut.Cut.{Cut}
 use Rattle.at_cache.specs.declared.cut.Loss.TheVariants as loss
-use Rattle.at_cache.specs.declared.edge.Edge.{Edge}
+use Rattle.at_index.specs.declared.edge.Edge.{Edge}
 use Rattle.at_body.specs.Same.{same_instance}
 use Rattle.at_cache.specs.declared.entry.Entry.{Entry}
 use Rattle.at_cache.specs.declared.table.Table.{Table}
@@ -19,7 +19,8 @@ use Rattle.at_cache.specs.Renewing.{Compares, IsAnother, IsSlotFor, PutsIn}
 use Rattle.at_cache.specs.Slots.{renewed}
 use Rattle.at_cache.proofs.of_cut.Passing.{entries_after, entries_aside, held_idle, quiet_aside}
 use Rattle.at_cache.proofs.Shown.{slot_there}
-use Rattle.at_cache.proofs.Taking.{begun, none_in}
+use Rattle.at_cache.proofs.Taking.{begun}
+use Rattle.at_index.proofs.Lists.{none_in}
 
 -- nothing is reached from no edge
 none_reached : {old : Memory} {k : ℕ} → Reached old [] k → ⊥

@@ -11,7 +11,7 @@ use Rattle.at_cache.specs.Info.{memory_of}
 use Rattle.at_cache.specs.Putting.{AreTaken}
 use Rattle.at_cache.specs.Standings.{instances_in}
 use Rattle.at_cache.specs.Theirs.{AreTheirs}
-use Rattle.at_cache.proofs.Dooming.{head_of}
+use Rattle.at_index.proofs.Lists.{head_of}
 use Rattle.at_cache.proofs.Shown.{slot_there}
 use Rattle.at_cache.proofs.of_cut.Goes.{instances_at}
 use Rattle.at_cache.proofs.of_cut.HeldSlots.{slot_of}

@@ -7,14 +7,15 @@ use Rattle.std.proofs.lemmas.Bool.{cases_eq, eq-eqb, ne_eqb}
 use Rattle.std.proofs.lemmas.Option.{none-some, same_Some}
 use Rattle.at_model.specs.Run.{Instance, Location, Value}
 use Rattle.at_body.specs.Same.{same_instance}
-use Rattle.at_cache.specs.declared.edge.Edge.{Edge}
+use Rattle.at_index.specs.declared.edge.Edge.{Edge}
 use Rattle.at_cache.specs.declared.entry.Entry.{Entry}
 use Rattle.at_cache.specs.declared.keeper.Order.{Order}
 use Rattle.at_cache.specs.declared.standing.Standing.{Standing}
 use Rattle.at_cache.specs.declared.table.Table.{Table}
 use Rattle.at_cache.specs.Info.{Info, memory_of}
 use Rattle.at_cache.specs.Kept.{KeepsAll}
-use Rattle.at_cache.specs.Recorded.{IsIndexed, edge_to, is_listed}
+use Rattle.at_cache.specs.Recorded.{IsIndexed, edge_to}
+use Rattle.at_index.specs.Edges.{is_listed}
 use Rattle.at_cache.specs.Renewing.{IsAwaited, IsSlotFor, StaysAwaited}
 use Rattle.at_cache.specs.Slots.{outdated}
 use Rattle.at_cache.specs.Standings.{IsChanged, IsTied, held, instances_in, is_alive, is_tied, kept_held, remembered, shown, standing_of, trace_of, untraced}

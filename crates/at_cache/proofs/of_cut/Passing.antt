@@ -10,7 +10,7 @@ use Rattle.at_model.specs.Run.{Location}
 use Rattle.at_cache.specs.declared.cut.Cut.{Cut}
 use Rattle.at_cache.specs.declared.cut.Loss.{Loss}
 use Rattle.at_cache.specs.declared.cut.Loss.TheVariants as loss
-use Rattle.at_cache.specs.declared.edge.Edge.{Edge}
+use Rattle.at_index.specs.declared.edge.Edge.{Edge}
 use Rattle.at_cache.specs.declared.mark.Mark.{Mark}
 use Rattle.at_cache.specs.declared.standing.Standing.{Standing}
 use Rattle.at_cache.specs.declared.table.Table.{Table}
@@ -20,10 +20,11 @@ use Rattle.at_cache.specs.Marking.{Aside, GoesOver, HasMark, IsQuiet, Passes, Ta
 use Rattle.at_cache.specs.Putting.{is_current, reused, users_at, with_users}
 use Rattle.at_cache.specs.Standings.{IsChanged, held, held_among, shape, shown, standing_of, unheld, untraced}
 use Rattle.at_cache.proofs.Ending.{none_goes}
-use Rattle.at_cache.proofs.Dooming.{dooming, head_of}
+use Rattle.at_cache.proofs.Dooming.{dooming}
+use Rattle.at_index.proofs.Lists.{head_of, none_in}
 use Rattle.at_cache.proofs.of_cut.Again.{held_from, held_off, held_on}
 use Rattle.at_cache.proofs.of_cut.Resting.{resting}
-use Rattle.at_cache.proofs.Taking.{begun, more, none_in, taken}
+use Rattle.at_cache.proofs.Taking.{begun, more, taken}
 
 twice : (o : Option Info) → option_map unmarked (option_map unmarked o) ≡ option_map unmarked o
 twice None = refl

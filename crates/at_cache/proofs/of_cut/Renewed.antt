@@ -4,17 +4,19 @@ use Rattle.std.specs.List.{list_any}
 use Rattle.std.proofs.lemmas.Bool.{cases_eq}
 use Rattle.std.proofs.lemmas.Option.{same_Some}
 use Rattle.at_model.specs.Run.{Location}
-use Rattle.at_cache.specs.declared.edge.Edge.{Edge}
+use Rattle.at_index.specs.declared.edge.Edge.{Edge}
 use Rattle.at_cache.specs.declared.standing.Standing.{Standing}
 use Rattle.at_cache.specs.Info.{Info, Memory}
-use Rattle.at_cache.specs.Putting.{AreListed, Reads, Uses, users_at, with_users}
-use Rattle.at_cache.specs.Recorded.{IsIndexed, edge_to, is_listed, is_used}
+use Rattle.at_index.specs.Linking.{AreListed, Reads}
+use Rattle.at_cache.specs.Putting.{Uses, users_at, with_users, is_current}
+use Rattle.at_cache.specs.Recorded.{IsIndexed, edge_to, is_used}
+use Rattle.at_index.specs.Edges.{is_listed}
 use Rattle.at_cache.specs.Standings.{IsTied, alive, held, is_alive, is_tied, standing_of}
 use Rattle.at_cache.proofs.of_cut.Again.{held_as, held_from, held_on, is_among, there_used, tied_there, used_there}
-use Rattle.at_cache.proofs.of_cut.Alive.{alive_on, by_holding}
-use Rattle.at_cache.proofs.Ending.{has, is_in, some_of}
-use Rattle.at_cache.proofs.Listing.{back, users_of}
-use Rattle.at_cache.proofs.Taking.{none_in}
+use Rattle.at_cache.proofs.of_cut.Alive.{by_holding, tells_on}
+use Rattle.at_index.proofs.Listing.{has, is_in}
+use Rattle.at_index.proofs.Lists.{some_of, none_in}
+use Rattle.at_cache.proofs.Users.{back, users_of}
 
 -- what the test finds is among them
 pub among_is : (ps : List ℕ) (p : ℕ) → list_any (nat_eq p) ps ≡ true → Contains ps p
@@ -78,7 +80,7 @@ module _ (lists : Location ℕ → List Edge) (puts : ℕ) (m : Memory) (st : Li
 -- edges of an entry that isn't there yet
 module _ {lists : Location ℕ → List Edge} {puts : ℕ} {st : List Standing} {m mid : Memory} {x : Edge} {reads : List (Location ℕ)}
     {uses : List ℕ} (later : Location ℕ → List Edge)
-    (tied : IsTied lists puts st m) (stamp : x.stamp ≡ puts) (r : Reads (alive st m) x reads lists later)
+    (tied : IsTied lists puts st m) (stamp : x.stamp ≡ puts) (r : Reads (is_current (alive st m)) x reads lists later)
     (u : Uses (alive st m) x uses m mid)
   where
     -- with the entry
@@ -172,7 +174,7 @@ module _ {lists : Location ℕ → List Edge} {puts : ℕ} {st : List Standing} 
               let (a, in_p, edge) = tied_there m k g p (tied.used k g there live p
               (ap (λ (n : Info). list_any (nat_eq p) n.links) (sym is) ∙ h)) in
               let c = u.users.keeps p (edge_to k g) (subst (λ es. Contains es (edge_to k g)) (sym (users_of m p a in_p))
-              (is_in a.users (edge_to k g) edge)) g (alive_on st m k g there live) refl in
+              (is_in a.users (edge_to k g) edge)) (tells_on st m k g there live) in
               let it : edge_to k g ≡ edge_to k f = λ n. record {
                 slot = k;
                 stamp = (ap (λ (i : Info). i.stamp) (sym is))

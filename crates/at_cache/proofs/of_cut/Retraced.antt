@@ -3,30 +3,31 @@ use Rattle.std.proofs.Common.{◌≡◌, inl, inr, [], ◌++◌, ◌∷◌, ◌|
 use Rattle.std.specs.List.{list_any}
 use Rattle.std.specs.Map.{lookup}
 use Rattle.std.specs.Option.{option_and_then}
-use Rattle.std.proofs.lemmas.Bool.{cases_eq, eq-eqb}
+use Rattle.std.proofs.lemmas.Bool.{cases_eq, eq-eqb, or_right}
 use Rattle.std.proofs.lemmas.List.Elements.{Contains-append_cases}
 use Rattle.std.proofs.lemmas.Option.{none-some, same_Some}
 use Rattle.slab.proofs.SlabLemmas.{Contains-cons_cases}
 use Rattle.at_model.specs.Run.{Instance, Location, Value}
 use Rattle.at_body.specs.Same.{same_instance}
-use Rattle.at_cache.specs.declared.edge.Edge.{Edge}
+use Rattle.at_index.specs.declared.edge.Edge.{Edge}
 use Rattle.at_cache.specs.declared.entry.Entry.{Entry}
 use Rattle.at_cache.specs.declared.keeper.Order.{Order}
 use Rattle.at_cache.specs.declared.keeper.Order.TheVariants as order
 use Rattle.at_cache.specs.declared.standing.Standing.{Standing}
 use Rattle.at_cache.specs.declared.table.Table.{Table}
 use Rattle.at_cache.specs.Info.{Info, Memory, memory_of}
-use Rattle.at_cache.specs.Putting.{AreListed, Reads, with_users}
-use Rattle.at_cache.specs.Recorded.{IsIndexed, edge_to, is_listed}
+use Rattle.at_index.specs.Linking.{AreListed, Reads}
+use Rattle.at_cache.specs.Putting.{with_users, is_current}
+use Rattle.at_cache.specs.Recorded.{IsIndexed, edge_to}
+use Rattle.at_index.specs.Edges.{is_listed}
 use Rattle.at_cache.specs.Standings.{IsTied, alive, held, instances_in, is_alive, last_of, remembered, standing_of, trace_at, trace_of}
 use Rattle.at_cache.specs.Traced.{IsStill, IsTraceOf, PutsTrace, StayTraced, Trace}
 use Rattle.at_cache.proofs.of_cut.Again.{tied_there}
-use Rattle.at_cache.proofs.of_cut.Alive.{alive_on, by_trace}
+use Rattle.at_cache.proofs.of_cut.Alive.{by_trace, tells_on}
 use Rattle.at_cache.proofs.of_cut.Comes.{Comes, listed_it, listed_same}
-use Rattle.at_cache.proofs.Listing.{listed_still}
-use Rattle.at_cache.proofs.Ending.{on_right}
+use Rattle.at_cache.proofs.Users.{listed_still}
 use Rattle.at_cache.proofs.of_cut.HeldSlots.{entry_in, slot_of}
-use Rattle.at_cache.proofs.Taking.{none_in}
+use Rattle.at_index.proofs.Lists.{none_in}
 
 abbrev pub traced_of : (lists : Location ℕ → List Edge) → Memory → (slot : ℕ) → Bool → Info → Option Trace
 traced_of lists m s b e = if b then option_map (trace_of lists m s e) e.value else None
@@ -85,7 +86,7 @@ slot_among m [] u c = absurd (none_in u c)
 slot_among m (q ∷ qs) u c = elim (Contains-append_cases (names (m q)) (instances_in m qs) u c) [
   | inl here ↦ by (m q) refl here
   | inr rest ↦ let (p, f, h, is, its) = slot_among m qs u rest in
-      (p, f, on_right (nat_eq p q) (list_any (nat_eq p) qs) h, is, its)
+      (p, f, or_right (nat_eq p q) (list_any (nat_eq p) qs) h, is, its)
 ]
   where
     by : (o : Option Info) → m q ≡ o → Contains (names o) u → (p : ℕ) × (f : Info)
@@ -100,7 +101,7 @@ module _ {lists : Location ℕ → List Edge} (later : Location ℕ → List Edg
     {puts slot : ℕ} {e : Info}
     (c : Comes (memory_of told) (memory_of tnew) st ts puts slot e) (tied : IsTied lists puts st (memory_of told))
     (indexed : IsIndexed lists puts (held st (memory_of told)))
-    {reads : List (Location ℕ)} (r : Reads (alive st (memory_of told)) (edge_to slot e) reads lists later)
+    {reads : List (Location ℕ)} (r : Reads (is_current (alive st (memory_of told))) (edge_to slot e) reads lists later)
     (listed : AreListed (edge_to slot e) reads later)
     (one : (g : Info) → memory_of told slot ≡ Some g → g.instance ≡ e.instance)
     (fewer : (k : ℕ) (g : Info) → memory_of told k ≡ Some g → (k ≡ slot → ⊥) → (standing_of ts k).traced ≡ true
@@ -117,7 +118,7 @@ module _ {lists : Location ℕ → List Edge} (later : Location ℕ → List Edg
       let (f, in_p) = there p (ap (λ b. b || list_any (nat_eq p) ps) (eq-eqb p p refl)) in
       ap (λ us. us ++ instances_in (memory_of tnew) ps) (at_p f in_p)
       ∙ ap (λ us. names (memory_of told p) ++ us) (instances_same ps
-      (λ q h. there q (on_right (nat_eq q p) (list_any (nat_eq q) ps) h)))
+      (λ q h. there q (or_right (nat_eq q p) (list_any (nat_eq q) ps) h)))
     where
       at_p : (f : Info) → memory_of told p ≡ Some f → names (memory_of tnew p) ≡ names (memory_of told p)
       at_p f in_p = elim (cases_eq p slot) [
@@ -215,7 +216,7 @@ module _ {lists : Location ℕ → List Edge} (later : Location ℕ → List Edg
 -- where no entry comes, but edges of it
 module _ (lists later : Location ℕ → List Edge) (told tmid : Table) (st ts : List Standing) {puts : ℕ} {x : Edge}
     {reads : List (Location ℕ)} (tied : IsTied lists puts st (memory_of told)) (stamp : x.stamp ≡ puts)
-    (r : Reads (alive st (memory_of told)) x reads lists later)
+    (r : Reads (is_current (alive st (memory_of told))) x reads lists later)
     (stays : (k : ℕ) (g : Info) → memory_of told k ≡ Some g
     → (f : Info) × (memory_of tmid k ≡ Some f) × (f ≡ with_users f.users g))
     (was : (k : ℕ) (f : Info) → memory_of tmid k ≡ Some f
@@ -223,7 +224,7 @@ module _ (lists later : Location ℕ → List Edge) (told tmid : Table) (st ts :
     (same : (k : ℕ) → (standing_of ts k).traced ≡ (standing_of st k).traced) where
   still_listed : (k : ℕ) (g : Info) → memory_of told k ≡ Some g → is_alive (standing_of st k) ≡ true → (l : Location ℕ)
       → is_listed (edge_to k g) (later l) ≡ is_listed (edge_to k g) (lists l)
-  still_listed k g had live = listed_still r k g (alive_on st (memory_of told) k g had live)
+  still_listed k g had live = listed_still r k g (tells_on st (memory_of told) k g had live)
       (λ same. let known = tied.known k g had in omega (arith, known, same, stamp))
 
   still_named : (ps : List ℕ) → ((p : ℕ) → list_any (nat_eq p) ps ≡ true → (f : Info) × (memory_of told p ≡ Some f))
@@ -235,7 +236,7 @@ module _ (lists later : Location ℕ → List Edge) (told tmid : Table) (st ts :
       ap (λ us. us ++ instances_in (memory_of tmid) ps)
       (ap names now ∙ ap (λ (n : Info). n.instance ∷ []) is ∙ ap names (sym in_p))
       ∙ ap (λ us. names (memory_of told p) ++ us)
-      (still_named ps (λ q h. there q (on_right (nat_eq q p) (list_any (nat_eq q) ps) h)))
+      (still_named ps (λ q h. there q (or_right (nat_eq q p) (list_any (nat_eq q) ps) h)))
 
   still_last : (k : ℕ) (g : Info) → memory_of told k ≡ Some g
       → (remembered later tmid ts).last g.instance ≡ (remembered lists told st).last g.instance

@@ -3,21 +3,21 @@ use Rattle.std.proofs.Common.{◌≡◌, inl, inr, ℕ, zero, suc, ◌<◌, ◌�
 use Rattle.std.specs.List.{list_any}
 use Rattle.slab.specs.Slab.{get}
 use Rattle.std.specs.Option.{option_and_then}
-use Rattle.std.proofs.lemmas.Bool.{cases_eq, cases_lt, eq-eqb, ne_eqb}
+use Rattle.std.proofs.lemmas.Bool.{cases_eq, cases_lt, eq-eqb, ne_eqb, or_right}
 use Rattle.std.proofs.lemmas.Option.{none-some}
 use Rattle.at_model.specs.Run.{Instance, Location}
 use Rattle.at_cache.specs.declared.cut.Cut.{Cut}
-use Rattle.at_cache.specs.declared.edge.Edge.{Edge}
+use Rattle.at_index.specs.declared.edge.Edge.{Edge}
 use Rattle.at_cache.specs.declared.standing.Standing.{Standing}
 use Rattle.at_cache.specs.declared.table.Table.{Table}
 use Rattle.at_cache.specs.Info.{Info, Memory, info, memory_of}
 use Rattle.at_cache.specs.Kept.{KeepsAll}
-use Rattle.at_cache.specs.Recorded.{IsIndexed, edge_to, is_listed}
+use Rattle.at_cache.specs.Recorded.{IsIndexed, edge_to}
+use Rattle.at_index.specs.Edges.{is_listed}
 use Rattle.at_cache.specs.Shedding.{AreHeld, LosesTraces, Sheds, ShedsAt, Shrinks}
 use Rattle.at_cache.specs.Standings.{AreValued, IsChanged, IsTied, held, instances_in, is_tied, kept_held, nothing, remembered, shown, standing_of, trace_of, untraced}
 use Rattle.at_cache.specs.Traced.{FlushesTraces, IsStill, Memories, StayTraced, Trace}
 use Rattle.at_cache.proofs.Came.{none_by}
-use Rattle.at_cache.proofs.Ending.{on_right}
 use Rattle.at_cache.proofs.Index.{kept_at}
 use Rattle.at_cache.proofs.Moving.{at_none}
 use Rattle.at_cache.proofs.Showing.{same_of}
@@ -149,7 +149,7 @@ module _ (lists : Location ℕ → List Edge) (t u : Table) (st : List Standing)
     instances_same [] on = refl
     instances_same (p ∷ ps) on =
         ap (λ us. us ++ instances_in (memory_of t) ps) (ap names (sym (s.stays p (on p (ap (λ b. b || list_any (nat_eq p) ps) (eq-eqb p p refl))))))
-        ∙ ap (λ us. names (memory_of u p) ++ us) (instances_same ps (λ q h. on q (on_right (nat_eq q p) (list_any (nat_eq q) ps) h)))
+        ∙ ap (λ us. names (memory_of u p) ++ us) (instances_same ps (λ q h. on q (or_right (nat_eq q p) (list_any (nat_eq q) ps) h)))
 
     same_last : (k : ℕ) (f : Info) → memory_of u k ≡ Some f → (remembered lists u st).last f.instance ≡ (remembered lists t st).last f.instance
     same_last k f there = last_slot lists u st k f there ∙ sym (last_slot lists t st k f (sym (s.stays k (s.only k f there)) ∙ there))

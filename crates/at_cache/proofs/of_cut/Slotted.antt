@@ -9,8 +9,8 @@ use Rattle.at_body.proofs.SamenessLemmas.{same_true}
 use Rattle.at_cache.specs.declared.entry.Entry.{Entry}
 use Rattle.at_cache.specs.declared.standing.Standing.{Standing}
 use Rattle.at_cache.specs.declared.table.Table.{Table}
-use Rattle.at_cache.specs.declared.edge.Edge.{Edge}
-use Rattle.at_cache.specs.Edges.{edges_in}
+use Rattle.at_index.specs.declared.edge.Edge.{Edge}
+use Rattle.at_index.specs.Edges.{edges_in}
 use Rattle.at_cache.specs.Info.{Info, info, memory_of}
 use Rattle.at_cache.specs.Placed.{at}
 use Rattle.at_cache.specs.Putting.{users_at}

@@ -7,7 +7,7 @@ use Rattle.at_model.specs.Run.{Instance, Location, Value}
 use Rattle.at_body.specs.Same.{same_instance}
 use Rattle.at_body.specs.Sameness.{instances_equiv}
 use Rattle.at_body.proofs.SamenessLemmas.{same_true}
-use Rattle.at_cache.specs.declared.edge.Edge.{Edge}
+use Rattle.at_index.specs.declared.edge.Edge.{Edge}
 use Rattle.at_cache.specs.declared.entry.Entry.{Entry}
 use Rattle.at_cache.specs.declared.keeper.Order.{Order}
 use Rattle.at_cache.specs.declared.standing.Standing.{Standing}

@@ -2,15 +2,17 @@
 use Rattle.std.proofs.Common.{◌≡◌, inl, inr, ℕ, ◌+◌, List, Bool, true, false, Option, None, Some, Contains, nat_eq, refl, sym, ap, ◌∙◌, subst, arith}
 use Rattle.std.specs.List.{list_any}
 use Rattle.at_model.specs.Run.{Location}
-use Rattle.at_cache.specs.declared.edge.Edge.{Edge}
+use Rattle.at_index.specs.declared.edge.Edge.{Edge}
 use Rattle.at_cache.specs.declared.standing.Standing.{Standing}
 use Rattle.at_cache.specs.Info.{Info, Memory}
-use Rattle.at_cache.specs.Putting.{Reads, Uses, users_at}
-use Rattle.at_cache.specs.Recorded.{edge_to, is_listed}
+use Rattle.at_index.specs.Linking.{Reads}
+use Rattle.at_cache.specs.Putting.{Uses, users_at, is_current}
+use Rattle.at_cache.specs.Recorded.{edge_to}
+use Rattle.at_index.specs.Edges.{is_listed}
 use Rattle.at_cache.specs.Standings.{IsTied, alive, is_tied}
-use Rattle.at_cache.proofs.of_cut.Alive.{alive_on}
-use Rattle.at_cache.proofs.Ending.{has, is_in}
-use Rattle.at_cache.proofs.Listing.{back, users_of}
+use Rattle.at_cache.proofs.of_cut.Alive.{tells_on}
+use Rattle.at_index.proofs.Listing.{has, is_in}
+use Rattle.at_cache.proofs.Users.{back, users_of}
 
 -- an edge to one that used what is in the slot
 tied_fact : (m : Memory) (s : ℕ) (e : Info) (p : ℕ) → is_tied m s e p ≡ true → (f : Info) × (m p ≡ Some f) × Contains f.users (edge_to s e)
@@ -24,7 +26,7 @@ tied_test : (m : Memory) (s : ℕ) (e : Info) (p : ℕ) (f : Info) → m p ≡ S
 tied_test m s e p f there c = ap (λ (o : Option Info). elim o as (λ _. Bool) [ None ↦ false | Some f ↦ is_listed (edge_to s e) f.users ]) there ∙ has f.users (edge_to s e) c
 
 module _ {lists later : Location ℕ → List Edge} {puts : ℕ} {st : List Standing} {m mid : Memory} {x : Edge} {reads : List (Location ℕ)}
-    {links : List ℕ} (t : IsTied lists puts st m) (stamp : x.stamp ≡ puts) (r : Reads (alive st m) x reads lists later)
+    {links : List ℕ} (t : IsTied lists puts st m) (stamp : x.stamp ≡ puts) (r : Reads (is_current (alive st m)) x reads lists later)
     (u : Uses (alive st m) x links m mid) where
   -- all is found as before
   pub tied_still : IsTied later (puts + 1) st mid
@@ -35,7 +37,7 @@ module _ {lists later : Location ℕ → List Edge} {puts : ℕ} {st : List Stan
         let (e, there, is) = back u k f found in
         let (g, was, edge) = tied_fact m k e p (t.used k e there on p (ap (λ (n : Info). list_any (nat_eq p) n.links) (sym is) ∙ h)) in
         let (g2, had, alike) = u.there p g was in
-        let now : Contains (users_at mid p) (edge_to k e) = u.users.keeps p (edge_to k e) (subst (λ es. Contains es (edge_to k e)) (sym (users_of m p g was)) edge) e (alive_on st m k e there on) refl in
+        let now : Contains (users_at mid p) (edge_to k e) = u.users.keeps p (edge_to k e) (subst (λ es. Contains es (edge_to k e)) (sym (users_of m p g was)) edge) (tells_on st m k e there on) in
         tied_test mid k f p g2 had (subst (λ n. Contains g2.users (record { slot = k; stamp = n })) (sym (ap (λ (n : Info). n.stamp) is)) (subst (λ es. Contains es (edge_to k e)) (users_of mid p g2 had) now));
     uses = λ p g had y h f found same.
         let (e, there, is) = back u y.slot f found in

@@ -37,7 +37,7 @@ use Rattle.at_demand.proofs.Passing.{whole_push}
 use Rattle.at_demand.proofs.Recalling.{known_kept}
 use Rattle.at_demand.proofs.of_groups.KeptOrFound.{kept_known, none_there}
 use Rattle.at_demand.proofs.of_groups.Telling.{known_cases, known_found}
-use Rattle.at_cache.proofs.Lists.{get_push}
+use Rattle.at_index.proofs.Lists.{get_push}
 
 -- what is known is known still, where more is kept and found
 pub known_still : (before after : Entries) (old new : Question) → KeepsEntries before after →

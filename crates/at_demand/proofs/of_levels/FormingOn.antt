@@ -15,7 +15,7 @@ use Rattle.at_body.specs.TypedForms.{IsForm}
 use Rattle.at_body.specs.Values.{fault_view}
 use Rattle.at_body.specs.declared.forming.Progress.{Progress}
 use Rattle.at_body.specs.declared.forming.Progress.TheVariants as progress
-use Rattle.at_cache.proofs.Lists.{get_contains}
+use Rattle.at_index.proofs.Lists.{get_contains}
 use Rattle.at_cache.specs.Kept.{Entries}
 use Rattle.at_search.specs.declared.ended.Formed.{Formed}
 use Rattle.at_demand.specs.declared.evaluation.Demanded.{Demanded}

@@ -12,8 +12,9 @@ use Rattle.at_model.specs.Nested.{Evaluates, IsGround}
 use Rattle.at_model.proofs.Options.{or_right}
 use Rattle.at_model.proofs.of_nesting.Nesting.{evaluates_value, covered as all_covered, only as only_supports, takes, taken_known, led}
 use Rattle.at_body.specs.Same.{same_instance}
-use Rattle.at_cache.specs.Kept.{Kept, Entries, Puts, covered, covers_at, same_location, value_at}
-use Rattle.at_cache.proofs.Locations.{same_location-is, same_location-itself}
+use Rattle.at_cache.specs.Kept.{Kept, Entries, Puts, covered, covers_at, value_at}
+use Rattle.at_index.specs.Sameness.{same_location}
+use Rattle.at_index.proofs.Locations.{same_location-is, same_location-itself}
 use Rattle.at_evaluate.specs.Valued.{equations, meaning, kept_values, ArePlain, IsKept, KeepsEntries}
 use Rattle.at_evaluate.specs.Right.{AreCovered}
 use Rattle.at_evaluate.specs.Sparing.{AddsWorthy, AreOnly, AreSpare, IsDeep, IsWorthy}

@@ -7,11 +7,12 @@ use Rattle.at_model.specs.Meaning.{Among}
 use Rattle.at_model.specs.of_fixpoints.Resting.{Leads}
 use Rattle.at_model.proofs.of_nesting.Nesting.{only, taken_known}
 use Rattle.at_store.specs.Shown.{Shown, IsIdle, contents}
-use Rattle.at_cache.specs.Kept.{Entries, Puts, same_location}
+use Rattle.at_cache.specs.Kept.{Entries, Puts}
+use Rattle.at_index.specs.Sameness.{same_location}
 use Rattle.at_cache.specs.declared.keeper.Order.{Order}
 use Rattle.at_cache.specs.declared.keeper.Order.TheVariants as order
 use Rattle.at_cache.specs.Traced.{IsTraceOf, Memories, PutsTrace, StayTraced, Trace}
-use Rattle.at_cache.proofs.Locations.{same_location-is, same_location-itself}
+use Rattle.at_index.proofs.Locations.{same_location-is, same_location-itself}
 use Rattle.at_evaluate.specs.Valued.{equations, meaning, kept_values, KeepsEntries}
 use Rattle.at_evaluate.specs.Right.{IsThere}
 use Rattle.at_evaluate.specs.Inner.{AreKnown, AreLazy, IsEvaluated, is_inner, known_by, remembered}

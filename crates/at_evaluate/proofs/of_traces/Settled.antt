@@ -7,9 +7,10 @@ use Rattle.at_model.specs.Meaning.{Among}
 use Rattle.at_model.specs.of_fixpoints.Resting.{Leads}
 use Rattle.at_store.specs.Shown.{Shown, IsIdle, contents}
 use Rattle.at_body.specs.Same.{same_instance}
-use Rattle.at_cache.specs.Kept.{Entries, Puts, PutsBy, same_location, value_at}
+use Rattle.at_cache.specs.Kept.{Entries, Puts, PutsBy, value_at}
+use Rattle.at_index.specs.Sameness.{same_location}
 use Rattle.at_cache.specs.Traced.{AreAllKept, IsNext, Memories, Settled, Trace, below, itself, nothing, one_more}
-use Rattle.at_cache.proofs.Locations.{same_location-is, same_location-itself}
+use Rattle.at_index.proofs.Locations.{same_location-is, same_location-itself}
 use Rattle.at_evaluate.specs.Valued.{equations, meaning, kept_values}
 use Rattle.at_evaluate.specs.Meant.{AreCircularWell, AreRightValues}
 use Rattle.at_evaluate.specs.Inner.{AreKnown, Gains, IsEvaluated, is_inner, known_by}

@@ -3,11 +3,15 @@ use Rattle.std.proofs.Common.{◌≡◌, inl, inr, ℕ, zero, suc, ◌<◌, ◌�
 use Rattle.std.specs.List.{list_any}
 use Rattle.std.proofs.lemmas.Option.{none-some, same_Some}
 use Rattle.at_model.specs.Run.{Location}
-use Rattle.at_cache.specs.declared.edge.Edge.{Edge}
+use Rattle.at_index.specs.declared.edge.Edge.{Edge}
 use Rattle.at_evict.specs.Folding.{Folded, Folds, IsLeft, Rewritten, Tells}
 use Rattle.at_cache.specs.Info.{Info, Memory}
-use Rattle.at_cache.specs.Recorded.{covers, edge_to, is_listed}
-use Rattle.at_cache.proofs.Ending.{agree, any_of, either, far_enough, has, is_in, on_left, on_right, opened, some_of}
+use Rattle.at_cache.specs.Recorded.{covers, edge_to}
+use Rattle.at_index.specs.Edges.{is_listed}
+use Rattle.at_index.proofs.Lists.{agree, any_of, some_of}
+use Rattle.std.proofs.lemmas.Bool.{or_cases, or_left, or_right}
+use Rattle.at_cache.proofs.Ending.{far_enough, opened}
+use Rattle.at_index.proofs.Listing.{has, is_in}
 use Rattle.at_cache.proofs.Entered.{kept_of}
 use Rattle.at_cache.proofs.Index.{Index, Standing, kept_at, standing}
 
@@ -19,16 +23,16 @@ module _ {lists later : Location ℕ → List Edge} {puts : ℕ} {m n : Memory} 
   new_more s e there h = sym (far_enough j puts s e there (j.ordered s e there) l) ∙ h
 
   old_read : (s : ℕ) (e : Info) → m s ≡ Some e → Contains (lists l) (edge_to s e) → covers lists m puts s l ≡ true
-  old_read s e there c = old_more s e there (opened lists m puts s e there l ∙ on_left _ (list_any (λ p. covers lists m puts p l) e.links) (has (lists l) (edge_to s e) c))
+  old_read s e there c = old_more s e there (opened lists m puts s e there l ∙ or_left _ (list_any (λ p. covers lists m puts p l) e.links) (has (lists l) (edge_to s e) c))
 
   old_link : (s p : ℕ) (e : Info) → m s ≡ Some e → Contains e.links p → covers lists m puts p l ≡ true → covers lists m puts s l ≡ true
-  old_link s p e there c h = old_more s e there (opened lists m puts s e there l ∙ on_right (is_listed (edge_to s e) (lists l)) _ (any_of (λ p. covers lists m puts p l) e.links p c h))
+  old_link s p e there c h = old_more s e there (opened lists m puts s e there l ∙ or_right (is_listed (edge_to s e) (lists l)) _ (any_of (λ p. covers lists m puts p l) e.links p c h))
 
   new_read : (s : ℕ) (e : Info) → n s ≡ Some e → Contains (later l) (edge_to s e) → covers later n puts s l ≡ true
-  new_read s e there c = new_more s e there (opened later n puts s e there l ∙ on_left _ (list_any (λ p. covers later n puts p l) e.links) (has (later l) (edge_to s e) c))
+  new_read s e there c = new_more s e there (opened later n puts s e there l ∙ or_left _ (list_any (λ p. covers later n puts p l) e.links) (has (later l) (edge_to s e) c))
 
   new_link : (s p : ℕ) (e : Info) → n s ≡ Some e → Contains e.links p → covers later n puts p l ≡ true → covers later n puts s l ≡ true
-  new_link s p e there c h = new_more s e there (opened later n puts s e there l ∙ on_right (is_listed (edge_to s e) (later l)) _ (any_of (λ p. covers later n puts p l) e.links p c h))
+  new_link s p e there c h = new_more s e there (opened later n puts s e there l ∙ or_right (is_listed (edge_to s e) (later l)) _ (any_of (λ p. covers later n puts p l) e.links p c h))
 
   -- what one stands for that is folded into r is what r stood for
   climbs : (left s r : ℕ) (e : Info) → m s ≡ Some e → puts ≤ left + e.since → Contains (into s) r → covers lists m puts s l ≡ true → covers lists m puts r l ≡ true
@@ -44,7 +48,7 @@ module _ {lists later : Location ℕ → List Edge} {puts : ℕ} {m n : Memory} 
   -- what one stands for that is folded into r is what r stands for
   goes_down : (far s r : ℕ) (e f : Info) → m s ≡ Some e → n r ≡ Some f → Contains (into s) r → covers lists m far s l ≡ true → covers later n puts r l ≡ true
   goes_down zero s r e f there here c h = absurd (true≢false (sym h))
-  goes_down (suc far) s r e f there here c h = elim (either _ _ (sym (opened lists m far s e there l) ∙ h)) [
+  goes_down (suc far) s r e f there here c h = elim (or_cases _ _ (sym (opened lists m far s e there l) ∙ h)) [
     | inl read ↦ new_read r f here ((d.readers l).has r f here (s, e, there, c, is_in (lists l) (edge_to s e) read))
     | inr linked ↦
         let (p, link, is) = some_of (λ p. covers lists m far p l) e.links linked in
@@ -58,7 +62,7 @@ module _ {lists later : Location ℕ → List Edge} {puts : ℕ} {m n : Memory} 
   -- and what r stands for it stood for
   goes_up : (far r : ℕ) (f : Info) → n r ≡ Some f → covers later n far r l ≡ true → covers lists m puts r l ≡ true
   goes_up zero r f here h = absurd (true≢false (sym h))
-  goes_up (suc far) r f here h = elim (either _ _ (sym (opened later n far r f here l) ∙ h)) [
+  goes_up (suc far) r f here h = elim (or_cases _ _ (sym (opened later n far r f here l) ∙ h)) [
     | inl read ↦ let (s, e, there, c, edge) = (d.readers l).from (edge_to r f) (is_in (later l) (edge_to r f) read) in climbs puts s r e there (omega arith) c (old_read s e there edge)
     | inr linked ↦
         let (p, link, is) = some_of (λ p. covers later n far p l) f.links linked in

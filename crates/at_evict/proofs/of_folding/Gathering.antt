@@ -1,17 +1,16 @@
 -- What is gathered for a list, and the list that is made of it.
-use Rattle.std.proofs.Common.{◌≡◌, ◌⊎◌, inl, inr, ℕ, zero, suc, List, [], ◌∷◌, ◌++◌, Bool, true, false, true≢false, nat_eq, Option, None, Some, Contains, length, replicate, slice_get, take, refl, sym, ap, ◌∙◌, subst, arith, eqb-true}
+use Rattle.std.proofs.Common.{◌≡◌, ◌⊎◌, inl, inr, ℕ, zero, suc, List, [], ◌∷◌, ◌++◌, Bool, true, false, true≢false, nat_eq, Some, Contains, length, replicate, slice_get, take, refl, sym, ap, ◌∙◌, subst, arith, eqb-true}
 use Rattle.std.specs.List.{list_any}
 use Rattle.std.proofs.lemmas.Bool.{eq-eqb}
 use Rattle.std.proofs.lemmas.Option.{none-some, same_Some}
 use Rattle.std.proofs.lemmas.List.Elements.{Contains-append_cases, Contains-append_left, Contains-append_right}
 use Rattle.slab.proofs.SlabLemmas.{Contains-cons_cases}
-use Rattle.at_cache.specs.declared.edge.Edge.{Edge}
-use Rattle.at_evict.specs.Folding.{AreAlone, AreLone, Gathered, HasUser, Refolded, Stays, Tells}
+use Rattle.at_index.specs.declared.edge.Edge.{Edge}
+use Rattle.at_evict.specs.Folding.{AreAlone, AreLone, Gathered, HasUser, Refolded, Stays}
+use Rattle.at_cache.proofs.Users.{told_of}
 use Rattle.at_cache.specs.Info.{Info, Memory}
 use Rattle.at_cache.specs.Putting.{is_current}
-use Rattle.at_cache.proofs.Dooming.{head_of}
-use Rattle.at_cache.proofs.Ending.{any_of, some_of}
-use Rattle.at_cache.proofs.Taking.{none_in}
+use Rattle.at_index.proofs.Lists.{any_of, some_of, head_of, none_in}
 
 -- a number is one of these, by a test and back
 pub is_one : (xs : List ℕ) (x : ℕ) → list_any (nat_eq x) xs ≡ true → Contains xs x
@@ -26,19 +25,11 @@ is_none xs x h c = true≢false (sym (one_is xs x c) ∙ h)
 pub only_one : {X : Type 0} (x y : X) → Contains (x ∷ []) y → y ≡ x
 only_one x y c = elim (Contains-cons_cases x y [] c) [ inl same ↦ sym same | inr none ↦ absurd (none_in y none) ]
 
--- what an edge tells of
-pub told : (m : Memory) (y : Edge) → is_current m y ≡ true → Tells m y
-told m y h = by (m y.slot) refl h
-  where
-    by : (o : Option Info) → m y.slot ≡ o → (elim o as (λ _. Bool) [ None ↦ false | Some e ↦ nat_eq e.stamp y.stamp ]) ≡ true → Tells m y
-    by None is k = absurd (true≢false (sym k))
-    by (Some e) is k = (e, is, eqb-true e.stamp y.stamp k)
-
 -- two that tell of an entry in the same slot are one
 pub told_same : (m : Memory) (x y : Edge) → is_current m x ≡ true → is_current m y ≡ true → x.slot ≡ y.slot → x ≡ y
 told_same m x y a b same =
-    let (e, there, of_x) = told m x a in
-    let (f, found, of_y) = told m y b in
+    let (e, there, of_x) = told_of m x a in
+    let (f, found, of_y) = told_of m y b in
     let one : e ≡ f = same_Some e f (sym there ∙ ap m same ∙ found) in
     let stamps : x.stamp ≡ y.stamp = sym of_x ∙ ap (λ (i : Info). i.stamp) one ∙ of_y in
     λ i. record { slot = same i; stamp = stamps i }

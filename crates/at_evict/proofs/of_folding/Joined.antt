@@ -4,19 +4,19 @@ use Rattle.std.proofs.lemmas.Option.{get_or_from_slice_get, same_Some}
 use Rattle.std.proofs.lemmas.List.Sorted.{Contains-permutation, IsPermutation-swap_remove, IsPermutation-sym}
 use Rattle.slab.proofs.SlabLemmas.{Contains-cons, Contains-cons_cases}
 use Rattle.at_model.specs.Run.{Location}
-use Rattle.at_cache.specs.declared.edge.Edge.{Edge}
-use Rattle.at_cache.specs.declared.facet.Facet.{Facet}
-use Rattle.at_cache.specs.declared.facet.Readers.{Readers}
-use Rattle.at_cache.specs.Edges.{edges_in}
+use Rattle.at_index.specs.declared.edge.Edge.{Edge}
+use Rattle.at_index.specs.declared.facet.Facet.{Facet}
+use Rattle.at_index.specs.declared.facet.Readers.{Readers}
+use Rattle.at_index.specs.Edges.{edges_in}
 use Rattle.at_evict.specs.Folding.{AreRefolded}
 use Rattle.at_evict.specs.Joining.{AreJoint, HaveSame, Joins}
-use Rattle.at_cache.specs.Readers.{edges_among, stands_for}
-use Rattle.at_cache.proofs.Dooming.{head_of}
-use Rattle.at_cache.proofs.Gained.{get_other, get_same}
-use Rattle.at_cache.proofs.Lists.{get_contains}
-use Rattle.at_cache.proofs.Moving.{got, stayed, within}
-use Rattle.at_cache.proofs.RowLists.{along_from, along_to}
-use Rattle.at_cache.proofs.Taking.{none_in}
+use Rattle.at_index.specs.Readers.{edges_among, stands_for}
+use Rattle.at_index.proofs.Lists.{head_of, get_contains, none_in}
+use Rattle.at_index.proofs.Gained.{get_other, get_same}
+use Rattle.at_cache.proofs.Moving.{stayed}
+use Rattle.std.proofs.lemmas.Option.{slice_get_within}
+use Rattle.at_index.proofs.Lists.{got}
+use Rattle.at_index.proofs.RowLists.{along_from, along_to}
 
 pub same_none : (rs : List Readers) → HaveSame rs rs
 same_none rs = record { kept = λ n l x c. c; from = λ n l x c. c }
@@ -89,7 +89,7 @@ module _ (rs : List Readers) (before place : ℕ) (f : Facet) (r q : Readers) (l
   after = swap_remove between place q
 
   inside : place < length between
-  inside = subst (λ n. place < n) (sym (length-set rs before made)) (within rs place q there)
+  inside = subst (λ n. place < n) (sym (length-set rs before made)) (slice_get_within rs place q there)
 
   taken : slice_get between place ≡ Some q
   taken = get_other rs before place made (λ same. absurd (omega (arith, less, same))) ∙ there

@@ -6,9 +6,8 @@ use Rattle.std.proofs.lemmas.List.Elements.{Contains-append_cases, Contains-appe
 use Rattle.smallvec.specs.SmallVec.{SmallVec}
 use Rattle.at_evict.specs.Folding.{HasLinked, Linked, LinkedTo, Stays, listed_at, slots_at}
 use Rattle.at_cache.specs.Info.{Info, Memory}
-use Rattle.at_cache.proofs.Dooming.{head_of}
-use Rattle.at_cache.proofs.Gained.{get_other, get_same}
-use Rattle.at_cache.proofs.Taking.{none_in}
+use Rattle.at_index.proofs.Lists.{head_of, none_in}
+use Rattle.at_index.proofs.Gained.{get_other, get_same}
 use Rattle.at_evict.proofs.of_folding.Gathering.{only_one}
 
 abbrev pub list_of : Option (SmallVec ℕ) → List ℕ

@@ -3,15 +3,14 @@ use Rattle.std.proofs.Common.{◌≡◌, inl, inr, ℕ, zero, suc, ◌≤◌, �
 use Rattle.std.proofs.lemmas.Bool.{cases_eq}
 use Rattle.std.proofs.lemmas.Option.{none-some, same_Some}
 use Rattle.at_model.specs.Run.{Location}
-use Rattle.at_cache.specs.declared.edge.Edge.{Edge}
+use Rattle.at_index.specs.declared.edge.Edge.{Edge}
 use Rattle.at_evict.specs.Folding.{AreLinks, Folded, Folds, IsLeft, IsRelinked, Linked, Refolded, Relinks, Remains, Rewritten, Stays}
 use Rattle.at_cache.specs.Info.{Info, Memory}
 use Rattle.at_cache.specs.Putting.{is_current}
 use Rattle.at_cache.specs.Recorded.{edge_to}
 use Rattle.at_cache.proofs.Index.{Index, Standing, kept_at}
-use Rattle.at_cache.proofs.Listing.{current}
+use Rattle.at_cache.proofs.Users.{current, told_of}
 use Rattle.at_evict.proofs.of_folding.Folded.{folded_indexed, kept_folded}
-use Rattle.at_evict.proofs.of_folding.Gathering.{told}
 
 module _ {lists later : Location ℕ → List Edge} {puts : ℕ} {m mid n : Memory} {into links : ℕ → List ℕ} (i : Index lists puts m) (plan : Folds m into) (readers : (l : Location ℕ) → Refolded (is_current m) into (lists l) (later l)) (linked : AreLinks m into links) (relinked : Relinks into links m mid) (left : Remains into mid n) where
   -- an entry into which one is folded is there, and stays
@@ -67,12 +66,12 @@ module _ {lists later : Location ℕ → List Edge} {puts : ℕ} {m mid n : Memo
         h.has (edge_to r f) (edge_to s e, d, current m (edge_to s e) e there refl, c) (current m (edge_to r f) l.e l.there (sym l.same.stamp));
     from = λ x c.
         let (is, (z, d, k, t)) = h.from x c in
-        let (e, there, stamp) = told m z k in
+        let (e, there, stamp) = told_of m z k in
         (z.slot, e, there, t, subst (Contains old) (λ j. record { slot = z.slot; stamp = sym stamp j }) d);
     tells = λ x c.
         let (is, (z, d, k, t)) = h.from x c in
-        let (e, there, stamp) = told m z k in
-        let (g, found, of_x) = told m x is in
+        let (e, there, stamp) = told_of m z k in
+        let (g, found, of_x) = told_of m x is in
         let (stays, more) = ends puts z.slot x.slot e there (omega arith) t in
         let (f, here) = left_there x.slot g found stays in
         let l = left_of x.slot f here in

@@ -6,17 +6,19 @@ use Rattle.std.proofs.lemmas.List.Elements.{Contains-append_left, Contains-push,
 use Rattle.std.proofs.lemmas.List.Sorted.{Contains-permutation, IsPermutation-swap_remove, IsPermutation-sym}
 use Rattle.std.proofs.lemmas.Option.{none-some, same_Some}
 use Rattle.slab.proofs.SlabLemmas.{Contains-cons, Contains-cons_cases}
-use Rattle.at_cache.specs.declared.edge.Edge.{Edge}
-use Rattle.at_cache.specs.declared.row.Row.{Row}
+use Rattle.at_index.specs.declared.edge.Edge.{Edge}
+use Rattle.at_index.specs.declared.row.Row.{Row}
 use Rattle.at_evict.specs.Folding.{Added, AreAlone, Gathered, HasUser, Parted, Refolded}
+use Rattle.at_cache.proofs.Users.{told_of}
 use Rattle.at_cache.specs.Info.{Memory}
-use Rattle.at_cache.specs.Putting.{Lists, is_current}
-use Rattle.at_cache.specs.Rows.{edges_along, edges_of}
-use Rattle.at_cache.proofs.Dooming.{head_of}
-use Rattle.at_cache.proofs.Moving.{got, past, stayed}
-use Rattle.at_cache.proofs.RowLists.{along_from, along_has, along_to}
-use Rattle.at_cache.proofs.Taking.{none_in}
-use Rattle.at_evict.proofs.of_folding.Gathering.{only_one, told, told_same, user_of}
+use Rattle.at_index.specs.Linking.{Lists}
+use Rattle.at_cache.specs.Putting.{is_current}
+use Rattle.at_index.specs.Rows.{edges_along, edges_of}
+use Rattle.at_index.proofs.Lists.{head_of, none_in}
+use Rattle.at_cache.proofs.Moving.{past, stayed}
+use Rattle.at_index.proofs.Lists.{got}
+use Rattle.at_index.proofs.RowLists.{along_from, along_has, along_to}
+use Rattle.at_evict.proofs.of_folding.Gathering.{only_one, told_same, user_of}
 
 module _ (m : Memory) (into : ℕ → List ℕ) where
   -- Of some edges those are in the rows that stay by the rows before the place, and others; of what went the targets are gathered.
@@ -141,7 +143,7 @@ module _ (m : Memory) (kept : List Edge) where
     keeps = a.keeps;
     has = λ y c is. elim (Contains-push_cases slots s y.slot c) [
       | inl d ↦ a.has y d is
-      | inr same ↦ let (e, found, stamp) = told m y is in absurd (none-some e (sym none ∙ ap m same ∙ found))
+      | inr same ↦ let (e, found, stamp) = told_of m y is in absurd (none-some e (sym none ∙ ap m same ∙ found))
     ];
     from = λ y c. further slots s edges y a c;
   }
@@ -159,12 +161,12 @@ module _ (m : Memory) (kept : List Edge) where
   }
 
   -- to a slot more, by a new one
-  pub added_more : (slots : List ℕ) (x : Edge) (old new : List Edge) → is_current m x ≡ true → Lists m x old new → Contains new x → Added m kept slots old
+  pub added_more : (slots : List ℕ) (x : Edge) (old new : List Edge) → is_current m x ≡ true → Lists (is_current m) x old new → Contains new x → Added m kept slots old
       → Added m kept (slots ++ x.slot ∷ []) new
   added_more slots x old new is lists has a = record {
-    keeps = λ y c k. let (e, found, stamp) = told m y k in lists.keeps y (a.keeps y c k) e found stamp;
+    keeps = λ y c k. lists.keeps y (a.keeps y c k) k;
     has = λ y c k. elim (Contains-push_cases slots x.slot y.slot c) [
-      | inl d ↦ let (e, found, stamp) = told m y k in lists.keeps y (a.has y d k) e found stamp
+      | inl d ↦ lists.keeps y (a.has y d k) k
       | inr same ↦ subst (Contains new) (told_same m x y is k same) has
     ];
     from = λ y c. elim (lists.only y c) [

@@ -3,7 +3,7 @@ use Rattle.std.proofs.Common.{◌≡◌, ◌⊎◌, ℕ, List, Bool, true, false
 use Rattle.std.specs.Option.{option_and_then}
 use Rattle.std.proofs.lemmas.Option.{none-some, same_Some}
 use Rattle.at_model.specs.Run.{Location}
-use Rattle.at_cache.specs.declared.edge.Edge.{Edge}
+use Rattle.at_index.specs.declared.edge.Edge.{Edge}
 use Rattle.at_cache.specs.declared.standing.Standing.{Standing}
 use Rattle.at_cache.specs.declared.table.Table.{Table}
 use Rattle.at_evict.specs.Folding.{AreLinks, Folds, FoldsAt, HasUsed, HasUser, IsRelinked, Refolded, Relinks, Remains}

@@ -2,14 +2,14 @@
 use Rattle.std.proofs.Common.{◌≡◌, inl, inr, ℕ, ◌<◌, ◌≤◌, ◌+◌, List, [], Bool, true, false, nat_eq, length, Option, None, Some, true≢false, is_some, IfNone, OnSome, option_map, if◌then◌else◌, Contains, get_or, slice_get, refl, sym, ap, ◌∙◌, subst, arith}
 use Rattle.std.proofs.lemmas.Bool.{cases_eq, cases_lt, eq-eqb, ne_eqb}
 use Rattle.std.proofs.lemmas.Option.{none-some, same_Some}
-use Rattle.at_cache.specs.declared.edge.Edge.{Edge}
+use Rattle.at_index.specs.declared.edge.Edge.{Edge}
 use Rattle.at_evict.specs.Folding.{AreAlone, AreOrdered, AreTaken, IsRelinked, Linked, Refolded, Relinks, RelinksAt, RemovesAt, Stays}
 use Rattle.at_cache.specs.Info.{Info, Memory}
 use Rattle.at_cache.specs.Putting.{is_current, reused, users_at, with_users}
 use Rattle.at_cache.specs.Slots.{relinked}
 use Rattle.at_cache.proofs.Came.{none_by}
-use Rattle.at_cache.proofs.Moving.{got}
-use Rattle.at_cache.proofs.Taking.{none_in}
+use Rattle.at_index.proofs.Lists.{got}
+use Rattle.at_index.proofs.Lists.{none_in}
 use Rattle.at_evict.proofs.of_folding.Gathering.{refolded_alone}
 
 -- what is written at one slot

@@ -1,33 +1,34 @@
 -- Edges of runs are made anew, one behind the other.
 use Rattle.std.proofs.Common.{◌≡◌, inl, inr, ℕ, ◌<◌, ◌+◌, List, [], ◌∷◌, ◌++◌, ◌&&◌, Bool, true, false, true≢false, cond, not, nat_eq, nat_lt, Option, None, Some, Contains, get_or, take, length, slice_get, slice_set, refl, sym, ap, ◌∙◌, subst, eqb-true, arith}
 use Rattle.std.specs.List.{list_any}
-use Rattle.std.proofs.lemmas.Bool.{eq-eqb, le-ltb, ltb-false}
+use Rattle.std.proofs.lemmas.Bool.{eq-eqb, le-ltb, ltb-false, and_from}
 use Rattle.std.proofs.lemmas.List.{take_more}
 use Rattle.std.proofs.lemmas.List.Elements.{Contains-append_cases, Contains-append_left, Contains-append_right, Contains-push, Contains-push_cases}
 use Rattle.std.proofs.lemmas.Option.{none-some}
 use Rattle.smallvec.specs.SmallVec.{SmallVec}
 use Rattle.at_model.specs.Run.{Location}
-use Rattle.at_cache.specs.declared.edge.Edge.{Edge}
-use Rattle.at_cache.specs.declared.facet.Readers.{Readers}
-use Rattle.at_cache.specs.declared.run.Reach.{Reach}
-use Rattle.at_cache.specs.declared.run.Run.{Run}
-use Rattle.at_cache.specs.declared.run.Seat.{Seat}
+use Rattle.at_index.specs.declared.edge.Edge.{Edge}
+use Rattle.at_index.specs.declared.facet.Readers.{Readers}
+use Rattle.at_index.specs.declared.run.Reach.{Reach}
+use Rattle.at_index.specs.declared.run.Run.{Run}
+use Rattle.at_index.specs.declared.run.Seat.{Seat}
 use Rattle.at_evict.specs.Folding.{HasUser, Refolded}
+use Rattle.at_cache.proofs.Users.{told_of}
 use Rattle.at_cache.specs.Info.{Memory}
-use Rattle.at_cache.specs.Kept.{node_at}
+use Rattle.at_index.specs.Sameness.{node_at}
 use Rattle.at_cache.specs.Putting.{is_current}
-use Rattle.at_cache.specs.Readers.{edges_at}
-use Rattle.at_cache.specs.Recorded.{same_edge}
+use Rattle.at_index.specs.Readers.{edges_at}
+use Rattle.at_index.specs.Edges.{same_edge}
 use Rattle.at_evict.specs.Rerunning.{AreRerun, Covers, GoNoFurther, IsOver, IsRerun, Reaches, is_as_wide, targets_of}
-use Rattle.at_cache.specs.Runs.{AreSeated, edges_on, edges_over, edges_past, is_seen, lies}
-use Rattle.at_cache.proofs.Ending.{and, both, some_of}
-use Rattle.at_cache.proofs.Gained.{get_same}
-use Rattle.at_cache.proofs.Taking.{none_in}
-use Rattle.at_evict.proofs.of_folding.Gathering.{only_one, told, told_same}
+use Rattle.at_index.specs.Runs.{AreSeated, edges_on, edges_over, edges_past, is_seen, lies}
+use Rattle.at_model.proofs.Options.{both}
+use Rattle.at_index.proofs.Lists.{some_of, none_in}
+use Rattle.at_index.proofs.Gained.{get_same}
+use Rattle.at_evict.proofs.of_folding.Gathering.{only_one, told_same}
 use Rattle.at_evict.proofs.of_folding.Nodes.{refolded_append, refolded_none}
-use Rattle.at_cache.proofs.of_runs.Following.{in_lies, lies_in}
-use Rattle.at_cache.proofs.of_runs.Reaching.{past_from, past_to}
-use Rattle.at_cache.proofs.of_runs.Seats.{set_given, set_past}
+use Rattle.at_index.proofs.of_runs.Following.{in_lies, lies_in}
+use Rattle.at_index.proofs.of_runs.Reaching.{past_from, past_to}
+use Rattle.at_index.proofs.of_runs.Seats.{set_given, set_past}
 
 -- what is folded where the edge tells of an entry
 module _ (there : Edge → Bool) (into : ℕ → List ℕ) (x : Edge) where
@@ -67,9 +68,9 @@ module _ (q r : Reach) (h : is_as_wide q r ≡ true) where
 
 pub wide_itself : (r : Reach) → is_as_wide r r ≡ true
 wide_itself r =
-    and (same_edge r.edge r.edge) (not (nat_lt r.behind r.behind) && not (nat_lt r.last r.last))
-    (and (nat_eq r.edge.slot r.edge.slot) (nat_eq r.edge.stamp r.edge.stamp) (eq-eqb r.edge.slot r.edge.slot refl) (eq-eqb r.edge.stamp r.edge.stamp refl))
-    (and (not (nat_lt r.behind r.behind)) (not (nat_lt r.last r.last)) (ap not (le-ltb r.behind r.behind (omega arith))) (ap not (le-ltb r.last r.last (omega arith))))
+    and_from (same_edge r.edge r.edge) (not (nat_lt r.behind r.behind) && not (nat_lt r.last r.last))
+    (and_from (nat_eq r.edge.slot r.edge.slot) (nat_eq r.edge.stamp r.edge.stamp) (eq-eqb r.edge.slot r.edge.slot refl) (eq-eqb r.edge.stamp r.edge.stamp refl))
+    (and_from (not (nat_lt r.behind r.behind)) (not (nat_lt r.last r.last)) (ap not (le-ltb r.behind r.behind (omega arith))) (ap not (le-ltb r.last r.last (omega arith))))
 
 -- one of those at the end is as wide
 pub covers_near : (r : Reach) (front back edges : List Reach) → edges ≡ front ++ back → list_any (λ q. is_as_wide q r) back ≡ true → Covers r edges edges
@@ -113,7 +114,7 @@ module _ (m : Memory) (r : Reach) where
   pub reaches_gone : (s : ℕ) (edges : List Reach) → m s ≡ None → Reaches m (s ∷ []) r edges edges
   reaches_gone s edges none = record {
     kept = λ q c. c;
-    has = λ y c is. let (e, found, stamp) = told m y is in absurd (none-some e (sym none ∙ ap m (sym (only_one s y.slot c)) ∙ found));
+    has = λ y c is. let (e, found, stamp) = told_of m y is in absurd (none-some e (sym none ∙ ap m (sym (only_one s y.slot c)) ∙ found));
     from = λ q c. inl c;
   }
 

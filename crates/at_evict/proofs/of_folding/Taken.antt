@@ -10,10 +10,9 @@ use Rattle.at_cache.specs.declared.entry.Entry.{Entry}
 use Rattle.at_cache.specs.declared.table.Table.{Table}
 use Rattle.at_evict.specs.Folding.{AreLinks, AreTaken, HasLinked, HasUsed, Remains, RemovesAt, Stays}
 use Rattle.at_cache.specs.Info.{Info, Memory, info, memory_of}
-use Rattle.at_cache.proofs.Dooming.{head_of}
-use Rattle.at_cache.proofs.Lists.{get_push}
-use Rattle.at_cache.proofs.Moving.{at_none, table_by, within}
-use Rattle.at_cache.proofs.Taking.{none_in}
+use Rattle.at_index.proofs.Lists.{head_of, get_push, none_in}
+use Rattle.at_cache.proofs.Moving.{at_none, table_by}
+use Rattle.std.proofs.lemmas.Option.{slice_get_within}
 
 -- these are the slots of the entries at the first places, in their order
 pub record TakenBelow (t : Table) (n : ℕ) (slots : List ℕ) : Type 0 where
@@ -62,7 +61,7 @@ taken_all t n slots all below s e there = by (get t.places s) refl
     by None none = absurd (none-some e (sym (ap (option_map info) (at_none t.entries.entries (get t.places) s none)) ∙ there))
     by (Some p) is =
         let (x, found, of_slot) = (table_by t.placed).from s p is in
-        let less = within t.entries.entries p x found in
+        let less = slice_get_within t.entries.entries p x found in
         below.has s p is (omega (arith, less, all))
 
 -- What doesn't stay of these slots is gone.

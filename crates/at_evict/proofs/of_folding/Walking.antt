@@ -4,18 +4,19 @@ use Rattle.std.proofs.lemmas.List.{take_more}
 use Rattle.std.proofs.lemmas.List.Elements.{Contains-push_cases}
 use Rattle.std.proofs.lemmas.Option.{same_Some}
 use Rattle.at_model.specs.Run.{Instance, Location}
-use Rattle.at_cache.specs.declared.edge.Edge.{Edge}
+use Rattle.at_index.specs.declared.edge.Edge.{Edge}
+use Rattle.at_cache.proofs.Users.{told_of}
 use Rattle.at_cache.specs.declared.entry.Entry.{Entry}
-use Rattle.at_cache.specs.declared.row.Row.{Row}
-use Rattle.at_cache.specs.Edges.{edges_in}
+use Rattle.at_index.specs.declared.row.Row.{Row}
+use Rattle.at_index.specs.Edges.{edges_in}
 use Rattle.at_evict.specs.Folding.{AreAlone, Folds, FoldsAt, Gathered, HasUser, IsBelow, Linked, LinkedTo}
 use Rattle.at_cache.specs.Info.{Info, Memory, info}
 use Rattle.at_cache.specs.Putting.{is_current}
-use Rattle.at_cache.specs.Rows.{edges_along, edges_of}
+use Rattle.at_index.specs.Rows.{edges_along, edges_of}
 use Rattle.at_cache.proofs.Index.{Index}
-use Rattle.at_cache.proofs.Moving.{got}
-use Rattle.at_cache.proofs.RowLists.{along_end, along_has}
-use Rattle.at_evict.proofs.of_folding.Gathering.{alone_then, gathered_none, gathered_then, told, user_of}
+use Rattle.at_index.proofs.Lists.{got}
+use Rattle.at_index.proofs.RowLists.{along_end, along_has}
+use Rattle.at_evict.proofs.of_folding.Gathering.{alone_then, gathered_none, gathered_then, user_of}
 use Rattle.at_evict.proofs.of_folding.Linking.{linked_then, to_then}
 
 -- each of the first ones, and one more
@@ -70,7 +71,7 @@ pub folds_by : {lists : Location ℕ → List Edge} {puts : ℕ} {m : Memory} {i
 folds_by {lists} {puts} {m} {into} i at = record {
   used = λ s r e there c. elim ((at s e there).used r c) [
     | inl same ↦ inl same
-    | inr (x, d, is, f) ↦ let (g, found, stamp) = told m x is in inr (x.slot, g, found, i.uses s e there x d g found (stamp), f)
+    | inr (x, d, is, f) ↦ let (g, found, stamp) = told_of m x is in inr (x.slot, g, found, i.uses s e there x d g found (stamp), f)
   ];
   below = λ s r e there c p d. elim ((at s e there).below p d) [ inl stays ↦ inl stays | inr all ↦ inr (all r c) ];
 }

@@ -1,7 +1,7 @@
 //! A keeper that is compared, entry by entry, with plain models of what it keeps.
 
 ghost use Rattle.std.proofs.Common.{refl};
-ghost use Rattle.at_cache.specs.Finding.{edges_to};
+ghost use Rattle.at_index.specs.Finding.{edges_to};
 ghost use Rattle.at_cache.specs.Keeping.{recorded_by, remembered_by};
 ghost use Rattle.at_cache.specs.Standings.{last_is};
 ghost use Rattle.at_engine.specs.Engines.{KeepsNothing};

@@ -1,5 +1,5 @@
 use Rattle.std.proofs.Common.{◌≡◌, ◌+◌, ◌*◌, List, [], cond, is_some}
-use Rattle.at_cache.specs.declared.edge.Edge.{Edge}
+use Rattle.at_index.specs.declared.edge.Edge.{Edge}
 use Rattle.at_cache.specs.Flushing.{Work}
 use Rattle.at_cache.specs.Info.{Memory, table_len}
 use Rattle.at_cache.specs.Marking.{Passes, held_count, held_in}

@@ -1,7 +1,7 @@
 use Rattle.std.proofs.Common.{take}
-use Rattle.at_cache.specs.Kept.{Answers}
-use Rattle.at_cache.specs.Asking.{GoesOn, looks_at}
-use Rattle.at_cache.specs.Readers.{edges_among}
+use Rattle.at_index.specs.Asking.{Answers, looks_at}
+use Rattle.at_cache.specs.Marking.{GoesOn}
+use Rattle.at_index.specs.Readers.{edges_among}
 use Rattle.at_cache.proofs.forgetting.begin_at.Given as goal
 
 abbrev pub invariant-loop-reader : goal.invariant-loop-reader

@@ -1,5 +1,5 @@
 use Rattle.std.proofs.Common.{refl}
-use Rattle.at_cache.proofs.of_runs.Over.{goes_both}
+use Rattle.at_cache.proofs.Naming.{goes_both}
 use Rattle.at_cache.proofs.forgetting.begin_node.Goals as goal
 
 pub returns : goal.returns

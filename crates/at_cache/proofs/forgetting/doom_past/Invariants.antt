@@ -1,7 +1,7 @@
 use Rattle.std.proofs.Common.{take}
 use Rattle.at_cache.specs.declared.cut.Loss.TheVariants as loss
 use Rattle.at_cache.specs.Marking.{GoesOver}
-use Rattle.at_cache.specs.Runs.{edges_past}
+use Rattle.at_index.specs.Runs.{edges_past}
 use Rattle.at_cache.proofs.forgetting.doom_past.Given as goal
 
 abbrev pub invariant-loop-reach : goal.invariant-loop-reach

@@ -1,6 +1,5 @@
 use Rattle.std.proofs.Common.{None}
-use Rattle.at_cache.proofs.Naming.{goes_to_named}
-use Rattle.at_cache.proofs.of_runs.Over.{goes_unread}
+use Rattle.at_cache.proofs.Naming.{goes_to_named, goes_unread}
 use Rattle.at_cache.proofs.places.begin_named.Goals as goal
 
 pub returns-then-count_of-eq0 : goal.returns-then-count_of-eq0

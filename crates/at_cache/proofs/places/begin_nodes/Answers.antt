@@ -1,8 +1,8 @@
 use Rattle.std.proofs.Common.{List, ℕ, subst, take_all}
 use Rattle.std.specs.List.{list_any}
-use Rattle.at_cache.specs.Asking.{GoesOn, sees}
-use Rattle.at_cache.specs.Kept.{Answers}
-use Rattle.at_cache.specs.Finding.{edges_to}
+use Rattle.at_cache.specs.Marking.{GoesOn}
+use Rattle.at_index.specs.Asking.{sees, Answers}
+use Rattle.at_index.specs.Finding.{edges_to}
 use Rattle.at_cache.proofs.Naming.{goes_next, goes_nowhere}
 use Rattle.at_cache.proofs.places.begin_nodes.Goals as goal
 

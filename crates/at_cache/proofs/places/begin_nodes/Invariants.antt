@@ -1,8 +1,8 @@
 use Rattle.std.proofs.Common.{take}
 use Rattle.std.specs.List.{list_any}
-use Rattle.at_cache.specs.Kept.{Answers}
-use Rattle.at_cache.specs.Asking.{GoesOn, sees}
-use Rattle.at_cache.specs.Finding.{edges_to}
+use Rattle.at_index.specs.Asking.{Answers, sees}
+use Rattle.at_cache.specs.Marking.{GoesOn}
+use Rattle.at_index.specs.Finding.{edges_to}
 use Rattle.at_cache.proofs.places.begin_nodes.Given as goal
 
 abbrev pub invariant-loop-node : goal.invariant-loop-node

@@ -5,7 +5,7 @@ use Rattle.at_cache.specs.declared.standing.Standing.{Standing}
 use Rattle.at_cache.specs.Info.{memory_of}
 use Rattle.at_cache.specs.Marking.{held_in}
 use Rattle.at_cache.specs.Putting.{AreTaken}
-use Rattle.at_cache.specs.Finding.{edges_to}
+use Rattle.at_index.specs.Finding.{edges_to}
 use Rattle.at_cache.specs.Renewing.{IsSlotFor}
 use Rattle.at_cache.specs.Standings.{standing_of}
 use Rattle.at_cache.proofs.of_cut.Alive.{reads_stand, uses_stand}
@@ -13,7 +13,7 @@ use Rattle.at_cache.proofs.of_cut.EnteredHeld.{made_so, not_held, puts_so, slot_
 use Rattle.at_cache.proofs.of_cut.Enters.{has_entered}
 use Rattle.at_cache.proofs.of_cut.Goes.{has_shown}
 use Rattle.at_cache.proofs.of_cut.LeftHeld.{enters_none, left, left_alone, uses_alike}
-use Rattle.at_cache.proofs.Listing.{uses_none}
+use Rattle.at_cache.proofs.Users.{uses_none}
 use Rattle.at_cache.proofs.renewing.enter_held.Goals as goal
 
 -- where the entry doesn't come

@@ -7,7 +7,7 @@ use Rattle.at_cache.specs.Putting.{AreTaken}
 use Rattle.at_cache.specs.Standings.{instances_in, kept_held, trace_of}
 use Rattle.at_cache.specs.Traced.{AreAllKept}
 use Rattle.at_cache.proofs.of_cut.Goes.{goes_at, goes_none, goes_then, has_shown, is_on, is_pair, links_taken, trace_slot, value_kept, value_slot}
-use Rattle.at_cache.proofs.Taking.{none_in}
+use Rattle.at_index.proofs.Lists.{none_in}
 use Rattle.at_cache.proofs.settling.+settling.Goals as goal
 
 pub settle_all-loop-slot-init : goal.settle_all-loop-slot-init

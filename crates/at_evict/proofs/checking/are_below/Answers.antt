@@ -1,6 +1,6 @@
 use Rattle.std.proofs.Common.{ℕ, Contains, subst, take_all}
 use Rattle.at_evict.specs.Folding.{IsBelow, slots_at}
-use Rattle.at_cache.proofs.Taking.{none_in}
+use Rattle.at_index.proofs.Lists.{none_in}
 use Rattle.at_evict.proofs.of_folding.Walking.{all_more}
 use Rattle.at_evict.proofs.checking.are_below.Goals as goal
 

@@ -1,5 +1,5 @@
 use Rattle.std.proofs.Common.{ℕ, Bool, Contains, take}
-use Rattle.at_cache.specs.declared.edge.Edge.{Edge}
+use Rattle.at_index.specs.declared.edge.Edge.{Edge}
 use Rattle.at_evict.specs.Folding.{AreLone, IsBelow, slots_at}
 use Rattle.at_evict.proofs.checking.are_below.Given as goal
 

@@ -1,9 +1,9 @@
 use Rattle.std.proofs.Common.{◌≡◌, ◌⊎◌, ℕ, Contains, subst, take_all}
-use Rattle.at_cache.specs.Edges.{edges_in}
+use Rattle.at_index.specs.Edges.{edges_in}
 use Rattle.at_evict.specs.Folding.{HasUser, slots_at}
 use Rattle.at_cache.specs.Info.{memory_of}
 use Rattle.at_cache.specs.Putting.{is_current}
-use Rattle.at_cache.proofs.Taking.{none_in}
+use Rattle.at_index.proofs.Lists.{none_in}
 use Rattle.at_evict.proofs.of_folding.Walking.{all_more}
 use Rattle.at_evict.proofs.checking.are_used.Goals as goal
 

@@ -1,5 +1,5 @@
 use Rattle.std.proofs.Common.{◌≡◌, ◌⊎◌, ℕ, Contains, take}
-use Rattle.at_cache.specs.Edges.{edges_in}
+use Rattle.at_index.specs.Edges.{edges_in}
 use Rattle.at_evict.specs.Folding.{HasUser, slots_at}
 use Rattle.at_cache.specs.Info.{memory_of}
 use Rattle.at_cache.specs.Putting.{is_current}

@@ -1,7 +1,7 @@
 use Rattle.std.proofs.Common.{Contains, subst, sym}
 use Rattle.slab.proofs.SlabLemmas.{Contains-cons}
-use Rattle.at_cache.specs.Rows.{edges_of}
-use Rattle.at_cache.proofs.Dooming.{head_of}
+use Rattle.at_index.specs.Rows.{edges_of}
+use Rattle.at_index.proofs.Lists.{head_of}
 use Rattle.at_evict.proofs.checking.is_in_row.Goals as goal
 
 pub loop-edge-init : goal.loop-edge-init

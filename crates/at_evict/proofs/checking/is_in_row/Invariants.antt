@@ -1,6 +1,6 @@
 use Rattle.std.proofs.Common.{Contains, length}
-use Rattle.at_cache.specs.declared.edge.Edge.{Edge}
-use Rattle.at_cache.specs.Rows.{edges_of}
+use Rattle.at_index.specs.declared.edge.Edge.{Edge}
+use Rattle.at_index.specs.Rows.{edges_of}
 use Rattle.at_evict.proofs.checking.is_in_row.Given as goal
 
 abbrev pub invariant-loop-edge : goal.invariant-loop-edge

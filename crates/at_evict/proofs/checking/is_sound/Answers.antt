@@ -1,7 +1,7 @@
 use Rattle.std.proofs.Common.{◌≡◌, Contains, Some, subst, sym, take_all}
 use Rattle.at_evict.specs.Folding.{FoldsAt, slots_at}
 use Rattle.at_cache.specs.Info.{Info, memory_of}
-use Rattle.at_cache.proofs.Taking.{none_in}
+use Rattle.at_index.proofs.Lists.{none_in}
 use Rattle.at_evict.proofs.of_folding.Walking.{all_more}
 use Rattle.at_evict.proofs.checking.is_sound.Goals as goal
 

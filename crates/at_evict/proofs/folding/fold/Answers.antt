@@ -1,6 +1,6 @@
 use Rattle.std.proofs.Common.{◌≤◌, ◌^◌, subst, sym}
 use Rattle.slab.specs.Slab.{get}
-use Rattle.at_cache.specs.Finding.{edges_to}
+use Rattle.at_index.specs.Finding.{edges_to}
 use Rattle.at_evict.specs.Folding.{AreOrdered, AreTaken, Relinks, listed_at, slots_at}
 use Rattle.at_cache.specs.Info.{memory_of}
 use Rattle.at_evict.proofs.of_folding.Nodes.{noted_still}

@@ -1,5 +1,5 @@
 use Rattle.std.proofs.Common.{◌∙◌, subst, sym}
-use Rattle.at_cache.specs.Edges.{edges_in}
+use Rattle.at_index.specs.Edges.{edges_in}
 use Rattle.at_evict.specs.Folding.{AreLone, slots_at}
 use Rattle.at_cache.specs.Info.{memory_of}
 use Rattle.at_evict.proofs.of_folding.Relinking.{current_taken, relinks_none, relinks_one}

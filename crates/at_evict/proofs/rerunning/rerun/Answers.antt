@@ -3,7 +3,7 @@ use Rattle.std.proofs.lemmas.Option.{slice_get_read}
 use Rattle.at_evict.specs.Folding.{slots_at}
 use Rattle.at_cache.specs.Info.{memory_of}
 use Rattle.at_evict.specs.Rerunning.{IsRerun}
-use Rattle.at_cache.proofs.Gained.{get_other}
+use Rattle.at_index.proofs.Gained.{get_other}
 use Rattle.at_evict.proofs.of_folding.Places.{below_end, below_more, below_start}
 use Rattle.at_evict.proofs.of_folding.Rerun.{one_run, runs_rerun, seated_set}
 use Rattle.at_evict.proofs.rerunning.rerun.Goals as goal

@@ -1,9 +1,9 @@
 use Rattle.std.proofs.Common.{List}
-use Rattle.at_cache.specs.declared.run.Seat.{Seat}
+use Rattle.at_index.specs.declared.run.Seat.{Seat}
 use Rattle.at_evict.specs.Folding.{slots_at}
 use Rattle.at_cache.specs.Info.{memory_of}
 use Rattle.at_evict.specs.Rerunning.{IsRerun}
-use Rattle.at_cache.specs.Runs.{AreSeated}
+use Rattle.at_index.specs.Runs.{AreSeated}
 use Rattle.at_evict.proofs.of_folding.Places.{Below}
 use Rattle.at_evict.proofs.rerunning.rerun.Given as goal
 

@@ -1,5 +1,5 @@
 use Rattle.std.proofs.Common.{List, [], subst, sym, take_all}
-use Rattle.at_cache.specs.declared.run.Reach.{Reach}
+use Rattle.at_index.specs.declared.run.Reach.{Reach}
 use Rattle.at_evict.specs.Folding.{slots_at}
 use Rattle.at_cache.specs.Info.{memory_of}
 use Rattle.at_evict.specs.Rerunning.{AreRerun}

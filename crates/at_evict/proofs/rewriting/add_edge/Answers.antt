@@ -1,6 +1,7 @@
 use Rattle.std.proofs.Common.{Contains, List, subst}
-use Rattle.at_cache.specs.declared.row.Row.{Row}
-use Rattle.at_cache.specs.Rows.{edges_along}
+use Rattle.at_index.specs.declared.row.Row.{Row}
+use Rattle.at_index.specs.Rows.{edges_along}
+use Rattle.at_cache.specs.Putting.{is_current}
 use Rattle.at_evict.proofs.of_folding.Parting.{added_had, added_more}
 use Rattle.at_evict.proofs.rewriting.add_edge.Goals as goal
 
@@ -11,4 +12,4 @@ returns-then-has-clause-added c m kept slots is a =
 
 pub returns-clause-added : goal.returns-clause-added
 returns-clause-added c m kept slots is a =
-    added_more _ kept slots c.args.edge _ _ is (c.push_edge.ensures.lists m) c.in_ok-push_edge.ensures.has a
+    added_more _ kept slots c.args.edge _ _ is (c.push_edge.ensures.lists (is_current m)) c.in_ok-push_edge.ensures.has a

@@ -2,7 +2,7 @@ use Rattle.std.proofs.Common.{[], ◌++◌, ◌∷◌, OnOk, subst}
 use Rattle.at_evict.specs.Folding.{Added}
 use Rattle.at_cache.specs.Info.{memory_of}
 use Rattle.at_cache.specs.Putting.{is_current}
-use Rattle.at_cache.specs.Rows.{edges_along}
+use Rattle.at_index.specs.Rows.{edges_along}
 use Rattle.at_evict.proofs.rewriting.add_edge_into.Goals as goal
 
 pub returns-in-Some-clause-added : goal.returns-in-Some-clause-added

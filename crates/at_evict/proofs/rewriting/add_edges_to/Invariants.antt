@@ -2,7 +2,7 @@ use Rattle.std.proofs.Common.{◌≡◌, ℕ, List, length, take}
 use Rattle.at_evict.specs.Folding.{Added, AreLone}
 use Rattle.at_cache.specs.Info.{memory_of}
 use Rattle.at_cache.specs.Putting.{is_current}
-use Rattle.at_cache.specs.Rows.{edges_along}
+use Rattle.at_index.specs.Rows.{edges_along}
 use Rattle.at_evict.proofs.rewriting.add_edges_to.Given as goal
 
 abbrev pub invariant-loop-number : goal.invariant-loop-number

@@ -1,7 +1,6 @@
 use Rattle.std.proofs.Common.{◌∙◌, [], refl, sym}
 use Rattle.at_evict.specs.Folding.{slots_at}
 use Rattle.at_cache.specs.Info.{memory_of}
-use Rattle.at_cache.specs.Putting.{is_current}
 use Rattle.at_evict.proofs.of_folding.Single.{refolded_stale, refolded_to}
 use Rattle.at_evict.proofs.rewriting.edges_for.Goals as goal
 

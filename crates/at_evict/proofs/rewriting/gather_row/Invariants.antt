@@ -2,7 +2,7 @@ use Rattle.std.proofs.Common.{length}
 use Rattle.at_evict.specs.Folding.{slots_at}
 use Rattle.at_cache.specs.Info.{memory_of}
 use Rattle.at_cache.specs.Putting.{is_current}
-use Rattle.at_cache.specs.Rows.{edges_of}
+use Rattle.at_index.specs.Rows.{edges_of}
 use Rattle.at_evict.proofs.of_folding.Walking.{Behind}
 use Rattle.at_evict.proofs.rewriting.gather_row.Given as goal
 

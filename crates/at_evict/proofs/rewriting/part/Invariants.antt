@@ -1,7 +1,7 @@
 use Rattle.std.proofs.Common.{◌≡◌, ◌-◌, [], length}
 use Rattle.at_evict.specs.Folding.{slots_at}
 use Rattle.at_cache.specs.Info.{memory_of}
-use Rattle.at_cache.specs.Rows.{edges_along}
+use Rattle.at_index.specs.Rows.{edges_along}
 use Rattle.at_evict.proofs.of_folding.Parting.{PartedTo}
 use Rattle.at_evict.proofs.rewriting.part.Given as goal
 

@@ -3,7 +3,7 @@ use Rattle.std.proofs.lemmas.Option.{slice_get_read}
 use Rattle.at_evict.specs.Folding.{IsNodeRefolded, slots_at}
 use Rattle.at_cache.specs.Info.{memory_of}
 use Rattle.at_cache.specs.Putting.{is_current}
-use Rattle.at_cache.proofs.Gained.{get_other}
+use Rattle.at_index.proofs.Gained.{get_other}
 use Rattle.at_evict.proofs.of_folding.Nodes.{nodes_refolded}
 use Rattle.at_evict.proofs.of_folding.Places.{below_end, below_more, below_start, one_node}
 use Rattle.at_evict.proofs.rewriting.rewrite.Goals as goal

@@ -1,10 +1,10 @@
 use Rattle.std.proofs.Common.{◌≡◌, get_or, length-set, slice_set}
 use Rattle.smallvec.proofs.SmallVecLemmas.{items-with_items}
-use Rattle.at_cache.specs.declared.facet.Readers.{Readers}
+use Rattle.at_index.specs.declared.facet.Readers.{Readers}
 use Rattle.at_evict.specs.Folding.{slots_at}
 use Rattle.at_cache.specs.Info.{memory_of}
 use Rattle.at_cache.specs.Putting.{is_current}
-use Rattle.at_cache.proofs.Gained.{get_other}
+use Rattle.at_index.proofs.Gained.{get_other}
 use Rattle.at_evict.proofs.of_folding.Places.{one_place}
 use Rattle.at_evict.proofs.rewriting.rewrite_at.Goals as goal
 

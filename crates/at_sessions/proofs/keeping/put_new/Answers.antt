@@ -1,6 +1,6 @@
 use Rattle.std.proofs.Common.{◌∙◌, Contains, sym, subst, take_all}
 use Rattle.std.specs.Prelude.{IsSome}
-use Rattle.at_cache.proofs.Looked.{holds_next}
+use Rattle.at_index.proofs.Looked.{holds_next}
 use Rattle.at_sessions.proofs.keeping.put_new.Goals as goal
 
 pub loop-used-preserved : goal.loop-used-preserved

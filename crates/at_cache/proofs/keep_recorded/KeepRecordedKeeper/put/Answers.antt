@@ -3,7 +3,7 @@ use Rattle.at_model.specs.Run.{Instance}
 use Rattle.at_body.specs.Values.{value_view}
 use Rattle.at_store.specs.Located.{loc_view}
 use Rattle.at_cache.specs.declared.keep_recorded.KeepRecorded.{KeepRecorded}
-use Rattle.at_cache.specs.Finding.{edges_to}
+use Rattle.at_index.specs.Finding.{edges_to}
 use Rattle.at_cache.specs.Info.{Info, memory_of}
 use Rattle.at_cache.specs.Kept.{AreKept, Entries, Puts}
 use Rattle.at_cache.specs.Renewing.{IsAwaited, IsSlotFor}

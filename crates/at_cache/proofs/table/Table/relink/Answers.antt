@@ -1,6 +1,6 @@
 use Rattle.std.proofs.Common.{ap, option_map, refl, sym}
 use Rattle.slab.specs.Slab.{get}
-use Rattle.at_cache.specs.Edges.{edges_in}
+use Rattle.at_index.specs.Edges.{edges_in}
 use Rattle.at_cache.specs.Info.{info, memory_of}
 use Rattle.at_cache.specs.Slots.{relinked, with_rest}
 use Rattle.at_cache.proofs.Changing.{still, memory_changed, place_within, unwritten}

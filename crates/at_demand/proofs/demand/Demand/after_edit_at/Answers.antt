@@ -1,5 +1,5 @@
 use Rattle.std.proofs.Common.{ap}
-use Rattle.at_cache.specs.Kept.{Answers}
+use Rattle.at_index.specs.Asking.{Answers}
 use Rattle.at_demand.proofs.of_traces.Forgetting.{bounded, forgets}
 use Rattle.at_demand.proofs.demand.Demand.after_edit_at.Goals as goal
 

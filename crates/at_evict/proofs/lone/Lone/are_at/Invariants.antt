@@ -1,5 +1,5 @@
 use Rattle.std.proofs.Common.{ℕ, Bool, List, Contains, take}
-use Rattle.at_cache.specs.declared.edge.Edge.{Edge}
+use Rattle.at_index.specs.declared.edge.Edge.{Edge}
 use Rattle.at_evict.specs.Folding.{AreLone, Stays}
 use Rattle.at_evict.proofs.lone.Lone.are_at.Given as goal
 

@@ -1,5 +1,5 @@
 use Rattle.std.proofs.Common.{◌∙◌, ℕ, List, ap, refl, slice_get, sym}
-use Rattle.at_cache.proofs.Naming.{node_there}
+use Rattle.at_index.proofs.Lists.{node_there}
 use Rattle.at_evict.proofs.of_folding.Gathering.{lone_has}
 use Rattle.at_evict.proofs.lone.Lone.has.Goals as goal
 

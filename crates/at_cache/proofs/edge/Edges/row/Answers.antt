@@ -1,4 +1,0 @@
-use Rattle.at_cache.proofs.edge.Edges.row.Goals as goal
-
-pub returns-in-Few : goal.returns-in-Few
-returns-in-Few c = rw c.in-Few.is c.few.ensures

@@ -1,6 +1,0 @@
-use Rattle.std.proofs.Common.{◌≡◌, [], take}
-use Rattle.at_cache.specs.Rows.{edges_along}
-use Rattle.at_cache.proofs.edge.are_empty.Given as goal
-
-abbrev pub invariant-loop-row : goal.invariant-loop-row
-invariant-loop-row l = edges_along (take l.row-index l.rows) ≡ []

@@ -1,8 +1,0 @@
-use Rattle.std.proofs.Common.{refl}
-use Rattle.at_cache.specs.declared.facet.Readers.{Readers}
-use Rattle.at_cache.proofs.linking.add_facet.Goals as goal
-
-pub returns-clause-added : goal.returns-clause-added
-returns-clause-added c =
-    let r : Readers = record { facet = c.args.facet; edges = c.of.result } in
-    (r, rw c.in_ok-push.was at c.push.ensures.ok, refl, c.of.ensures)

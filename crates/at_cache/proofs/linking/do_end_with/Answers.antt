@@ -1,6 +1,0 @@
-use Rattle.std.proofs.Common.{sym}
-use Rattle.at_cache.proofs.RowLists.{along_has}
-use Rattle.at_cache.proofs.linking.do_end_with.Goals as goal
-
-pub returns-in-Some : goal.returns-in-Some
-returns-in-Some c h = along_has c.args.rows.now _ _ c.args.edge (sym c.in-Some.ensures.value) (c.ends_with.ensures h)

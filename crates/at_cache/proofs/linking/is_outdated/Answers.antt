@@ -1,6 +1,0 @@
-use Rattle.std.proofs.Common.{◌∙◌, [], sym}
-use Rattle.at_cache.proofs.RowLists.{keeps_rest}
-use Rattle.at_cache.proofs.linking.is_outdated.Goals as goal
-
-pub returns : goal.returns
-returns c _ = keeps_rest c.in-Some.only [] c.in-Some.ensures (sym c.tells_of.ensures ∙ c.if-tells_of.false)

@@ -1,6 +1,0 @@
-use Rattle.std.proofs.Common.{arith}
-use Rattle.at_cache.proofs.RowEdges.{alone}
-use Rattle.at_cache.proofs.row.Row.of.Goals as goal
-
-pub returns : goal.returns
-returns c = alone c.args.edge 0 (omega arith) (omega arith)

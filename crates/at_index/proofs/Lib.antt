@@ -1,0 +1,16 @@
+pub mod Lists
+pub mod Locations
+pub mod Looked
+pub mod Listed
+pub mod Listing
+pub mod OneEdge
+pub mod Added
+pub mod Gained
+pub mod Beginning
+pub mod Noted
+pub mod RowEdges
+pub mod RowLists
+pub mod Replaced
+pub mod SameRows
+pub mod NoRows
+pub mod of_runs

@@ -1,0 +1,6 @@
+use Rattle.std.proofs.Common.{arith}
+use Rattle.at_index.proofs.RowEdges.{alone}
+use Rattle.at_index.proofs.edge.Edges.of.Goals as goal
+
+pub returns : goal.returns
+returns c = alone c.args.edge 0 (omega arith) (omega arith)

@@ -1,0 +1,5 @@
+use Rattle.std.proofs.Common.{◌≡◌, ◌∷◌, [], IfSome, subst}
+use Rattle.at_index.proofs.edge.Edges.only.Goals as goal
+
+pub returns-in-Some : goal.returns-in-Some
+returns-in-Some c = subst (λ es. IfSome c.only.result (λ edge. es ≡ edge ∷ [])) c.in-Some.ensures c.only.ensures

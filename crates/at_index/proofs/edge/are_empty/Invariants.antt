@@ -1,0 +1,6 @@
+use Rattle.std.proofs.Common.{◌≡◌, [], take}
+use Rattle.at_index.specs.Rows.{edges_along}
+use Rattle.at_index.proofs.edge.are_empty.Given as goal
+
+abbrev pub invariant-loop-row : goal.invariant-loop-row
+invariant-loop-row l = edges_along (take l.row-index l.rows) ≡ []

@@ -1,0 +1,8 @@
+use Rattle.std.proofs.Common.{refl}
+use Rattle.at_index.specs.declared.facet.Readers.{Readers}
+use Rattle.at_index.proofs.linking.add_facet.Goals as goal
+
+pub returns-clause-added : goal.returns-clause-added
+returns-clause-added c =
+    let r : Readers = record { facet = c.args.facet; edges = c.of.result } in
+    (r, rw c.in_ok-push.was at c.push.ensures.ok, refl, c.of.ensures)

@@ -1,0 +1,10 @@
+use Rattle.std.proofs.Common.{◌-◌, length}
+use Rattle.at_index.specs.Linking.{Keeps}
+use Rattle.at_index.specs.Rows.{edges_along}
+use Rattle.at_index.proofs.linking.purge.Given as goal
+
+abbrev pub invariant-loop-place : goal.invariant-loop-place
+invariant-loop-place g l = Keeps (g.T.Tells.tells l.teller) (edges_along l.initial.rows.items) (edges_along l.rows.items)
+
+abbrev pub decreases-loop-place : goal.decreases-loop-place
+decreases-loop-place g l = length l.rows.items - l.place

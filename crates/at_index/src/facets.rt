@@ -1,0 +1,31 @@
+//! Which facet stands for those at the front of locations.
+
+ghost use Rattle.std.specs.Prelude.{◌∷◌, IfOk, map};
+ghost use Rattle.at_store.specs.Located.{loc_view};
+ghost use Rattle.at_index.specs.Sameness.{node_at};
+ghost use Rattle.at_index.specs.Readers.{IsFirst};
+
+use crate::facet::Facet;
+use at_store::Loc;
+use std::alloc::AllocError;
+
+/// The facet of the location and of all of its node behind it for which there is one; with what is left of the others.
+#[inline(always)]
+pub fn first_facet(location: Loc, others: &[Loc]) -> Result<(Facet, &[Loc]), AllocError>
+    ensures { IfOk result (λ r. IsFirst (loc_view location ∷ map loc_view others.now) (node_at (loc_view location)) r.0 (map loc_view r.1.now)) }
+{
+    let node = location.node();
+    let mut facet = Facet::of(location)?;
+    let mut rest = others;
+    while let Some((next, left)) = rest.split_first() {
+        if next.node() != node {
+            return Ok((facet, rest));
+        }
+        let Some(wider) = facet.with(Facet::of(*next)?) else {
+            return Ok((facet, rest));
+        };
+        facet = wider;
+        rest = left;
+    }
+    Ok((facet, rest))
+}

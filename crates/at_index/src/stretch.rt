@@ -1,0 +1,240 @@
+//! One edge for locations that are looked at as they were before.
+
+ghost use Rattle.std.specs.Prelude.{◌≡◌, ◌≤◌, ◌<◌, ◌^◌, ℕ, false, true, Some, Contains, IfOk, IsTrue, OnOk, length, map};
+ghost use Rattle.at_store.specs.Located.{loc_view};
+ghost use Rattle.at_index.specs.declared.run.Seat.{Seat};
+ghost use Rattle.at_index.specs.Runs.{Adds, AddsReads, AreApart, ArePast, AreSeated, Follows, Gains, HoldsReach, ListsBut, Lose, SitsAt, count_of, edges_on, edges_over, is_within};
+
+use crate::edge::Edge;
+use crate::facet::Facet;
+use crate::facets::first_facet;
+use crate::run::{Reach, Run, Seat};
+use crate::seating::{first_seat, is_live, seat_of, sit_all, sit_anew};
+use crate::tells::Tells;
+use at_store::{Loc, Node};
+use std::alloc::{AllocError, Global};
+
+// Fewer places get an edge for each of their locations.
+const FEW: u32 = 4;
+
+/// Fewer locations are no fold.
+pub const MANY: usize = 8;
+
+// One of a fold's first two elements is looked at behind fewer locations.
+const FRONT: usize = 6;
+
+// The node whose class is looked at first, where nothing but that and texts of it are looked at before another one's class: so does a fold.
+fn first_element(locations: &[Loc]) -> Option<Node> {
+    let (Loc::Is(node), others) = locations.split_first()? else {
+        return None;
+    };
+    for location in others {
+        match location {
+            Loc::Is(other) => {
+                if *other != *node {
+                    return Some(*node);
+                }
+            }
+            Loc::Tok(_, _) => {}
+            _ => return None,
+        }
+    }
+    None
+}
+
+/// How many locations were looked at before a fold's, or before those of its second element where that sits in a run and the first one
+/// doesn't; all where there is no fold.
+pub fn before_fold(seats: &[Seat], locations: &[Loc]) -> usize
+    ensures { result ≤ length locations.now }
+{
+    let mut first = locations.len();
+    let mut rest = locations;
+    for place in 0..FRONT {
+        if let Some(node) = first_element(rest) {
+            if seat_of(seats, node).place > 0 {
+                return place;
+            }
+            first = first.min(place);
+        }
+        let Some((_, others)) = rest.split_first() else {
+            return first;
+        };
+        rest = others;
+    }
+    first
+}
+
+// Whether the node sits in that place of the run, and that is looked at there.
+fn is_at(seats: &[Seat], run: u32, place: u32, node: Node, facet: Facet) -> bool
+    ensures { IsTrue result → SitsAt seats.now run place node facet }
+{
+    if place == 0 || facet.is_index() {
+        return false;
+    }
+    let seat = seat_of(seats, node);
+    seat.run == run && seat.place == place && seat.facet == facet
+}
+
+// Up to which place of the run the locations go on behind that one, and what is left of them.
+fn follow<'a>(
+    seats: &[Seat],
+    run: u32,
+    behind: u32,
+    locations: &'a [Loc],
+) -> Result<(u32, &'a [Loc]), AllocError>
+    requires { AreApart seats.now }
+    ensures follows { IfOk result (λ r. Follows seats.now run behind r.0 (map loc_view locations.now) (map loc_view r.1.now)) }
+{
+    let mut last = behind;
+    let mut rest = locations;
+    while let Some((location, others)) = rest.split_first() {
+        let (facet, left) = first_facet(*location, others)?;
+        let Some(place) = last.checked_add(1) else {
+            return Ok((last, rest));
+        };
+        if !is_at(seats, run, place, location.node(), facet) {
+            return Ok((last, rest));
+        }
+        last = place;
+        rest = left;
+    }
+    Ok((last, rest))
+}
+
+// The edges that tell of nothing go.
+fn purge<T: Tells>(teller: &T, edge: Edge, edges: &mut Vec<Reach>)
+    ensures { HoldsReach (T.tells teller.now) edge edges.old.items edges.new.items }
+{
+    let mut place = 0;
+    while place < edges.len() {
+        if is_live(teller, edge, &edges[place]) {
+            place += 1;
+        } else {
+            edges.swap_remove(place);
+        }
+    }
+}
+
+// Makes room for one more edge of a list that is full: it loses those that tell of nothing first, and gets more room only where half of
+// it or less is left then.
+fn make_room<T: Tells>(teller: &T, edge: Edge, edges: &mut Vec<Reach>) -> Result<(), AllocError>
+    ensures { HoldsReach (T.tells teller.now) edge edges.old.items edges.new.items }
+{
+    if edges.len() < edges.capacity() {
+        return Ok(());
+    }
+    purge(teller, edge, edges);
+    let count = edges.len();
+    if count >= edges.capacity() / 2 {
+        edges.reserve(count)?;
+    }
+    Ok(())
+}
+
+// One more edge of a list.
+fn add_to<T: Tells>(teller: &T, edges: &mut Vec<Reach>, reach: Reach) -> Result<(), AllocError>
+    ensures gains { Gains (T.tells teller.now) reach edges.old.items edges.new.items }
+    ensures has { OnOk result (Contains edges.new.items reach) }
+{
+    make_room(teller, reach.edge, edges)?;
+    edges.push(reach)?;
+    Ok(())
+}
+
+// One more edge of a run.
+fn add_reach<T: Tells>(
+    teller: &T,
+    runs: &mut Vec<Run>,
+    run: u32,
+    reach: Reach,
+) -> Result<(), AllocError>
+    requires { run < length runs.old.items }
+    ensures adds { Adds (T.tells teller.now) reach.edge (is_within run reach.behind reach.last) (edges_on runs.old.items) (edges_on runs.new.items) }
+    ensures has { OnOk result ((s : Seat) → is_within run reach.behind reach.last s ≡ true → Contains (edges_on runs.new.items s) reach.edge) }
+    ensures given { (k : ℕ) → count_of runs.new.items k ≡ count_of runs.old.items k }
+    ensures past { reach.last ≤ count_of runs.old.items run → ArePast runs.old.items → ArePast runs.new.items }
+{
+    let found = &mut runs[run as usize];
+    add_to(teller, &mut found.edges, reach)
+}
+
+// How the run goes on behind its last place.
+fn lengthen<T: Tells>(
+    teller: &T,
+    edge: Edge,
+    seats: &mut Vec<Seat>,
+    runs: &mut Vec<Run>,
+    run: u32,
+    last: u32,
+    left: &[Loc],
+) -> Result<(), AllocError>
+    requires { AreSeated seats.old.items runs.old.items }
+    ensures seated { AreSeated seats.new.items runs.new.items }
+    ensures holds { Lose (T.tells teller.now) edge (edges_over seats.old.items runs.old.items) (edges_over seats.new.items runs.new.items) }
+    ensures short { length seats.old.items ≤ 2 ^ 32 → length seats.new.items ≤ 2 ^ 32 }
+{
+    match runs.get(run as usize) {
+        Some(known) => {
+            if known.count != last {
+                return Ok(());
+            }
+        }
+        None => {
+            return Ok(());
+        }
+    }
+    sit_all(teller, edge, seats, runs, run, left)
+}
+
+/// One edge for those at the front of the locations that sit one behind the other in a run; what is left of them, all where they don't.
+pub fn add_along<'a, T: Tells>(
+    teller: &T,
+    seats: &mut Vec<Seat>,
+    runs: &mut Vec<Run>,
+    locations: &'a [Loc],
+    edge: Edge,
+) -> Result<&'a [Loc], AllocError>
+    requires { AreSeated seats.old.items runs.old.items }
+    ensures seated { AreSeated seats.new.items runs.new.items }
+    ensures adds { AddsReads (T.tells teller.now) edge (map loc_view locations.now) (edges_over seats.old.items runs.old.items)
+        (edges_over seats.new.items runs.new.items) }
+    ensures listed { IfOk result (λ left. ListsBut edge (map loc_view locations.now) (map loc_view left.now) (edges_over seats.new.items runs.new.items)) }
+    ensures short { length seats.old.items ≤ 2 ^ 32 → length seats.new.items ≤ 2 ^ 32 }
+{
+    let seat = first_seat(seats.as_slice(), locations);
+    let run = seat.run;
+    let Some(behind) = seat.place.checked_sub(1) else {
+        return Ok(locations);
+    };
+    let (last, left) = follow(seats.as_slice(), run, behind, locations)?;
+    if last - behind < FEW {
+        return Ok(locations);
+    }
+    add_reach(teller, runs, run, Reach { edge, behind, last })?;
+    lengthen(teller, edge, seats, runs, run, last, left)?;
+    Ok(left)
+}
+
+/// The same, where they come to sit so if they don't yet.
+pub fn add_stretch<'a, T: Tells>(
+    alloc: Global,
+    teller: &T,
+    seats: &mut Vec<Seat>,
+    runs: &mut Vec<Run>,
+    locations: &'a [Loc],
+    edge: Edge,
+) -> Result<&'a [Loc], AllocError>
+    requires { AreSeated seats.old.items runs.old.items }
+    ensures seated { AreSeated seats.new.items runs.new.items }
+    ensures adds { AddsReads (T.tells teller.now) edge (map loc_view locations.now) (edges_over seats.old.items runs.old.items)
+        (edges_over seats.new.items runs.new.items) }
+    ensures listed { IfOk result (λ left. ListsBut edge (map loc_view locations.now) (map loc_view left.now) (edges_over seats.new.items runs.new.items)) }
+    ensures short { length seats.old.items ≤ 2 ^ 32 → length seats.new.items ≤ 2 ^ 32 }
+{
+    let left = add_along(teller, seats, runs, locations, edge)?;
+    if left.len() < locations.len() || left.is_empty() {
+        return Ok(left);
+    }
+    sit_anew(alloc, teller, edge, seats, runs, locations)?;
+    add_along(teller, seats, runs, locations, edge)
+}
