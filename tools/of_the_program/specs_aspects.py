@@ -5,10 +5,12 @@ from pathlib import Path
 from typing import Dict, Iterator, List, NamedTuple, Optional, Sequence, Tuple, Union
 
 from tools.of_the_program.specs_grammar import ANY, Grammar
-from tools.of_the_program.specs_reading import Aspects, Declared, Equation, Parameter, Statement
+from tools.of_the_program.specs_reading import Aspects, Declared, Equation, Expr, Parameter, Return, Statement
 from tools.of_the_program.specs_trees import Node
 
 EVERY = "ASTNode"
+# What is passed to an attribute of no node, by the kind of the parameter; a class has nothing.
+WRITTEN = {"int": 0, "boolean": False, "String": ""}
 
 
 class Given(NamedTuple):
@@ -32,6 +34,9 @@ class Specification:
         for text in aspects:
             for it in Aspects(text).file():
                 self.add(it)
+        for it in list(self.declared.values()):
+            if it.of == EVERY and it.sort == "inh":
+                self.add_at_start(it)
         self.names = frozenset(name for _, name in self.declared)
         self.found: Dict[Tuple[str, str], Optional[Declared]] = {}
 
@@ -43,6 +48,13 @@ class Specification:
             self.places[said.of, said.component, said.name] = said
         if said.body is not None and not (isinstance(said, Equation) and said.component):
             self.bodies[said.of, said.name] = (said.parameters, said.body)
+
+    def add_at_start(self, said: Declared) -> None:
+        """What is inherited by all classes is asked of no node in the start class, unless a class of its line declares it itself."""
+        if not any((kind, said.name) in self.declared for kind in self.grammar.classes if self.is_at_start(kind)):
+            passed = [Expr("literal", literal=WRITTEN.get(it.kind)) for it in said.parameters]
+            body = Return(Expr("call", (Expr("literal"), *passed), said.name))
+            self.add(Declared("syn", self.grammar.start, said.name, said.parameters, None, body))
 
     def line(self, kind: str) -> List[str]:
         """The class and those above it, with what is declared for all classes behind them."""

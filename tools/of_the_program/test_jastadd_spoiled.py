@@ -2,6 +2,7 @@
 import os
 import random
 import re
+import sys
 from typing import Dict, List, Sequence
 
 from tools.of_the_program.jastadd_reading import fault_of
@@ -10,7 +11,7 @@ from tools.of_the_program.runs import ProgramTest, ended
 GRAMMAR = "Program ::= Block;\nabstract Stmt;\nBlock : Stmt ::= Stmt*;\nDecl : Stmt ::= <ID>;\n"
 TREE = 'Program(Block([Decl("x")]))\n'
 WORDS = ["--forms", "jastadd", "x.ast", "x.txt", "x.jrag"]
-# How many spoiled files there are of each form; the variables give others.
+# How many spoiled files there are of each form; the variables give others. With ATTRD_SPOILED_TOLD what was refused is told of each form.
 FILES, SEED = 30, 1414
 # How many of them have to be refused by their reading, and which codes are told of some.
 FEWEST, CODES = 10, ("J1", "J10", "J4")
@@ -27,6 +28,14 @@ FORMS: Dict[str, str] = {
     "a circular attribute": "aspect A { syn boolean Stmt.a() circular [true] = a(); syn lazy boolean Decl.b() circular [false]; "
                             "eq Decl.b() { return b(); } }",
     "an equation": "aspect A { syn int Stmt.a() = 1; eq Block.a() = getNumStmt(); eq Decl.a() { return getID().equals(\"x\") ? 2 : 3; } }",
+    "parameters of numbers": "aspect A { int Block.a(int i, final boolean b) { return b ? i : a(i + 1, !b); } "
+                             "syn lazy boolean Decl.b(boolean t, int n, String s, Stmt u) = t || n < 3; }",
+    "attributes of all classes": "aspect A { inh Program ASTNode.a(); eq Program.getChild().a() = this; "
+                                 "public int ASTNode.b(int n) { return n + 1; } eq Decl.b(int m) = m; "
+                                 "syn lazy String ASTNode.c() = a().c(); }",
+    "a name of two attributes": "aspect A { syn int Block.a() = 1; inh lazy int Decl.a(); eq Block.getStmt(int i).a() { return i; } }",
+    "short names of lists": "aspect A { int Block.a() { return sum (s : getStmts()) { 1 }; } "
+                            "boolean Block.b() { for (Stmt s : this.getStmts()) if (s == null) return true; return false; } }",
     "a method": "aspect A { int Stmt.a(String n) { return 1; } public boolean Block.b(Stmt s, final String t) { return s == this; } }",
     "a declaration again": "aspect A { syn lazy Stmt Stmt.a(String n) = null; public Block Block.a(String m) { return this; } "
                            "syn Decl Decl.a(String n); }",
@@ -83,11 +92,12 @@ def without_statement(tokens: Sequence[str], chance: random.Random) -> List[str]
 
 
 def spoiled(tokens: Sequence[str], chance: random.Random) -> List[str]:
-    """The tokens, spoiled once to three times."""
+    """The tokens, spoiled once to three times, and others than they were."""
     found = list(tokens)
-    for _ in range(chance.choice((1, 1, 2, 3))):
-        way = without_statement if "return" in found and chance.random() < 0.2 else spoiled_once
-        found = way(found, chance) or ["aspect"]
+    while found == tokens:
+        for _ in range(chance.choice((1, 1, 2, 3))):
+            way = without_statement if "return" in found and chance.random() < 0.2 else spoiled_once
+            found = way(found, chance) or ["aspect"]
     return found
 
 
@@ -135,7 +145,11 @@ class Spoiled(ProgramTest):
     def test_spoiled_files_are_told_as_read(self) -> None:
         codes = {form: self.codes_of(form, text) for form, text in FORMS.items()}
         for form, told in codes.items():
-            self.assertGreaterEqual(sum(map(bool, told)), FEWEST * self.count // FILES, f"so few files of {form} are refused")
+            refused = sum(map(bool, told))
+            if os.environ.get("ATTRD_SPOILED_TOLD"):
+                print(f"{form}: {len(told)} spoiled, {refused} refused by their reading", file=sys.stderr)
+            self.assertEqual(len(told), self.count, f"files of {form} differ")
+            self.assertGreaterEqual(refused, FEWEST * self.count // FILES, f"so few files of {form} are refused")
         self.assertLessEqual(set(CODES), {it for told in codes.values() for it in told})
 
     def codes_of(self, form: str, text: str) -> List[str]:
