@@ -18,3 +18,4 @@ pub mod Blocks
 pub mod Rewritten
 pub mod Small
 pub mod Resolved
+pub mod InMaps

@@ -14,6 +14,7 @@ pub mod Rewriting
 pub mod Declarations
 pub mod Seen
 pub mod Aliases
+pub mod Noted
 pub mod Files
 pub mod Naming
 pub mod Found

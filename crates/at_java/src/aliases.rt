@@ -1,12 +1,15 @@
 //! Other names of accessors: a name before `()` is read as the one that it stands for.
 
-ghost use Rattle.std.specs.Prelude.{◌≡◌, length, option_map};
+ghost use Rattle.std.specs.Prelude.{◌≡◌, List, length, IfOk, OnOk};
 ghost use Rattle.at_text.specs.Symbols.{placed};
 ghost use Rattle.at_text.specs.Rows.{left};
-ghost use Rattle.at_java.specs.Aliases.{meant_by, opens_and_closes, resolved, resolved_row, resolved_token};
+ghost use Rattle.at_java.specs.Aliases.{Alias, opens_and_closes, resolved, resolved_row, resolved_token};
+ghost use Rattle.at_java.specs.Noted.{AreNoted};
 
 use at_text::cursor::is_sign;
 use at_text::placed::Placed;
+use indexmap::IndexMap;
+use std::alloc::{AllocError, Global};
 use std::marker::Model;
 
 /// Another name of an accessor that takes no arguments, and the name that it stands for.
@@ -27,7 +30,6 @@ impl Model for Alias {
 
 impl Alias {
     ghost use Rattle.std.specs.Prelude.{◌≡◌, string_bytes};
-    ghost use Rattle.std.specs.Str.{bytes_eq};
 
     /// The first name stands for the second one.
     pub fn new(name: String, meant: String) -> Alias
@@ -43,35 +45,34 @@ impl Alias {
         self.name.as_str()
     }
 
-    /// Whether it is an alias of that name. Most have another length, which is seen at once.
-    fn is_named(&self, name: &str) -> bool
-        ensures { result ≡ bytes_eq self.now.name name.now }
+    /// The name that it stands for.
+    fn meant(&self) -> &str
+        ensures { result.now ≡ self.now.meant }
     {
-        if self.name.len() != name.len() {
-            return false;
-        }
-        self.name.as_str() == name
+        self.meant.as_str()
     }
 }
 
-/// What the first alias of that name stands for.
-fn meant_by<'a>(aliases: &'a [Alias], name: &str) -> Option<&'a str>
-    ensures { option_map (λ m. m.now) result ≡ meant_by aliases.now name.now }
+/// For each name what its first alias stands for. They are noted from the last to the first, which comes in the place of those behind it.
+fn noted<'a>(alloc: Global, aliases: &'a [Alias]) -> Result<IndexMap<&'a str, &'a str>, AllocError>
+    ensures { IfOk result (AreNoted aliases.now) }
 {
-    for alias in aliases {
-        if alias.is_named(name) {
-            return Some(alias.meant.as_str());
-        }
+    let mut names = IndexMap::new(alloc);
+    let mut left = aliases.len();
+    while left > 0 {
+        left -= 1;
+        let alias = &aliases[left];
+        names.insert(alias.name(), alias.meant())?;
     }
-    None
+    Ok(names)
 }
 
 /// What the name is read as.
-fn resolved<'a>(aliases: &'a [Alias], name: &'a str) -> &'a str
-    ensures { result.now ≡ resolved aliases.now name.now }
+fn resolved<'a>(names: &IndexMap<&'a str, &'a str>, name: &'a str) -> &'a str
+    ensures { (aliases : List Alias) → AreNoted aliases names.now → result.now ≡ resolved aliases name.now }
 {
-    match meant_by(aliases, name) {
-        Some(meant) => meant,
+    match names.get(name) {
+        Some(meant) => *meant,
         None => name,
     }
 }
@@ -87,26 +88,44 @@ fn opens_and_closes(next: &[Placed<'_>]) -> bool
 }
 
 /// The token as it is read in front of these.
-fn resolved_token<'a>(token: &Placed<'a>, next: &[Placed<'a>], aliases: &'a [Alias]) -> Placed<'a>
-    ensures { placed result ≡ resolved_token aliases.now (placed token.now) (left next.now) }
+fn resolved_token<'a>(
+    token: &Placed<'a>,
+    next: &[Placed<'a>],
+    names: &IndexMap<&'a str, &'a str>,
+) -> Placed<'a>
+    ensures { (aliases : List Alias) → AreNoted aliases names.now → placed result ≡ resolved_token aliases (placed token.now) (left next.now) }
 {
     if !opens_and_closes(next) {
         return *token;
     }
     Placed {
         kind: token.kind,
-        text: resolved(aliases, token.text),
+        text: resolved(names, token.text),
         at: token.at,
     }
 }
 
-/// Has each name before `()` read as the one that it stands for, at its place.
-pub fn resolve<'a>(tokens: &mut [Placed<'a>], aliases: &'a [Alias])
+/// Has each name before `()` read as what is noted of it, at its place.
+fn resolve_by<'a>(tokens: &mut [Placed<'a>], names: &IndexMap<&'a str, &'a str>)
     ensures len { length tokens.new ≡ length tokens.old }
-    ensures meant { left tokens.new ≡ resolved_row aliases.now (left tokens.old) }
+    ensures meant { (aliases : List Alias) → AreNoted aliases names.now → left tokens.new ≡ resolved_row aliases (left tokens.old) }
 {
     for i in 0..tokens.len() {
-        let token = resolved_token(&tokens[i], &tokens[i + 1..], aliases);
+        let token = resolved_token(&tokens[i], &tokens[i + 1..], names);
         tokens[i] = token;
     }
+}
+
+/// Has each name before `()` read as the one that it stands for, at its place.
+pub fn resolve<'a>(
+    alloc: Global,
+    tokens: &mut [Placed<'a>],
+    aliases: &'a [Alias],
+) -> Result<(), AllocError>
+    ensures len { length tokens.new ≡ length tokens.old }
+    ensures meant { OnOk result (left tokens.new ≡ resolved_row aliases.now (left tokens.old)) }
+{
+    let names = noted(alloc, aliases)?;
+    resolve_by(tokens, &names);
+    Ok(())
 }

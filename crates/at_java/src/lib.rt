@@ -4,9 +4,9 @@
 //! **Its specs:** `Read` is what a reader takes of a row of tokens, and `Tokens`, `Next` and `Items` what several forms share;
 //! `Operands`, `Operators` and `Expressions`, `Kinds`, `Statements` and `Declarations` say of each form what is read, by recursive
 //! descent; `Written` is a body as it is written, and `Rewriting` the expression that it means, over `Naming`, which counts forms and
-//! puts expressions in the place of names; `Aliases` are names that stand for those of accessors; `Files` is the whole: the aspects
-//! of a text, or its fault. `View`, `OperatorView`, `Seen`, `Found`, `Searching` and `Rests` are what the program's values stand for,
-//! and `Refusals` says that a result of rewriting is what is meant, or its refusal.
+//! puts expressions in the place of names; `Aliases` are names that stand for those of accessors, `Noted` these in a map; `Files` is
+//! the whole: the aspects of a text, or its fault. `View`, `OperatorView`, `Seen`, `Found`, `Searching` and `Rests` are what the
+//! program's values stand for, and `Refusals` says that a result of rewriting is what is meant, or its refusal.
 //!
 //! **Where to begin:** `parse_java`, below, and `reader.rt`.
 //!
@@ -130,7 +130,7 @@ pub fn parse_java<'a>(
         Err(fault) => return Err(scan_fault(text, fault)),
     };
     let mut tokens = place_all(alloc, text, &tokens)?;
-    resolve(&mut tokens, aliases);
+    resolve(alloc, &mut tokens, aliases)?;
     let mut reader = Reader::new(alloc, &tokens);
     match reader.file() {
         Ok(aspects) => Ok(aspects),

@@ -17,7 +17,7 @@ returns-in-Ok-file-clause-found c =
     let has = has_tokens c.args.text.now l.0 _ _ l.1 l.2 placing in
     let all = c.in_ok-tokens.tokens in
     let whole = with_items_is all c.resolve.new.tokens (c.resolve.ensures.len ∙ ap length c.deref_mut.ensures.value ∙ sym all.ok.0) in
-    let read = read_as_meant c.args.aliases.now (c.new-reader.ensures ∙ c.deref-2.ensures.value ∙ whole) c.resolve.ensures.meant c.deref_mut.ensures.value in
+    let read = read_as_meant c.args.aliases.now (c.new-reader.ensures ∙ c.deref-2.ensures.value ∙ whole) c.in_ok-resolve.ensures.meant c.deref_mut.ensures.value in
     held c.args.aliases.now c.args.text.now _ _ has read _ _ c.in-Ok-file.ensures.found c.in-Ok-file.ensures.end
 
 pub returns-in-Ok-file-clause-only : goal.returns-in-Ok-file-clause-only
@@ -27,7 +27,7 @@ returns-in-Ok-file-clause-only c = λ ts given.
     let has = has_tokens c.args.text.now l.0 _ _ l.1 l.2 placing in
     let all = c.in_ok-tokens.tokens in
     let whole = with_items_is all c.resolve.new.tokens (c.resolve.ensures.len ∙ ap length c.deref_mut.ensures.value ∙ sym all.ok.0) in
-    let read = read_as_meant c.args.aliases.now (c.new-reader.ensures ∙ c.deref-2.ensures.value ∙ whole) c.resolve.ensures.meant c.deref_mut.ensures.value in
+    let read = read_as_meant c.args.aliases.now (c.new-reader.ensures ∙ c.deref-2.ensures.value ∙ whole) c.in_ok-resolve.ensures.meant c.deref_mut.ensures.value in
     held_only c.args.aliases.now c.args.text.now _ _ has read ts _ _ given c.in-Ok-file.ensures.found c.in-Ok-file.ensures.end
 
 -- ---- what is refused
@@ -39,7 +39,7 @@ returns-in-Err-For-clause-fault c =
     let has = has_tokens c.args.text.now l.0 _ _ l.1 l.2 placing in
     let all = c.in_ok-tokens.tokens in
     let whole = with_items_is all c.resolve.new.tokens (c.resolve.ensures.len ∙ ap length c.deref_mut.ensures.value ∙ sym all.ok.0) in
-    let read = read_as_meant c.args.aliases.now (c.new-reader.ensures ∙ c.deref-2.ensures.value ∙ whole) c.resolve.ensures.meant c.deref_mut.ensures.value in
+    let read = read_as_meant c.args.aliases.now (c.new-reader.ensures ∙ c.deref-2.ensures.value ∙ whole) c.in_ok-resolve.ensures.meant c.deref_mut.ensures.value in
     let f = rw c.in-Err-For.field-0-is at c.in-Err-For.ensures.fault in
     fault_read c.args.aliases.now c.args.text.now _ _ has read c.breached.result (c.breached.ensures (aspects_in (left c.new-reader.result.cursor.rest.now)) f)
 
@@ -50,7 +50,7 @@ returns-in-Err-For-clause-only c = λ ts given.
     let has = has_tokens c.args.text.now l.0 _ _ l.1 l.2 placing in
     let all = c.in_ok-tokens.tokens in
     let whole = with_items_is all c.resolve.new.tokens (c.resolve.ensures.len ∙ ap length c.deref_mut.ensures.value ∙ sym all.ok.0) in
-    let read = read_as_meant c.args.aliases.now (c.new-reader.ensures ∙ c.deref-2.ensures.value ∙ whole) c.resolve.ensures.meant c.deref_mut.ensures.value in
+    let read = read_as_meant c.args.aliases.now (c.new-reader.ensures ∙ c.deref-2.ensures.value ∙ whole) c.in_ok-resolve.ensures.meant c.deref_mut.ensures.value in
     let f = rw c.in-Err-For.field-0-is at c.in-Err-For.ensures.fault in
     fault_only c.args.aliases.now c.args.text.now _ _ has read ts c.breached.result given (c.breached.ensures (aspects_in (left c.new-reader.result.cursor.rest.now)) f)
 
