@@ -36,7 +36,7 @@ module _ {S : Type 0} (aliases : List Alias) where
   pub one_noted : (i n : ℕ) (a : Alias) (key meant : Text) (old new : IndexMap Text Text S)
       → i < length aliases → n ≡ i + 1 → a ≡ get_or aliases i a → key.now ≡ a.name → meant.now ≡ a.meant
       → ((q : Text) → get_by (λ k. bytes_eq q.now k.now) new
-          ≡ cond (bytes_eq key.now q.now) (Some meant) (get_by (λ k. bytes_eq q.now k.now) old))
+      ≡ cond (bytes_eq key.now q.now) (Some meant) (get_by (λ k. bytes_eq q.now k.now) old))
       → AreNoted (drop n aliases) old → AreNoted (drop i aliases) new
   one_noted i n a key meant old new less next is named means updates known = λ name.
       let before = get_by (λ (k : Text). bytes_eq name k.now) old in
@@ -44,4 +44,4 @@ module _ {S : Type 0} (aliases : List Alias) where
       ∙ ap (λ t. told (cond (bytes_eq t name) (Some meant) before)) named
       ∙ chosen (bytes_eq a.name name) a (drop n aliases) name meant before means (known name)
       ∙ ap (λ (xs : List Alias). meant_by xs name)
-          (sym (drop-cons aliases i a less ∙ ap₂ (λ x k. x ∷ drop k aliases) (sym is) (sym (add-one i) ∙ sym next)))
+      (sym (drop-cons aliases i a less ∙ ap₂ (λ x k. x ∷ drop k aliases) (sym is) (sym (add-one i) ∙ sym next)))

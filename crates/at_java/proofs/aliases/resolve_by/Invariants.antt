@@ -8,4 +8,4 @@ use Rattle.at_java.proofs.aliases.resolve_by.Given as goal
 abbrev pub invariant-loop-i : goal.invariant-loop-i
 invariant-loop-i l = (length l.tokens ≡ length l.fn.tokens)
     × ((aliases : List Alias) → AreNoted aliases l.names
-        → resolved_to aliases l.i l.tokens ≡ resolved_row aliases (left l.fn.tokens))
+    → resolved_to aliases l.i l.tokens ≡ resolved_row aliases (left l.fn.tokens))
