@@ -4,7 +4,7 @@ from __future__ import annotations
 from pathlib import Path
 from typing import Any, Dict, List, Optional
 
-from attrd.authoring import Finding, Meaning, Place, completions
+from attrd.authoring import Finding, Meaning, Place, Specification, completions
 from attrd.authoring.aspect_tree import Declaration
 from attrd_lsp.positions import Span, Text
 
@@ -90,12 +90,15 @@ def symbols(folder: Folder, path: Path) -> List[Json]:
     if path.suffix == ".ast":
         return [_symbol(text, it.name.text, "class", it.name.at, it.name.end) for it in specification.whole.declared]
     own = [it.declaration for it in specification.declarations if it.file == str(path) and it.declaration.name is not None]
-    return [_symbol(text, _head(it), it.form, it.start, it.end) for it in own]
+    return [_symbol(text, _head(it, specification), it.form, it.start, it.end) for it in own]
 
 
-def _head(it: Declaration) -> str:
-    getter = "" if it.getter is None else f"{it.getter.text}()."
-    return f"{'' if it.of is None else it.of.text}.{getter}{'' if it.name is None else it.name.text}"
+def _head(it: Declaration, specification: Specification) -> str:
+    """What a declaration is for; with the kinds of its parameters where others of its name have other numbers of them."""
+    getter, name = "" if it.getter is None else f"{it.getter.text}().", "" if it.name is None else it.name.text
+    kinds = [binding.kind.text for binding in it.parameters if binding.kind is not None]
+    behind = f"({', '.join(kinds)})" if specification.overloads(name) else ""
+    return f"{'' if it.of is None else it.of.text}.{getter}{name}{behind}"
 
 
 def _symbol(text: Text, name: str, form: str, start: int, end: int) -> Json:

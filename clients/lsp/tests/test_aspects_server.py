@@ -192,6 +192,17 @@ class OfStatements(unittest.TestCase):
         self.assertEqual(self.lines("definition", "names.jrag", "lookupBehind(name);"), ["names.jrag:34 lookupBehind"])
         self.assertEqual(self.lines("references", "names.jrag", "p : get"), ["names.jrag:24 p", "names.jrag:25 p", "names.jrag:25 p"])
 
+    def test_attributes_that_are_overloaded(self) -> None:
+        self.client.change("names.jrag", "aspect", "aspect Two {\n  syn int Function.two() = two(1);\n  syn int Function.two(int i) = i;\n}\naspect")
+        self.assertEqual(self.client.diagnoses("names.jrag"), [])
+        self.assertEqual(self.told("names.jrag", "two(1)"), "syn int Function.two(int i)\nequations: Function")
+        self.assertEqual(self.lines("definition", "names.jrag", "two(1)"), ["names.jrag:6 two"])
+        self.assertEqual(self.lines("implementation", "names.jrag", "two(1)"), ["names.jrag:6 two"])
+        self.assertEqual(self.lines("references", "names.jrag", "two() ="), ["names.jrag:5 two"])
+        self.assertEqual(self.lines("references", "names.jrag", "two(1)"), ["names.jrag:5 two", "names.jrag:6 two"])
+        symbols = self.client.ask("textDocument/documentSymbol", self.client.place("names.jrag", ""))
+        self.assertEqual([it["name"] for it in symbols][:3], ["Function.two()", "Function.two(int)", "IdUse.decl"])
+
     def test_completion(self) -> None:
         self.client.change("names.jrag", "    if (i == 0) return lookup(name);\n", "    \n    if (i == 0) return lookup(name).\n")
         self.assertEqual(self.labels("names.jrag", "    \n", 0, 4), ["else", "for", "if", "return"])

@@ -163,7 +163,7 @@ class Why:
 
     def _declaration(self, instance: Instance) -> Optional[Placed]:
         node = self.specification.grammar.node_at(self.tree, instance.path)
-        return None if node is None else self.specification.attribute(node.name, instance.attribute)
+        return None if node is None else self.specification.attribute(node.name, instance.attribute, len(instance.arguments))
 
     def _place(self, placed: Placed) -> str:
         text = self.specification.text(placed.file)
@@ -221,7 +221,7 @@ class Why:
         node = self.specification.grammar.node_at(self.tree, instance.path)
         if node is None:
             raise NoReason(f"there is no node at {instance.path}")
-        declared = self.specification.attribute(node.name, instance.attribute)
+        declared = self.specification.attribute(node.name, instance.attribute, len(instance.arguments))
         if declared is None:
             raise NoReason(f"{node.name} has no attribute {instance.attribute}")
         found = [it for it in self.specification.equations(declared.declaration) if it.declaration.body is not None]

@@ -71,7 +71,7 @@ AGAIN = """aspect A {
   syn boolean S.m() circular [true] = true;
   syn boolean T.m() circular [false] = true; //: J2/15
   int T.n(String n) { return 1; }
-  int S.n() { return 1; } //: J2/8
+  int S.n(boolean b) { return 1; } //: J2/8
 }
 """
 # And of what is declared for ASTNode: the root, a P, has a fault in place of an inherited one.
@@ -93,7 +93,7 @@ BOTH = """aspect A {
   syn int S.d() = 1;
   inh int B.d();
   eq Q.getB().d() = 2;
-  inh boolean B.d(int n); //: J2/9
+  inh boolean B.d(int n); eq Q.getB().d(int n) = n > 1;
   inh int T.d(); //: J2/9
   inh int B.e();
   syn boolean S.e() = true;
@@ -102,6 +102,30 @@ BOTH = """aspect A {
   syn int S.g() = e(); //: J4/0
 }
 """
+# And of attributes of one name that are told apart by how many parameters they have.
+NUMBERED = """aspect A {
+  syn int S.n() = 1;
+  syn int S.n(int a) = a + n();
+  int T.n() { return n(2); }
+  eq U.n(int a) = a;
+  inh P S.up();
+  inh boolean S.up(String w);
+  eq P.getS().up() = this;
+  eq P.getS().up(String w) = w.equals(getS(0).getName());
+  syn boolean P.all() = exists (s : getSList()) { s.up("a") && s.n(1) > s.n() };
+}
+"""
+# What is wrong with more of them, each alone: a declaration, its code with its section, and what is said.
+MISNUMBERED = [
+    ("syn int S.n(String w) = 3;", "J2/8", "It stands already at x.jrag:3."),
+    ("inh int U.n(int a);", "J2/9", "It stands already at x.jrag:3, as `syn`."),
+    ("syn int T.w() = n(1, 2);", "J3/0",
+     "T has no n with 2 parameters. It has `int T.n()` at x.jrag:4, and `syn int S.n(int a)` at x.jrag:3."),
+    ("syn int T.w() = n(true);", "J5/0", "This is a boolean, and no argument of this kind is taken here."),
+    ("eq U.n(int a, int b) = 1;", "J9/0", "U has no n with 2 parameters. It has `int T.n()` at x.jrag:4, and `syn int S.n(int a)` at x.jrag:3."),
+    ("eq P.getS().up(int a, int b) = null;", "J9/0", "No class has an inherited attribute up with 2 parameters. "
+     "There is `inh P S.up()` at x.jrag:6, and `inh boolean S.up(String w)` at x.jrag:7."),
+]
 BESIDE = Source("s.ast", "P ::= S* Q; S ::= <Name>; T : S; Q ::= B; B;")
 
 
@@ -165,7 +189,7 @@ class Reading(unittest.TestCase):
         self.assertEqual([it.form for it in read_aspects("aspect X { int A.m() { return 1; } }")], ["other"])
 
     def test_all_faults_are_found_in_one_run(self):
-        for grammar, aspects in (GRAMMAR, FAULTS), (CLASSES, AGAIN), (CLASSES, EVERYWHERE), (BESIDE, BOTH):
+        for grammar, aspects in (GRAMMAR, FAULTS), (CLASSES, AGAIN), (CLASSES, EVERYWHERE), (BESIDE, BOTH), (CLASSES, NUMBERED):
             findings = check(grammar, [Source("x.jrag", aspects)], PROGRAM, "jastadd").findings
             wanted = [(line, fault) for line, text in enumerate(aspects.splitlines(), 1) for fault in text.partition("//: ")[2].split()]
             self.assertEqual([(it.line, f"{it.code}/{it.section.partition('.')[0] or 0}") for it in findings], wanted)
@@ -176,6 +200,28 @@ class Reading(unittest.TestCase):
         self.assertEqual([AGAIN.count("\n", 0, it.declaration.start) + 1 for it in specification.equations(first.declaration)], [2, 3, 4])
         without = Specification(CLASSES, [Source("x.jrag", AGAIN)])
         self.assertEqual(without.equations(without.attribute("T", "k").declaration), without.named("k")[1:2])
+
+    def test_attributes_are_told_apart_by_their_numbers_of_parameters(self):
+        names = Names(Specification(CLASSES, [Source("x.jrag", NUMBERED)], "jastadd"))
+        for text, line, told in (("n() = 1", 2, "syn int S.n()\nequations: S, T"), ("n(2)", 3, "syn int S.n(int a)\nequations: S, U"),
+                                 ("n(int a) = a;", 3, "syn int S.n(int a)"), ("n(1)", 3, "syn int S.n(int a)"), ("n() }", 2, "syn int S.n()"),
+                                 ("up() = this", 6, "inh P S.up()\nequations: P.getS()"), ("up(\"a\")", 7, "inh boolean S.up(String w)")):
+            meaning = names.at("x.jrag", NUMBERED.index(text))
+            self.assertEqual([NUMBERED.count("\n", 0, it.start) + 1 for it in meaning.declared], [line], text)
+            self.assertTrue(meaning.told.startswith(told), meaning.told)
+        first = names.at("x.jrag", NUMBERED.index("n() = 1"))
+        self.assertEqual([NUMBERED.count("\n", 0, it.start) + 1 for it in names.references(first)], [2, 3, 10])
+        known = completions(names.specification, "x.jrag", NUMBERED.index("n(1)"))
+        self.assertEqual((known["n"], known["up"]), ("int n(); int n(int)", "P up(); boolean up(String)"))
+        without = Names(Specification(CLASSES, [Source("x.jrag", NUMBERED)]))
+        declared = without.at("x.jrag", NUMBERED.index("n(int a) = a;")).declared
+        self.assertEqual([NUMBERED.count("\n", 0, it.start) + 1 for it in declared], [4])
+
+    def test_what_is_said_of_other_numbers_of_parameters(self):
+        for declaration, code, said in MISNUMBERED:
+            text = NUMBERED.replace("  syn boolean P.all", f"  {declaration}\n  syn boolean P.all")
+            found = check(CLASSES, [Source("x.jrag", text)], PROGRAM, "jastadd").findings
+            self.assertEqual([(it.line, f"{it.code}/{it.section.partition('.')[0] or 0}", it.message) for it in found], [(10, code, said)], declaration)
 
     def test_names_in_a_loop_are_completed(self):
         text = "aspect X { boolean A.m(String n) { for (B x : getBList()) if (x.getName().equals(n)) return true; return false; } }"

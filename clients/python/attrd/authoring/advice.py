@@ -116,12 +116,16 @@ class Advice:
         if refused.code == "J8":
             way = way_without(self.specification, it)
             return f"A node can stand without an equation for {name} above it{f': {way}' if way else ''}."
+        if refused.code == "J9" and it.getter is not None and self.specification.overloads(name):
+            heads = _either(self._head(placed) for placed in self.specification.inherited(name) if placed.declaration.form == "inh")
+            return f"No class has an inherited attribute {name} with {_parameters(len(it.parameters))}.{f' There is {heads}.' if heads else ''}"
         if refused.code == "J9" and it.getter is not None:
             inherited = {known for known in self.specification.attribute_names
                          if any(it.declaration.form == "inh" for it in self.specification.named(known))}
             return f"No class has an inherited attribute {name}. {self._near(name, inherited)}".strip()
         if refused.code == "J9":
-            return f"{of} has no synthesized attribute {name}. {self._near(name, self._attributes(of))}".strip()
+            return self._of_number(of, name, len(it.parameters)) \
+                or f"{of} has no synthesized attribute {name}. {self._near(name, self._attributes(of))}".strip()
         if refused.code in ("J2", "J6"):
             return self._of_twice(refused, it)
         if refused.code == "J12":
@@ -160,8 +164,9 @@ class Advice:
         if it.form != "eq" or it.name is None or it.of is None:
             return "A parameter is a String, an int, a boolean or a node of a class, and there are at most four." \
                 if "jastadd" in self.specification.forms else "A parameter is a String or a node of a class, and there are at most two."
-        known = self.specification.attribute(it.of.text, it.name.text) if it.getter is None else None
-        named = [known] if known is not None else self.specification.named(it.name.text)
+        count = len(it.parameters)
+        known = self.specification.attribute(it.of.text, it.name.text, count) if it.getter is None else None
+        named = [known] if known is not None else self.specification.named(it.name.text, count)
         return f"The attribute is declared as {self._head(named[0])}." if named else None
 
     def _of_expression(self, code: str, expression: Expression, it: Declaration) -> Optional[str]:
@@ -216,7 +221,7 @@ class Advice:
         """Whether a call is of what its receiver hasn't, where the receiver's class is known."""
         of, name = self.specification.receiver_kind(call, it), call.word.text
         return of in self.specification.grammar and of is not None and name not in self.specification.accessors(of) \
-            and self.specification.attribute(of, name) is None
+            and self.specification.attribute(of, name, len(call.arguments)) is None
 
     def _of_kind(self, expression: Expression, it: Declaration) -> Optional[str]:
         whole = self.hints.operation(expression, it)
@@ -236,13 +241,21 @@ class Advice:
         if of is None:
             return None
         if code == "J5":
-            known = self.specification.attribute(of, name)
+            known = self.specification.attribute(of, name, len(call.arguments))
             return None if known is None else f"The attribute is declared as {self._head(known)}."
         if is_java_kind(of):
             return f"`{of}` is a type of Java, and nothing is asked of it here: there is no {name}."
         if of not in self.specification.grammar:
             return f"{_article(of).capitalize()} has no {name}."
-        return f"{of} has no attribute or accessor {name}. {self._near(name, [*self.specification.accessors(of), *self._attributes(of)])}".strip()
+        return self._of_number(of, name, len(call.arguments)) or f"{of} has no attribute or accessor {name}. " \
+            f"{self._near(name, [*self.specification.accessors(of), *self._attributes(of)])}".strip()
+
+    def _of_number(self, of: str, name: str, count: int) -> Optional[str]:
+        """What is said where attributes of a name are told apart by how many parameters they have, and a class has others than those with
+        so many; None where it has none of the name at all, or the name isn't overloaded."""
+        found = [it for it in self.specification.attributes_of(of) if it.declaration.name is not None and it.declaration.name.text == name] \
+            if of in self.specification.grammar and self.specification.overloads(name) else []
+        return f"{of} has no {name} with {_parameters(count)}. It has {_either(map(self._head, found))}." if found else None
 
     def _attributes(self, of: str) -> List[str]:
         return [it.declaration.name.text for it in self.specification.attributes_of(of) if it.declaration.name is not None] \
@@ -275,6 +288,16 @@ def _asked(text: str) -> List[str]:
     words = Scan(text, is_lenient=True).words()
     found = [it.text for it, behind in zip(words, words[1:]) if behind.text == "(" and re.match(r"(get|has)[A-Z]", it.text)]
     return list(dict.fromkeys(found))
+
+
+def _parameters(count: int) -> str:
+    """So many parameters."""
+    return f"{count} parameter{'s' * (count != 1)}"
+
+
+def _either(heads: Iterable[str]) -> str:
+    """Heads of declarations, one behind the other."""
+    return ", and ".join(heads)
 
 
 def _fit(sign: str, left: Optional[str], right: Optional[str]) -> bool:

@@ -34,7 +34,7 @@ class _Asked:
             it = equation.declaration
             for made in it.made:
                 of = self.specification.receiver_kind(made, it) if made.form is Form.CALL else None
-                known = None if of is None else self.specification.attribute(of, made.word.text)
+                known = None if of is None else self.specification.attribute(of, made.word.text, len(made.arguments))
                 if known is not None:
                     found |= {id(same.declaration) for same in self._same(known)}
         return found
@@ -42,7 +42,9 @@ class _Asked:
     def _same(self, known: Placed) -> List[Placed]:
         """A declaration; an inherited attribute has one for each of its classes, with the same equations."""
         name = known.declaration.name
-        return self.specification.named(name.text) if name is not None and known.declaration.form == "inh" else [known]
+        if name is None or known.declaration.form != "inh":
+            return [known]
+        return self.specification.named(name.text, len(known.declaration.parameters))
 
     def reached(self, begun: int) -> Set[int]:
         """All that an attribute leads to."""

@@ -109,13 +109,13 @@ class Completing:
 
 
 def _told(attributes: Iterable[Declaration]) -> Dict[str, str]:
-    """The names of attributes, each with its kind and those of its parameters."""
-    found: Dict[str, str] = {}
+    """The names of attributes, each with its kind and those of its parameters; of those with other numbers of parameters one by one."""
+    found: Dict[str, Dict[int, str]] = {}
     for it in attributes:
         assert it.name is not None and it.kind is not None
         kinds = [binding.kind.text for binding in it.parameters if binding.kind is not None]
-        found[it.name.text] = f"{it.kind.text} {it.name.text}({', '.join(kinds)})"
-    return found
+        found.setdefault(it.name.text, {})[len(kinds)] = f"{it.kind.text} {it.name.text}({', '.join(kinds)})"
+    return {name: "; ".join(known[count] for count in sorted(known)) for name, known in found.items()}
 
 
 def completions(specification: Specification, file: str, offset: int) -> Dict[str, str]:

@@ -9,7 +9,7 @@ from ..grammar import Shape
 from .aspect_tree import Declaration, Expression, Form, Piece
 from .mending import Refused
 from .specification import NODES, Placed, Specification, is_java_kind
-from .ways import (AT_ROOT, BELOW_ROOT, COMPUTED, FIFTH, FORMS, JAVA_TYPES, NAMES, NO_VALUE, NUMBERS, OF_JAVA, OF_LISTS, OF_SETS,
+from .ways import (AT_ROOT, BELOW_ROOT, BY_KINDS, COMPUTED, FIFTH, FORMS, JAVA_TYPES, NAMES, NO_VALUE, NUMBERS, OF_JAVA, OF_LISTS, OF_SETS,
                    ONE_LINE, OTHER_KIND, OTHERWISE, OVERLOADED, OVERRIDDEN, TOO_MANY, TWO_FORMS, TWO_TYPES, Way, way_of_body)
 
 _SEVERAL = re.compile(r"get(\w+)s")
@@ -183,7 +183,7 @@ class Hints:
         if it.form == "inh":
             return TWO_TYPES
         kinds = [[binding.kind.text for binding in known.parameters if binding.kind is not None] for known in (other, it)]
-        return OVERLOADED if kinds[0] != kinds[1] else OVERRIDDEN
+        return OVERRIDDEN if kinds[0] == kinds[1] else BY_KINDS if self._is_jastadd() and len(kinds[0]) == len(kinds[1]) else OVERLOADED
 
     def earlier(self, code: str, it: Declaration) -> Optional[Placed]:
         """The declaration of the same before this one, or the equation for the same."""
@@ -191,6 +191,8 @@ class Hints:
             other = placed.declaration
             if other is it:
                 return None
+            if not self.specification.is_of_one_number(it, other):
+                continue
             if _heads(other) == _heads(it) or (code == "J2" and other.is_declaring and other.name is not None
                                                and it.name is not None and other.name.text == it.name.text and self._is_related(other, it)):
                 return placed
@@ -216,7 +218,7 @@ class Hints:
     def attribute_of(self, call: Expression, it: Declaration) -> Optional[Placed]:
         """The attribute that a call asks, where the class of its receiver is known."""
         of = self.specification.receiver_kind(call, it)
-        return None if of is None else self.specification.attribute(of, call.word.text)
+        return None if of is None else self.specification.attribute(of, call.word.text, len(call.arguments))
 
     def is_missed_at_root(self, call: Expression, it: Declaration) -> bool:
         """Whether a call asks the node itself for an inherited attribute of ASTNode, which isn't declared for the class of the root where a
@@ -225,7 +227,7 @@ class Hints:
         if call.receiver is not None or it.of is None or not (it.of.text in NODES or grammar.is_below(grammar.start, it.of.text)):
             return False
         return any(known.declaration.form == "inh" and self.specification.is_everywhere(known.declaration)
-                   for known in self.specification.named(call.word.text))
+                   for known in self.specification.named(call.word.text, len(call.arguments)))
 
     def loop(self, refused: Refused, it: Declaration) -> Optional[Expression]:
         """What a loop goes over that is refused since that is no list of the tree; None where it is one, or where no loop is refused."""

@@ -106,9 +106,10 @@ class Names:
         if of is not None and it.word.text in self.specification.accessors(of):
             yield from self._accessor(file, it.word, of)
         elif of is None or of in self.specification.grammar:
-            own = None if of is None else self.specification.attribute(of, it.word.text)
+            name, count = it.word.text, len(it.arguments)
+            own = None if of is None else self.specification.attribute(of, name, count)
             if own is not None or of is None:
-                yield from self._attribute(file, it.word, self.specification.named(it.word.text) if own is None else [own])
+                yield from self._attribute(file, it.word, self.specification.named(name, count) if own is None else [own])
 
     def _class(self, file: str, word: Word) -> Iterator[Meaning]:
         known = self.specification.classes.get(word.text)
@@ -132,17 +133,19 @@ class Names:
         """The declarations for which a declaration or an equation may be, with an attribute's name and a class."""
         if placed.declaration.is_declaring:
             return [placed]
+        count = len(placed.declaration.parameters)
         if placed.declaration.getter is not None:
-            return self.specification.inherited(name)
-        own = self.specification.attribute(of, name)
-        return self.specification.named(name) if own is None else [own]
+            return self.specification.inherited(name, count)
+        own = self.specification.attribute(of, name, count)
+        return self.specification.named(name, count) if own is None else [own]
 
     def _attribute(self, file: str, word: Word, found: Sequence[Placed]) -> Iterator[Meaning]:
         """The meaning of an attribute's name: that of its declaration, or of all for which it may be."""
         if found:
             first = found[0].declaration
             assert first.of is not None
-            key = ("attribute", word.text) if first.form == "inh" else ("attribute", first.of.text, word.text)
+            number = [str(len(first.parameters))] if self.specification.overloads(word.text) else []
+            key = ("attribute", *number, word.text) if first.form == "inh" else ("attribute", *number, first.of.text, word.text)
             declared = tuple(_place(it.file, it.declaration.name) for it in found if it.declaration.name is not None)
             yield Meaning(_place(file, word), key, declared, "\n".join(self.told_of_attribute(it) for it in found))
 

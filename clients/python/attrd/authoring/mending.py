@@ -435,8 +435,9 @@ class Mending:
         """The declaration of the attribute that an equation is for."""
         if it.name is None or it.of is None:
             return None
-        known = self.specification.attribute(it.of.text, it.name.text) if it.getter is None else None
-        named = [known] if known is not None else self.specification.inherited(it.name.text) if it.getter else self.specification.named(it.name.text)
+        name, count = it.name.text, len(it.parameters)
+        known = self.specification.attribute(it.of.text, name, count) if it.getter is None else None
+        named = [known] if known is not None else self.specification.inherited(name, count) if it.getter else self.specification.named(name, count)
         return named[0].declaration if named else None
 
     def _dummy(self, it: Declaration) -> Optional[str]:

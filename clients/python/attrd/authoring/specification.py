@@ -16,6 +16,8 @@ from .java_reader import KINDS
 NODES = ("ASTNode", "List", "Opt")
 # A grammar of fewer classes has room for one more.
 MOST_CLASSES = 999
+# How many parameters an attribute has at most that is read.
+MOST_PARAMETERS = 4
 BOOLEAN_SIGNS = ("||", "&&", "==", "!=", "<", "<=", ">", ">=")
 
 
@@ -83,7 +85,7 @@ class Specification:
         if it.form == "syn" or start is None or not self._is_on_line(of, start.name):
             return True
         assert it.name is not None
-        own = (placed.declaration.of for placed in self.named(it.name.text))
+        own = (placed.declaration.of for placed in self.named(it.name.text, len(it.parameters)))
         return self.grammar.is_below(of, start.name) and not any(word and self._is_on_line(word.text, start.name) for word in own)
 
     def _is_on_line(self, of: str, other: str) -> bool:
@@ -95,7 +97,8 @@ class Specification:
         if it.sort != "method" or it.name is None or it.of is None:
             return False
         of = it.of.text
-        above = [placed.declaration.of.text for placed in self.named(it.name.text) if placed.declaration.of is not None]
+        declared = self.named(it.name.text, len(it.parameters))
+        above = [placed.declaration.of.text for placed in declared if placed.declaration.of is not None]
         return any(other != of and self.grammar.is_below(of, other) for other in above)
 
     def text(self, file: str) -> str:
@@ -107,25 +110,39 @@ class Specification:
         """The names of all attributes that are declared."""
         return set(self._named)
 
-    def named(self, name: str) -> List[Placed]:
-        """All declarations of attributes of this name."""
-        return self._named.get(name, [])
+    def overloads(self, name: str) -> List[int]:
+        """The numbers of parameters by which attributes of this name are told apart; none where there aren't several, or where the program
+        tells none apart."""
+        counts = {len(it.declaration.parameters) for it in self.named(name)} & set(range(MOST_PARAMETERS + 1))
+        return sorted(counts) if "jastadd" in self.forms and len(counts) > 1 else []
 
-    def inherited(self, name: str) -> List[Placed]:
+    def named(self, name: str, count: Optional[int] = None) -> List[Placed]:
+        """All declarations of attributes of this name; of an overloaded one those with so many parameters, where a number is given."""
+        found = self._named.get(name, [])
+        if count is None or not self.overloads(name):
+            return found
+        return [it for it in found if len(it.declaration.parameters) == count]
+
+    def inherited(self, name: str, count: Optional[int] = None) -> List[Placed]:
         """The declarations of inherited attributes of this name, for which equations for components are; all of this name where it has none."""
-        return [it for it in self.named(name) if it.declaration.form == "inh"] or self.named(name)
+        found = self.named(name, count)
+        return [it for it in found if it.declaration.form == "inh"] or found
 
-    def attribute(self, of: str, name: str) -> Optional[Placed]:
+    def attribute(self, of: str, name: str, count: Optional[int] = None) -> Optional[Placed]:
         """The declaration of an attribute for a class, or for the nearest class above it that has one."""
         if of not in self.grammar:
             return None
-        own = {it.declaration.of.text: it for it in reversed(self.named(name)) if it.declaration.of is not None}
-        everywhere = (it for it in self.named(name) if self.is_everywhere(it.declaration) and self._stands_for(it.declaration, of))
+        found = self.named(name, count)
+        own = {it.declaration.of.text: it for it in reversed(found) if it.declaration.of is not None}
+        everywhere = (it for it in found if self.is_everywhere(it.declaration) and self._stands_for(it.declaration, of))
         return next((own[it] for it in self.grammar.ancestors(of) if it in own), next(everywhere, None))
 
     def attributes_of(self, of: str) -> List[Placed]:
         """The attributes that a class has, by their names, each once."""
-        found = (self.attribute(of, name) for name in sorted(self._named))
+        found: List[Optional[Placed]] = []
+        for name in sorted(self._named):
+            counts: List[Optional[int]] = [*self.overloads(name)]
+            found += [self.attribute(of, name, count) for count in counts or [None]]
         return [it for it in found if it is not None]
 
     def accessors(self, of: str) -> Dict[str, Accessor]:
@@ -157,7 +174,7 @@ class Specification:
         found = []
         for placed in self.declarations:
             it = placed.declaration
-            if it.name is None or it.of is None or it.name.text != attribute.name.text:
+            if it.name is None or it.of is None or it.name.text != attribute.name.text or not self.is_of_one_number(it, attribute):
                 continue
             if it is attribute:
                 if it.body is not None:
@@ -165,6 +182,10 @@ class Specification:
             elif (it.form == "eq" or self._is_again(it, attribute)) and self._is_for(it, attribute):
                 found.append(placed)
         return found
+
+    def is_of_one_number(self, it: Declaration, other: Declaration) -> bool:
+        """Whether two declarations or equations of one name aren't told apart by how many parameters they have."""
+        return it.name is None or not self.overloads(it.name.text) or len(it.parameters) == len(other.parameters)
 
     def _is_again(self, it: Declaration, attribute: Declaration) -> bool:
         """Whether a declaration of a synthesized attribute is read as an equation of this one where it is for a class below."""
@@ -241,7 +262,7 @@ class Specification:
         accessor = self.accessors(of).get(name) if of is not None else None
         if accessor is not None:
             return accessor.kind
-        placed = self.attribute(of, name) if of is not None else None
+        placed = self.attribute(of, name, len(call.arguments)) if of is not None else None
         return None if placed is None or placed.declaration.kind is None else placed.declaration.kind.text
 
 

@@ -90,6 +90,7 @@ NAMES: Dict[str, Way] = {
 JAVA_TYPES = frozenset("long float double char byte short void Object Integer Boolean Character Long Float Double Set HashSet TreeSet Map "
                        "HashMap TreeMap Collection ArrayList LinkedList Iterator Iterable StringBuilder".split())
 OVERLOADED = Way("One name is declared once for a class and those below it, whatever its parameters are: take two names.", 8)
+BY_KINDS = Way("Attributes of one name are told apart by how many parameters they have, and not by the kinds of these: take two names.", 8)
 OTHER_KIND = Way("The kind is the one that is declared for the class above, or a class below it.", 4)
 OVERRIDDEN = Way("An attribute is declared once for a class and those below it: override it by `eq`.", 15)
 TWO_FORMS = Way("A name is `syn` for all classes or `inh` for all classes: give one of the two another name.", 9)
