@@ -1,6 +1,6 @@
 -- What is read as users of JastAdd write it: each number in a body has 32 bits, and what is circular is boolean.
 use Rattle.std.proofs.Common.{◌≡◌, ◌+◌, ℕ, zero, suc, List, [], ◌∷◌, Bool, true, false, Option, None, Some, cond, map, refl, sym, subst, arith, true≢false}
-use Rattle.std.specs.Prelude.{IfSome}
+use Rattle.std.specs.Prelude.{IfSome, length, nat_le}
 use Rattle.std.specs.List.{AllByRecursion, flat_map}
 use Rattle.std.proofs.lemmas.Option.{none-some}
 use Rattle.std.proofs.lemmas.List.Concat.{flat_map-cons}
@@ -31,10 +31,12 @@ use Rattle.at_typing.specs.Located.{Located, from_aspect, from_file, located}
 use Rattle.at_typing.proofs.Starting.{IsBooleanForm, IsBooleanIn}
 use Rattle.at_model.specs.Classes.{Classes}
 use Rattle.at_start.specs.AspectFiles.{AllHold}
+use Rattle.at_start.specs.Overloading.{Overloads, all_counted, apart_among, aspect_apart, decl_apart, ending_apart, files_apart, form_apart, is_overloaded, told_apart}
 use Rattle.at_start.specs.Redeclaring.{Signature, as_equation, aspect_read, files_read, is_declared_above, read_as, read_in, signature_in, signatures}
 use Rattle.at_start.specs.Spreading.{Head as Own, ending_if, form_for, is_among, null_form, spread}
 use Rattle.at_start.specs.NullCalls.{literal_for, literal_of}
 use Rattle.at_start.specs.declared.language.Language.TheVariants.{JastAdd}
+use Rattle.at_start.proofs.ApartInts.{apart_ints}
 use Rattle.at_start.proofs.SpreadForms.{spread_have}
 use Rattle.at_start.proofs.JavaGiven.{Gives, gives_then, gives_behind, gives_either, gives_word, gives_sign}
 use Rattle.at_start.proofs.JavaNumbers.{expression_ints}
@@ -305,6 +307,38 @@ module _ (classes : Classes) (among : List Signature) where
   aspects_read_fit [] fit = tt
   aspects_read_fit (a ∷ as') fit = (decls_read_fit a.decls fit.0, aspects_read_fit as' fit.1)
 
+-- ---- what is told apart
+
+module _ (is : Overloads) where
+  ending_apart_ints : (e : Ending) → EndingInts e → EndingInts (ending_apart is e)
+  ending_apart_ints (syntax.With b) are = apart_ints is b.expr are
+  ending_apart_ints (syntax.Semicolon at) are = tt
+
+  form_apart_fits : (form : DeclForm) → Fits form → Fits (form_apart is form)
+  form_apart_fits (syntax.Synthesized lazy kind class name params start ending) fits = (ending_apart_ints ending fits.0, fits.1)
+  form_apart_fits (syntax.Inherited lazy kind class name params start) fits = fits
+  form_apart_fits (syntax.Equation class name params body) fits = (apart_ints is body.expr fits.0, fits.1)
+  form_apart_fits (syntax.InheritedEquation class getter index name params body) fits = (apart_ints is body.expr fits.0, fits.1)
+
+  decls_apart_fit : (ds : List Decl) → AllByRecursion DeclFits ds → AllByRecursion DeclFits (map (decl_apart is) ds)
+  decls_apart_fit [] fit = tt
+  decls_apart_fit (d ∷ ds) fit = (form_apart_fits d.form fit.0, decls_apart_fit ds fit.1)
+
+  aspects_apart_fit : (as' : List Aspect) → AllFit as' → AllFit (map (aspect_apart is) as')
+  aspects_apart_fit [] fit = tt
+  aspects_apart_fit (a ∷ as') fit = (decls_apart_fit a.decls fit.0, aspects_apart_fit as' fit.1)
+
+  files_apart_fit : (files : List (List Aspect)) → AllByRecursion AllFit files → AllByRecursion AllFit (files_apart is files)
+  files_apart_fit [] fit = tt
+  files_apart_fit (f ∷ fs) fit = (aspects_apart_fit f fit.0, files_apart_fit fs fit.1)
+
+told_apart_fit : (classes : Classes) (files : List (List Aspect)) → AllByRecursion AllFit files → AllByRecursion AllFit (told_apart classes files)
+told_apart_fit classes files fit = by (nat_le (length (all_counted files)) 2000)
+  where
+    by : (b : Bool) → AllByRecursion AllFit (cond b (apart_among classes (all_counted files) files) files)
+    by true = files_apart_fit (is_overloaded classes (all_counted files)) files fit
+    by false = fit
+
 -- ---- what is declared for ASTNode
 
 ending_fits : (has_own : Bool) (e : Ending) → EndingInts e → EndingInts (ending_if has_own e)
@@ -360,8 +394,10 @@ module _ (names : List Alias) where
   module _ (classes : Classes) (files : List (List ℕ)) (aspects : List (List Aspect)) (hold : AllHold JastAdd names files aspects) where
     read_fit : AllByRecursion LocatedFits (located 1 (read_in JastAdd classes aspects))
     read_fit =
-        let all = spread classes aspects in
-        located_fit classes (signatures classes all) 1 all (spread_have Fits form_for_fits null_form_fits classes aspects (hold_fit files aspects hold))
+        let apart = told_apart classes aspects in
+        let all = spread classes apart in
+        located_fit classes (signatures classes all) 1 all
+        (spread_have Fits form_for_fits null_form_fits classes apart (told_apart_fit classes aspects (hold_fit files aspects hold)))
 
     pub hold_ints : AllByRecursion AreIntsIn (located 1 (read_in JastAdd classes aspects))
     hold_ints = all_more LocatedFits AreIntsIn (located 1 (read_in JastAdd classes aspects)) (λ d fits. fits.0) read_fit

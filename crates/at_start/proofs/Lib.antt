@@ -8,8 +8,10 @@ mod Started
 mod JavaGiven
 mod JavaNumbers
 mod JavaMeanings
+mod Overloads
 mod Spreads
 mod SpreadForms
+mod ApartInts
 mod JavaFits
 mod RulesTyped
 pub mod WholeLemmas

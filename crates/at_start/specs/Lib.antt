@@ -5,6 +5,9 @@ pub mod GrammarFiles
 pub mod TreeFiles
 pub mod Lists
 pub mod NullCalls
+pub mod Overloading
+pub mod Pairs
+pub mod SampleOverloads
 pub mod Spreading
 pub mod Redeclaring
 pub mod AspectFiles

@@ -13,6 +13,7 @@ use Rattle.at_typing.specs.Declaring.{is_below}
 use Rattle.at_typing.specs.declared.fault.Breach.{Breach}
 use Rattle.at_text.specs.declared.fault.Failure.{Failure}
 use Rattle.at_text.specs.declared.fault.Failure.TheVariants.{For, Memory}
+use Rattle.at_start.specs.Overloading.{told_apart}
 use Rattle.at_start.specs.Spreading.{spread}
 use Rattle.at_start.specs.declared.language.Language.{Language}
 use Rattle.at_start.specs.declared.language.Language.TheVariants.{Profile, JastAdd}
@@ -154,12 +155,12 @@ fault_below classes files = first_stray classes (signatures classes files)
 
 abbrev pub read_in : Language → Classes → List (List Aspect) → List (List Aspect)
 read_in (Profile forms) classes files = files
-read_in JastAdd classes files = read_below classes (spread classes files)
+read_in JastAdd classes files = read_below classes (spread classes (told_apart classes files))
 
 -- the fault that is met there, if there is one
 abbrev pub fault_in : Language → Classes → List (List Aspect) → Option Breach
 fault_in (Profile forms) classes files = None
-fault_in JastAdd classes files = fault_below classes (spread classes files)
+fault_in JastAdd classes files = fault_below classes (spread classes (told_apart classes files))
 
 -- no fault is met, and that holds; or it is told; of want of memory nothing is said
 abbrev pub Reads : {T : Type 0} → Option Breach → (T → Type 0) → Result T (Failure Breach) → Type 0

@@ -575,8 +575,8 @@ fn body_if(alloc: Global, has_own: bool, body: &Body) -> Result<Ending, AllocErr
     }))
 }
 
-/// The word with that text.
-fn word_at(alloc: Global, at: Place, text: &str) -> Result<Word, AllocError>
+/// The word with that text at that place; or want of memory.
+pub fn word_at(alloc: Global, at: Place, text: &str) -> Result<Word, AllocError>
     ensures { IfOk result (λ w. word_view w ≡ record { text = text.now; at = at }) }
 {
     Ok(Word {
@@ -585,7 +585,8 @@ fn word_at(alloc: Global, at: Place, text: &str) -> Result<Word, AllocError>
     })
 }
 
-fn copied_params(alloc: Global, params: &Params) -> Result<Params, AllocError>
+/// The parameters, copied; or want of memory.
+pub fn copied_params(alloc: Global, params: &Params) -> Result<Params, AllocError>
     ensures { IfOk result (λ p. params_view p ≡ params_view params.now) }
 {
     Ok(Params {
@@ -614,7 +615,8 @@ fn copied_param(alloc: Global, param: &Param) -> Result<Param, AllocError>
     })
 }
 
-fn copied_kind_word(alloc: Global, word: &KindWord) -> Result<KindWord, AllocError>
+/// The kind where it stands, copied; or want of memory.
+pub fn copied_kind_word(alloc: Global, word: &KindWord) -> Result<KindWord, AllocError>
     ensures { IfOk result (λ k. kind_word_view k ≡ kind_word_view word.now) }
 {
     Ok(KindWord {

@@ -9,8 +9,9 @@ ghost use Rattle.at_model.specs.Rules.{Rules};
 ghost use Rattle.at_rules.specs.Circular.{HasNoneCircular};
 ghost use Rattle.at_engine.specs.declared.stream.desk.Report.{Report};
 ghost use Rattle.at_start.specs.AspectFiles.{reads_circular};
+ghost use Rattle.at_start.specs.Overloading.{told_apart, HaveNoneOverloaded};
 ghost use Rattle.at_start.specs.Redeclaring.{read_below, read_in};
-ghost use Rattle.at_start.specs.Spreading.{HaveNoneEverywhere};
+ghost use Rattle.at_start.specs.Spreading.{spread, HaveNoneEverywhere};
 ghost use Rattle.at_start.specs.Starts.{Starts};
 ghost use Rattle.at_start.specs.Whole.{Answers, IsWithinMemory, MeansOutput};
 ghost use Rattle.at_start.specs.declared.files.Files.{Files};
@@ -34,7 +35,14 @@ pub fn none_circular()
 
 /// Where no attribute is declared for ASTNode, aspects are read as if nothing ever could be.
 pub fn none_everywhere()
-    ensures { (classes : Classes) (files : List (List Aspect)) → HaveNoneEverywhere files → read_in JastAdd classes files ≡ read_below classes files }
+    ensures { (classes : Classes) (files : List (List Aspect)) → HaveNoneEverywhere files
+        → read_in JastAdd classes files ≡ read_below classes (told_apart classes files) }
+{}
+
+/// Where no attribute is overloaded, aspects are read as if none ever could be.
+pub fn none_overloaded()
+    ensures { (classes : Classes) (files : List (List Aspect)) → HaveNoneOverloaded classes files
+        → read_in JastAdd classes files ≡ read_below classes (spread classes files) }
 {}
 
 /// Any two outputs that files mean for the same bytes are equal, where no line posts a question and nothing is told for want of

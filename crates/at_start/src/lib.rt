@@ -3,12 +3,13 @@
 //!
 //! **Its specs:** `Whole` is the theorem, to be read first; `Starts` is what files make, with a page for each kind of file
 //! (`GrammarFiles`, `AspectFiles`, `TreeFiles`) over their bytes (`Files`); `Lists` are the short names of lists, which aspects may
-//! have, `Spreading` is what is read of attributes that are declared for ASTNode (at the root by `NullCalls`), and `Redeclaring` of those that
+//! have, `Overloading` is how attributes of one name are told apart (`Pairs` says it of the code's table, `SampleOverloads` has a case),
+//! `Spreading` is what is read of attributes that are declared for ASTNode (at the root by `NullCalls`), and `Redeclaring` of those that
 //! are declared again below; `StartFaults` and `Codes` are what is printed of a file that is refused.
 //!
 //! **Where to begin:** `answer` in `serving.rt` is the whole, and `start`, below, its first half; `grammar.rt`, `aspects.rt`
-//! and `tree.rt` have what each kind of file gives, `lists.rt`, `everywhere.rt` and `redeclared.rt` what JastAdd's own language has beside
-//! its reader, `fault.rt` why there is no engine.
+//! and `tree.rt` have what each kind of file gives, `lists.rt`, `overloaded.rt`, `everywhere.rt` and `redeclared.rt` what JastAdd's own language
+//! has beside its reader, `fault.rt` why there is no engine.
 //!
 //! **What it keeps true:** an engine that is made is sound, keeps nothing yet, and has just the classes, rules and
 //! tree of the files, as they are read in the language that these name.
@@ -31,6 +32,8 @@ mod language;
 pub mod laws;
 mod lists;
 mod null_calls;
+mod overloaded;
+pub mod overloaded_cases;
 mod redeclared;
 mod serving;
 mod tree;

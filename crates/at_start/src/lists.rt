@@ -96,7 +96,7 @@ fn alias(alloc: Global, list: &str) -> Result<Alias, AllocError>
 }
 
 /// Whether a class has an accessor of that name.
-fn is_accessed(classes: &ClassTable, name: &str) -> bool
+pub fn is_accessed(classes: &ClassTable, name: &str) -> bool
     ensures { result ≡ is_accessed classes.now name.now }
 {
     for class in 0..classes.len() {

@@ -78,7 +78,7 @@ fn literal_of(alloc: Global, kind: &Kind) -> Form
 }
 
 /// A form at its place.
-fn formed(at: Place, form: Form) -> Expr
+pub fn formed(at: Place, form: Form) -> Expr
     ensures { expr_view result ≡ form_view form at }
 {
     Expr { at, form }

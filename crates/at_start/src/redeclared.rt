@@ -9,6 +9,7 @@ ghost use Rattle.at_start.specs.Redeclaring.{as_equation, aspect_read, equation_
 
 use crate::everywhere::spread;
 use crate::language::Language;
+use crate::overloaded::told_apart;
 use at_class::{ClassId, ClassTable};
 use at_jrag::{Aspect, Decl, DeclForm, Ending, Kind, KindWord, Param, Params, Word};
 use at_kinds::RuleCode;
@@ -74,7 +75,8 @@ fn read_again(
     ensures { Reads (fault_in JastAdd classes.now (map (λ f. map aspect_view f.items) files.items))
         (λ v. map (λ f. map aspect_view f.items) v.items ≡ read_in JastAdd classes.now (map (λ f. map aspect_view f.items) files.items)) result }
 {
-    let files = spread(alloc, classes, files)?;
+    let apart = told_apart(alloc, classes, files)?;
+    let files = spread(alloc, classes, apart)?;
     read_below(alloc, classes, files)
 }
 
