@@ -12,6 +12,9 @@ from typing import Dict, Iterable, List, Set, Tuple
 ANSWERING = ("at_class", "at_tree", "at_store", "at_body", "at_index", "at_cache", "at_evict", "at_evaluate", "at_solve", "at_search", "at_demand", "at_engine")
 # The library that reads the command line. What it alone leads to runs at the start, and isn't optimized: that takes a third of the time.
 PLAIN = "clap"
+# The words by which the two parts are compiled. In the first one only calls of small functions are inlined: so its compiler takes a fifth
+# less time, and the program a tenth more instructions. The second one reads bodies that nest deep, for which the stack wouldn't do then.
+WORDS = (("-O1", "-mllvm", "-inline-threshold=50"), ("-O1",))
 # What stands in front of the attributes in the first line of a function's definition.
 ATTRIBUTES = re.compile(r"\) ([^()]*)\{$")
 # A name of the module, and the crate at the beginning of a function's name.
@@ -24,18 +27,25 @@ class Module:
     what these name."""
 
     def __init__(self, lines: Iterable[str]) -> None:
-        texts: Dict[str, List[str]] = {}
+        self.functions: Dict[str, str] = {}
+        self.named: Dict[str, Set[str]] = {}
         self.outside: List[str] = []
         taking = self.outside
         for line in lines:
-            if line.startswith("define "):
-                taking = texts.setdefault(name_of(line), [])
+            begins = line.startswith("define ")
+            taking = [] if begins else taking
             taking.append(line)
-            if line == "}":
+            if line == "}" or begins and line.endswith("}"):
+                self.add("\n".join(taking))
                 taking = self.outside
-        self.functions = {name: "\n".join(text) for name, text in texts.items()}
-        self.named = {name: set(NAME.findall(text)) & texts.keys() for name, text in self.functions.items()}
-        self.named_outside = set(NAME.findall("\n".join(self.outside))) & texts.keys()
+        known = set(self.functions)
+        self.named = {name: found & known for name, found in self.named.items()}
+        self.named_outside = set(NAME.findall("\n".join(self.outside))) & known
+
+    def add(self, text: str) -> None:
+        """Takes a function, with all that it names: while the lines are still being made, so that it takes no time of its own."""
+        name = name_of(text)
+        self.functions[name], self.named[name] = text, set(NAME.findall(text))
 
     def merge(self, crates: Set[str]) -> None:
         """Leaves one of the functions that do the same, word for word, and names it in the place of the others, so that some that call
