@@ -6,7 +6,7 @@ use Rattle.at_model.specs.Trees.{Tree}
 use Rattle.at_model.specs.Trees as tree
 use Rattle.at_model.specs.Paths.{Node, Path, IsPath}
 use Rattle.at_model.specs.Run.{Value, Int, Truth, Text, Ref, Instance}
-use Rattle.at_model.specs.Rules.{Rules, attribute_name}
+use Rattle.at_model.specs.Rules.{Rules, attribute_name, plain_name}
 use Rattle.at_model.specs.Classes.{Classes}
 use Rattle.at_model.specs.Meaning.{Answer, Outcomes, Circle, Finds, Faults}
 use Rattle.at_model.specs.Machine.{path_to, shown_value}
@@ -48,17 +48,21 @@ module _ (path : ℕ → Option Node) (rules : Rules) (t : Tree) where
 
   module _ (p : PathValue) (name : String Global) (i : Instance ℕ) (writable : IsPath (path_view p))
       (is_path : (n : Node) → path i.node ≡ Some n → path_view p ≡ path_to rules.classes t n)
-      (is_name : string_bytes name ≡ attribute_name rules i.attribute) where
+      (is_name : string_bytes name ≡ plain_name (attribute_name rules i.attribute)) where
     pub told_fault : (kind : FaultCode) {a : Answer Node} → AnswerLike (Names path) (Outcomes (Faults (fault_view kind) i)) a → IsToldAs rules t a (form.Fault kind p name)
     told_fault kind (outcome (fault f {j = j} l)) = record {
-      is_form = ap (λ (q : Path). Fails f q (attribute_name rules j.attribute)) (sym (is_path j.node l.node))
-          ∙ ap (λ x. Fails f (path_view p) x) (ap (attribute_name rules) (sym l.attribute) ∙ sym is_name);
+      is_form = ap (λ (q : Path). Fails f q (plain_name (attribute_name rules j.attribute))) (sym
+          (is_path j.node l.node))
+          ∙ ap (λ x. Fails f (path_view p) x) (ap (λ a. plain_name (attribute_name rules a)) (sym l.attribute)
+          ∙ sym is_name);
       writable = writable;
     }
 
     pub told_circle : {a : Answer Node} → AnswerLike (Names path) (Circle i) a → IsToldAs rules t a (form.Circular p name)
     told_circle (circle {j = j} l) = record {
-      is_form = ap (λ (q : Path). Circular q (attribute_name rules j.attribute)) (sym (is_path j.node l.node))
-          ∙ ap (λ x. Circular (path_view p) x) (ap (attribute_name rules) (sym l.attribute) ∙ sym is_name);
+      is_form = ap (λ (q : Path). Circular q (plain_name (attribute_name rules j.attribute))) (sym
+          (is_path j.node l.node))
+          ∙ ap (λ x. Circular (path_view p) x) (ap (λ a. plain_name (attribute_name rules a)) (sym l.attribute)
+          ∙ sym is_name);
       writable = writable;
     }

@@ -1,9 +1,9 @@
 -- What the machine makes of a question, step by step.
-use Rattle.std.proofs.Common.{◌≡◌, ℕ, Bool, true, false, if◌then◌else◌, List, map, Option, Some, None, option_and_then, ap, ◌∙◌}
+use Rattle.std.proofs.Common.{◌≡◌, ℕ, Bool, true, false, if◌then◌else◌, List, length, map, Option, Some, None, option_and_then, ap, ◌∙◌}
 use Rattle.at_model.specs.Trees.{Tree, class_of}
 use Rattle.at_model.specs.Paths.{Node, tree_at}
 use Rattle.at_model.specs.Run.{Value}
-use Rattle.at_model.specs.Rules.{Rules, attribute_named}
+use Rattle.at_model.specs.Rules.{Rules, attribute_asked}
 use Rattle.at_model.specs.Lines.{Place, Argument, Ask}
 use Rattle.at_model.specs.Machine.{State, Verdict, Refuses, Asks, each, node_named, obeyed, questioned, suit, value_named}
 use Rattle.at_model.specs.Replies as code
@@ -29,13 +29,17 @@ module _ (rules : Rules) (s : State) (session : ℕ) (place : Place) (name : Lis
       abbrev by_attribute : Option ℕ → Verdict
       by_attribute o = elim o as (λ _. Verdict) [ None ↦ Refuses code.Attribute | Some a ↦ by_fit a (suit rules s.tree a vs) ]
 
-      by_name : (o : Option ℕ) → attribute_named rules (class_of u) name ≡ o → obeyed rules s session (Ask place name arguments) ≡ by_attribute o
-      by_name o e = ap by_node named ∙ ap (by_values n) values ∙ ap (λ (x : Option Tree). by_attribute (option_and_then (λ y. attribute_named rules (class_of y) name) x)) there ∙ ap by_attribute e
+      by_name : (o : Option ℕ) → attribute_asked rules (class_of u) name (length vs) ≡ o
+          → obeyed rules s session (Ask place name arguments) ≡ by_attribute o
+      by_name o e = ap by_node named ∙ ap (by_values n) values
+          ∙ ap (λ (x : Option Tree). by_attribute (option_and_then (λ y. attribute_asked rules (class_of y) name
+          (length vs)) x)) there ∙ ap by_attribute e
 
-      pub asked_strangely : attribute_named rules (class_of u) name ≡ None → obeyed rules s session (Ask place name arguments) ≡ Refuses code.Attribute
+      pub asked_strangely : attribute_asked rules (class_of u) name (length vs) ≡ None
+          → obeyed rules s session (Ask place name arguments) ≡ Refuses code.Attribute
       asked_strangely e = by_name None e
 
-      module _ (a : ℕ) (is : attribute_named rules (class_of u) name ≡ Some a) where
+      module _ (a : ℕ) (is : attribute_asked rules (class_of u) name (length vs) ≡ Some a) where
         pub asked_unfitly : suit rules s.tree a vs ≡ false → obeyed rules s session (Ask place name arguments) ≡ Refuses code.Arguments
         asked_unfitly e = by_name (Some a) is ∙ ap (by_fit a) e
 

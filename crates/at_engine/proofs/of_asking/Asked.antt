@@ -1,9 +1,10 @@
 -- What becomes of the words of a question.
-use Rattle.std.proofs.Common.{◌≡◌, ℕ, Bool, true, false, List, [], map, Option, Some, None, refl, sym, ap, ◌∙◌, subst}
+use Rattle.std.proofs.Common.{◌≡◌, ℕ, Bool, true, false, List, [], length, map, Option, Some, None, refl, sym, ap, ◌∙◌, subst}
+use Rattle.std.proofs.lemmas.List.{length-map}
 use Rattle.at_model.specs.Trees.{Tree, class_of}
 use Rattle.at_model.specs.Paths.{Node, tree_at}
 use Rattle.at_model.specs.Run.{Value, Instance, Contents, Location, Is}
-use Rattle.at_model.specs.Rules.{Rules, attribute_named}
+use Rattle.at_model.specs.Rules.{Rules, attribute_asked}
 use Rattle.at_model.specs.Asking.{IsWellFormed}
 use Rattle.at_model.specs.Meaning.{content}
 use Rattle.at_model.specs.Lines.{Place, Argument, Ask}
@@ -12,6 +13,7 @@ use Rattle.at_model.specs.Replies as code
 use Rattle.at_model.specs.Machine.{State, Verdict, Asks, Refuses, each, node_named, obeyed, parameters_of, suit, value_named}
 use Rattle.at_model.specs.Alike.{ListLike, ValueLike, InstanceLike, AlikeAt, Names}
 use Rattle.at_model.proofs.Options.{both}
+use Rattle.at_model.proofs.of_likeness.ExpressionsAlike.{length-like}
 use Rattle.at_model.proofs.of_texts.Words.{name_filled}
 use Rattle.at_body.specs.Values.{value_view}
 use Rattle.at_body.specs.declared.value.Value.{Value as ValueCode}
@@ -36,17 +38,21 @@ module _ (rules : Rules) (s : State) (session : ℕ) (place : Place) (name : Lis
         (k : ℕ) (p : path k ≡ Some n)
         (vs : List (Value ℕ)) (ws : List (Value Node)) (values : each (map (value_named rules.classes s session) arguments) ≡ Some ws) (like : ListLike (ValueLike (Names path)) vs ws) where
       -- the attribute of the class that is shown is that of the node's
-      by_class : (o : Option ℕ) → attribute_named rules (look (Is k)) name ≡ o → (u : Tree) → tree_at s.tree n ≡ Some u → attribute_named rules (class_of u) name ≡ o
-      by_class o e u there = ap (λ c. attribute_named rules c name) (sym (class_at rules.classes path look s.tree alike found k n u p there)) ∙ e
+      by_class : (o : Option ℕ) → attribute_asked rules (look (Is k)) name (length vs) ≡ o → (u : Tree)
+          → tree_at s.tree n ≡ Some u → attribute_asked rules (class_of u) name (length ws) ≡ o
+      by_class o e u there = ap (attribute_asked rules (class_of u) name) (sym (length-like like))
+          ∙ ap (λ c. attribute_asked rules c name (length vs))
+          (sym (class_at rules.classes path look s.tree alike found k n u p there)) ∙ e
 
       by_numbers : (a : ℕ) (b : Bool) → fit_numbers rules.classes look (parameters_of rules a) vs ≡ b → suit rules s.tree a ws ≡ b
       by_numbers a b e =
           sym (suit_like rules.classes path look s.tree alike found (parameters_of rules a) like) ∙ e
 
-      pub strangely_is : attribute_named rules (look (Is k)) name ≡ None → obeyed rules s session (Ask place name arguments) ≡ Refuses code.Attribute
+      pub strangely_is : attribute_asked rules (look (Is k)) name (length vs) ≡ None
+          → obeyed rules s session (Ask place name arguments) ≡ Refuses code.Attribute
       strangely_is e = let (u, there) = found k n p in asked_strangely rules s session place name arguments n named u there ws values (by_class None e u there)
 
-      module _ (a : ℕ) (is : attribute_named rules (look (Is k)) name ≡ Some a) where
+      module _ (a : ℕ) (is : attribute_asked rules (look (Is k)) name (length vs) ≡ Some a) where
         pub unfitly_is : fit_numbers rules.classes look (parameters_of rules a) vs ≡ false → obeyed rules s session (Ask place name arguments) ≡ Refuses code.Arguments
         unfitly_is e = let (u, there) = found k n p in asked_unfitly rules s session place name arguments n named u there ws values a (by_class (Some a) is u there) (by_numbers a false e)
 
@@ -81,14 +87,20 @@ module _ (rules : Rules) (s : Shown) (idle : IsIdle s) (marks : List Mark) (sess
       pub asked_like : (a : ℕ) → InstanceLike (Names (path s)) (question k a vs) (asked_of a)
       asked_like a = record { node = number.2; attribute = refl; arguments = values.2 }
 
-      module _ (class : ℕ) (is_class : class ≡ contents s (Is k)) (is_name : IsName name) where
-        attribute_is : (o : Option ℕ) → ((name ≡ [] → ⊥) → o ≡ attribute_named rules class name) → attribute_named rules (contents s (Is k)) name ≡ o
-        attribute_is o h = ap (λ c. attribute_named rules c name) (sym is_class) ∙ sym (h (name_filled name is_name.0))
+      module _ (class : ℕ) (is_class : class ≡ contents s (Is k)) (is_name : IsName name) (count : ℕ)
+          (many : count ≡ length vs) where
+        attribute_is : (o : Option ℕ) → ((name ≡ [] → ⊥) → o ≡ attribute_asked rules class name count)
+            → attribute_asked rules (contents s (Is k)) name (length (map value_view vs)) ≡ o
+        attribute_is o h = ap (λ c. attribute_asked rules c name (length (map value_view vs))) (sym is_class)
+            ∙ ap (attribute_asked rules class name) (length-map vs value_view ∙ sym many)
+            ∙ sym (h (name_filled name is_name.0))
 
-        pub asked_no_attribute : ((name ≡ [] → ⊥) → None ≡ attribute_named rules class name) → becomes ≡ Refuses code.Attribute
+        pub asked_no_attribute : ((name ≡ [] → ⊥) → None ≡ attribute_asked rules class name count)
+            → becomes ≡ Refuses code.Attribute
         asked_no_attribute h = strangely_is rules by_words session place name arguments number.0 number.1 (path s) (contents s) (shown_alike s idle) (tree_there s) k number.2 (map value_view vs) values.0 values.1 values.2 (attribute_is None h)
 
-        module _ (a : ℕ) (is : (name ≡ [] → ⊥) → Some a ≡ attribute_named rules class name) (seen : List ValueCode) (same : seen ≡ vs) where
+        module _ (a : ℕ) (is : (name ≡ [] → ⊥) → Some a ≡ attribute_asked rules class name count)
+            (seen : List ValueCode) (same : seen ≡ vs) where
           fit_is : (b : Bool) → b ≡ fit_numbers rules.classes (contents s) (parameters_of rules a) (map value_view seen) → fit_numbers rules.classes (contents s) (parameters_of rules a) (map value_view vs) ≡ b
           fit_is b h = ap (λ (xs : List ValueCode). fit_numbers rules.classes (contents s) (parameters_of rules a) (map value_view xs)) (sym same) ∙ sym h
 

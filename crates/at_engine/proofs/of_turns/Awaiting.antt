@@ -1,11 +1,11 @@
 -- Each command that doesn't wait is obeyed at once.
 use Rattle.std.specs.List.{list_all}
-use Rattle.std.proofs.Common.{◌≡◌, ℕ, ◌+◌, Bool, not, map, if◌then◌else◌, true, false, nat_eq, nat_le, List, [], ◌∷◌, ◌++◌, count_by, Option, Some, None, option_and_then, Result, Ok, Err, refl}
+use Rattle.std.proofs.Common.{◌≡◌, ℕ, ◌+◌, Bool, not, map, if◌then◌else◌, true, false, nat_eq, nat_le, List, [], ◌∷◌, ◌++◌, length, count_by, Option, Some, None, option_and_then, Result, Ok, Err, refl}
 use Rattle.at_model.specs.Classes.{Shape}
 use Rattle.at_model.specs.Trees.{Tree, class_of}
 use Rattle.at_model.specs.Terms.{Term, term_of}
 use Rattle.at_model.specs.Paths.{Node, part_named, tree_at}
-use Rattle.at_model.specs.Rules.{Rules, attribute_named}
+use Rattle.at_model.specs.Rules.{Rules, attribute_asked}
 use Rattle.at_model.specs.Run.{Instance, Value}
 use Rattle.at_model.specs.Shaping.{names_classes, shaped}
 use Rattle.at_model.specs.Edits.{Edit, Refusal, class_asked, edited_within, list_class, optional_class, shape_at, token_kind}
@@ -100,7 +100,8 @@ module _ (rules : Rules) (s : State) (session : ℕ) where
         | Some vs ↦ questioned rules s.tree n attribute vs
       ])
       by n None = tt
-      by n (Some vs) = of_values n vs (option_and_then (λ u. attribute_named rules (class_of u) attribute) (tree_at s.tree n))
+      by n (Some vs) = of_values n vs (option_and_then (λ u. attribute_asked rules (class_of u) attribute
+          (length vs)) (tree_at s.tree n))
 
   -- a line that asks doesn't wait
   pub asked_at_once : (expected : Option ℕ) (place : Place) (attribute : List ℕ) (arguments : List Argument)

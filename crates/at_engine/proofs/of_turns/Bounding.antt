@@ -7,7 +7,7 @@ use Rattle.at_model.specs.Lines.{Argument, Ask, Int, Place, Ref, Text, Truth, Nu
 use Rattle.at_model.specs.Paths.{Node, tree_at}
 use Rattle.at_model.specs.Replies.{Code}
 use Rattle.at_model.specs.Replies as code
-use Rattle.at_model.specs.Rules.{Rules, attribute_named}
+use Rattle.at_model.specs.Rules.{Rules, attribute_asked}
 use Rattle.at_model.specs.Run.{Instance, Value}
 use Rattle.at_model.specs.Run as run
 use Rattle.at_model.specs.Trees.{Tree, class_of}
@@ -64,7 +64,8 @@ module _ (rules : Rules) (s : State) (session : ℕ) where
 
   by_values : (n : Node) (name : List ℕ) (o : Option (List (Value Node))) (i : Instance Node) → elim o as (λ _. Verdict) [ None ↦ Refuses code.Path | Some vs ↦ questioned rules s.tree n name vs ] ≡ Asks i → o ≡ Some i.arguments
   by_values n name None i e = absurd cc
-  by_values n name (Some vs) i e = ap Some (by_name (option_and_then (λ u. attribute_named rules (class_of u) name) (tree_at s.tree n)) n vs i e)
+  by_values n name (Some vs) i e = ap Some (by_name (option_and_then (λ u. attribute_asked rules (class_of u) name
+      (length vs)) (tree_at s.tree n)) n vs i e)
 
   by_place : (o : Option Node) (name : List ℕ) (vs : Option (List (Value Node))) (i : Instance Node) →
       elim o as (λ _. Verdict) [ None ↦ Refuses code.Path | Some n ↦ elim vs as (λ _. Verdict) [ None ↦ Refuses code.Path | Some ws ↦ questioned rules s.tree n name ws ] ] ≡ Asks i → vs ≡ Some i.arguments

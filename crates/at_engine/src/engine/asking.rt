@@ -192,7 +192,10 @@ impl<'e, M: Lookup> View<'e, M> {
         let Some(values) = self.values_named(session, arguments)? else {
             return Ok(Asked::Refused(Refusal::Path));
         };
-        let Some(attribute) = self.rules.attribute(self.store.class(node), attribute) else {
+        let Some(attribute) = self
+            .rules
+            .attribute_asked(self.store.class(node), attribute, values.len())
+        else {
             return Ok(Asked::Refused(Refusal::Attribute));
         };
         if !self.fit_parameters(attribute, values.as_slice()) {

@@ -56,7 +56,7 @@ impl<'e, M: Lookup> View<'e, M> {
     ghost use Rattle.at_model.specs.Lines.{Show, Where};
     ghost use Rattle.at_model.specs.Paths.{Node as NodeOf};
     ghost use Rattle.at_model.specs.Run.{Ref, Value as ValueOf};
-    ghost use Rattle.at_model.specs.Rules.{attribute_name};
+    ghost use Rattle.at_model.specs.Rules.{attribute_name, plain_name};
     ghost use Rattle.at_model.specs.Meaning.{Answer as AnswerOf, Circle, Faults, Outcomes};
     ghost use Rattle.at_model.specs.Alike.{AnswerLike, Names, OptionLike, ValueLike};
     ghost use Rattle.at_model.specs.Machine.{shown_value};
@@ -126,11 +126,11 @@ impl<'e, M: Lookup> View<'e, M> {
         Ok(Form::Circular { path, attribute })
     }
 
-    /// The name of the instance's attribute.
+    /// The name of the instance's attribute, as it is told.
     fn attribute_of(&self, inst: &Inst) -> Result<String, AllocError>
-        ensures { IfOk result (λ s. string_bytes s ≡ attribute_name self.now.rules.now inst.now.attribute) }
+        ensures { IfOk result (λ s. string_bytes s ≡ plain_name (attribute_name self.now.rules.now inst.now.attribute)) }
     {
-        String::from_str(self.alloc, self.rules.name_of(inst.attribute()))
+        String::from_str(self.alloc, self.rules.told_name(inst.attribute()))
     }
 
     /// What is shown of a value: of a node its path.
