@@ -5,12 +5,12 @@ use Rattle.std.specs.Str.{bytes_eq}
 use Rattle.at_model.specs.Classes.{Classes, is_sub}
 use Rattle.at_model.specs.Instances.{AnyText}
 use Rattle.at_model.specs.Machine.{parameters_of}
-use Rattle.at_model.specs.Rules.{Rules, Attribute, Kind, attribute_named}
+use Rattle.at_model.specs.Rules.{Rules, Attribute, Kind, attribute_asked, attribute_named, names_asked}
 use Rattle.at_model.specs.Run.{Value, Int, Instance}
 use Rattle.at_model.specs.TypedRuns.{ClassAt, IsOfKind, IsOfItsKind, AreArguments, IsWellTyped}
 use Rattle.at_model.specs.Rules as kinds
 use Rattle.at_model.proofs.Options.{both}
-use Rattle.at_model.proofs.of_machines.WellAsked.{element_at}
+use Rattle.at_model.proofs.of_machines.WellAsked.{an_answer, element_at}
 use Rattle.at_model.proofs.of_typing.TypedTogether.{any_text}
 use Rattle.at_rules.specs.Bodies.{kind_view}
 use Rattle.at_rules.specs.declared.body.Kind.{Kind as KindCode}
@@ -33,11 +33,14 @@ module _ (classes : Classes) (at : ClassAt ℕ) where
       subst (λ (xs : List KindCode). Fit xs vs) (sym e) (subst (λ (xs : List ValueCode). Fit (k ∷ others) xs) (sym f) (is, any_text (value_view v), fit))
 
 -- an attribute that the class of a node has, with arguments for its parameters
-pub well_typed : (rules : Rules) (at : ClassAt ℕ) (n c attribute : ℕ) (name : List ℕ) (vs : List (Value ℕ)) → at n ≡ Some c → attribute_named rules c name ≡ Some attribute →
+pub well_typed : (rules : Rules) (at : ClassAt ℕ) (n c attribute : ℕ) (name : List ℕ) (count : ℕ)
+    (vs : List (Value ℕ)) → at n ≡ Some c → attribute_asked rules c name count ≡ Some attribute →
     AreArguments rules.classes at AnyText vs (parameters_of rules attribute) → IsWellTyped rules at AnyText (record { node = n; attribute = attribute; arguments = vs })
-well_typed rules at n c attribute name vs there named fit =
-    let (a, declared, passes) = element_at (λ a. bytes_eq a.name name && is_sub rules.classes c a.class) rules.attributes attribute named in
-    let (same, below) = both (bytes_eq a.name name) (is_sub rules.classes c a.class) passes in
+well_typed rules at n c attribute name count vs there asked fit =
+    let (z, named) = an_answer (attribute_named rules c) (names_asked name count) attribute asked in
+    let (a, declared, passes) = element_at (λ a. bytes_eq a.name z && is_sub rules.classes c a.class)
+    rules.attributes attribute named in
+    let (same, below) = both (bytes_eq a.name z) (is_sub rules.classes c a.class) passes in
     let parameters : parameters_of rules attribute ≡ a.parameters = ap (λ (o : Option Attribute). elim o as (λ _. List Kind) [ None ↦ [] | Some b ↦ b.parameters ]) declared in
     record { class = c; declaration = a; node = there; attribute = declared; declared = below; arguments = subst (λ ks. AreArguments rules.classes at AnyText vs ks) parameters fit }
 

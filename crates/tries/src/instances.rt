@@ -45,7 +45,7 @@ pub fn instance(world: &World, call: &str) -> Result<Inst, Refusal>
     let node = node(world, place)?;
     let values = values(world, arguments)?;
     let class = world.store.class(node);
-    let Some(attribute) = world.rules.attribute(class, attribute) else {
+    let Some(attribute) = world.rules.attribute_asked(class, attribute, values.len()) else {
         return Err(Refusal::Attribute);
     };
     if !are_of(world, world.rules.params(attribute), values.as_slice()) {

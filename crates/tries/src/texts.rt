@@ -70,7 +70,7 @@ pub fn write_instance(world: &World, inst: &Inst, out: &mut Vec<u8>) -> Result<(
 {
     write_node(world, inst.node(), out)?;
     out.push(b' ')?;
-    out.extend_from_slice(world.rules.name_of(inst.attribute()).as_bytes())?;
+    out.extend_from_slice(world.rules.told_name(inst.attribute()).as_bytes())?;
     out.push(b'(')?;
     for (i, argument) in inst.arguments().iter().enumerate() {
         if i > 0 {

@@ -23,4 +23,6 @@ returns c =
     let by_kinds = subst (λ (ks : List Kind). AreArguments w.rules.classes (classes_at w) AnyText (map value_view c.as_slice.result.now) ks) c.params.ensures (c.if-not-are_of.ensures refl) in
     let fit = subst (λ (vs : List Value). AreArguments w.rules.classes (classes_at w) AnyText (map value_view vs) (parameters_of w.rules c.in-Some.attribute)) c.as_slice.ensures.value by_kinds in
     let made = c.new.ensures ∙ ap (λ vs. record { node = c.in_ok-node.node; attribute = c.in-Some.attribute; arguments = map value_view vs }) c.in_ok-of.ensures in
-    subst (IsTyped w) (sym made) (well_typed w.rules (classes_at w) c.in_ok-node.node c.class-class.result c.in-Some.attribute c.in-Ask.attribute.now (map value_view c.in_ok-values.values.items) there named fit)
+    subst (IsTyped w) (sym made) (well_typed w.rules (classes_at w) c.in_ok-node.node c.class-class.result
+    c.in-Some.attribute c.in-Ask.attribute.now
+    c.len.result (map value_view c.in_ok-values.values.items) there named fit)
