@@ -6,9 +6,11 @@
 PROGRAM is ./attrd where none is given. First it is found how many entries the question for all errors leaves: the least bound with which
 the next edit folds none. A quarter of these (--part 4) is the bound then. In one session with it, behind an edit that folds, each kind of
 keystroke is typed twice, foldings with it, and as often in a session without a bound; instructions are counted by `valgrind`, so that the
-machine may be busy. Memory is what the program holds behind the first edit beside what it holds before the question, against such a part
-of what it holds without a bound. --row measures the rows whose names have that in them; --cut-off gives both programs this option. With
---hold the status is 1 where a bound doesn't hold; nothing is wanted with --cut-off. It takes three minutes.
+machine may be busy. A keystroke with a bound may take three times what it took in version 0.37 without one, which is written down here;
+since then most of what an edit may have changed is reused where there is no bound, and that stands beside it. Memory is what the program
+holds behind the first edit beside what it holds before the question, against such a part of what it holds without a bound. --row measures
+the rows whose names have that in them; --cut-off gives both programs this option. With --hold the status is 1 where a bound doesn't hold;
+nothing is wanted with --cut-off. It takes three minutes.
 """
 from __future__ import annotations
 
@@ -31,8 +33,23 @@ from served import Served
 from attrd import Grammar
 
 SIZES, SEED, PART, TYPED = (10_000,), 1, 4, 2
-# How many times what it takes else a keystroke may take, and how many times the memory of so many entries may be held.
+# How many times what it took before without a bound a keystroke may take, and how many times the memory of so many entries may be held.
 MOST_TIME, MOST_MEMORY = 3.0, 1.5
+# What version 0.37 took without a bound, which forgot what an edit may have changed, in millions of instructions, by a program that isn't proved (a
+# proved one takes about a fifth less).
+BEFORE = {
+    "a number that nothing rests on": 0.007,
+    "a use mistyped and corrected": 0.292,
+    "a statement in or out at the front of a method": 1.368,
+    "a declaration in or out at the front of a method": 1.382,
+    "a declaration renamed": 3.815,
+    "a field renamed": 2.218,
+    "a field in or out": 3.655,
+    "a declaration in or out at the front of the largest scope": 25.335,
+    "a class renamed": 18.805,
+    "a class in or out at the top": 125.681,
+    "a class in or out at the end": 125.375,
+}
 # The processor time that no edit takes by which nothing is folded, in seconds.
 FOLDING = 0.002
 # What the C library takes beside each block, in bytes.
@@ -122,10 +139,11 @@ def share(value: float, bounds: Bounds, what: str, most: Optional[float]) -> str
 
 def tell_rows(bench: Bench, most: int, bounds: Bounds, is_wanted: bool) -> None:
     """Prints what each kind of keystroke takes."""
-    table(f"A keystroke and all errors, {bench.size:,} nodes, millions of instructions", "No bound", f"--keep {most}", "Ratio")
+    table(f"A keystroke and all errors, {bench.size:,} nodes, millions of instructions", "No bound", f"--keep {most}", "No bound, 0.37", "Ratio")
     for it, free, bounded in zip(bench.rows, bench.typed(None), bench.typed(most)):
-        told = share(bounded / free, bounds, f"{it.name}, {bench.size:,} nodes", MOST_TIME if is_wanted else None)
-        row(it.name, f"{free / 1e6:,.3f}", f"{bounded / 1e6:,.3f}", told)
+        before = BEFORE[it.name]
+        told = share(bounded / 1e6 / before, bounds, f"{it.name}, {bench.size:,} nodes, against no bound in 0.37", MOST_TIME if is_wanted else None)
+        row(it.name, f"{free / 1e6:,.3f}", f"{bounded / 1e6:,.3f}", f"{before:,.3f}", told)
 
 
 def tell_memory(bench: Bench, most: int, entries: int, bounds: Bounds, is_wanted: bool) -> None:
