@@ -1,10 +1,10 @@
 -- An edit is refused for the first reason that there is, and is accepted where there is none.
-use Rattle.std.proofs.Common.{◌≡◌, ℕ, zero, suc, ◌<◌, Bool, true, false, not, if◌then◌else◌, Result, Ok, Err, refl, sym, ap, ◌∙◌, subst, arith}
+use Rattle.std.proofs.Common.{◌≡◌, ℕ, zero, suc, ◌<◌, Bool, true, false, ◌&&◌, not, if◌then◌else◌, Result, Ok, Err, refl, sym, ap, ◌∙◌, subst, arith}
 use Rattle.std.specs.Prelude.{nat_eq}
 use Rattle.std.proofs.lemmas.Bool.Decides.{nat_tests}
 use Rattle.at_model.specs.Classes.{Classes}
 use Rattle.at_model.specs.Trees.{Tree}
-use Rattle.at_model.specs.Edits.{Edit, Refusal, Component, Fit, Index, Taken, Fixed, Inside, Limit, edited, has_component, fits_there, is_in_range, is_free, is_removable, is_outside, is_within_limits, left_by}
+use Rattle.at_model.specs.Edits.{Edit, Refusal, Component, Fit, Index, Taken, Fixed, Inside, Limit, edited, has_component, fits_there, is_in_range, is_free, is_loose, is_removable, is_outside, is_within_limits, left_by}
 use Rattle.at_model.specs.Refusing.{rank, Breaks}
 use Rattle.at_model.proofs.FirstGiven.{off_on}
 
@@ -153,7 +153,7 @@ test_of classes t e Component = has_component classes t e
 test_of classes t e Fit = fits_there classes t e
 test_of classes t e Index = is_in_range t e
 test_of classes t e Taken = is_free t e
-test_of classes t e Fixed = is_removable classes t e
+test_of classes t e Fixed = is_loose classes t e && is_removable classes t e
 test_of classes t e Inside = is_outside e
 test_of classes t e Limit = is_within_limits (left_by t e)
 

@@ -1,5 +1,5 @@
 -- What options and tests came from.
-use Rattle.std.proofs.Common.{◌≡◌, ◌⊎◌, Bool, true, false, ◌&&◌, ◌||◌, if◌then◌else◌, Option, Some, None, inl, inr, refl, option_and_then, option_map}
+use Rattle.std.proofs.Common.{◌≡◌, ◌⊎◌, Bool, true, false, not, ◌&&◌, ◌||◌, if◌then◌else◌, Option, Some, None, inl, inr, refl, option_and_then, option_map}
 
 pub both : (a b : Bool) → (a && b) ≡ true → (a ≡ true) × (b ≡ true)
 both true true e = (refl, refl)
@@ -23,6 +23,14 @@ pub either_true : (a b : Bool) → (a || b) ≡ true → (a ≡ true) ⊎ (b ≡
 either_true true b e = inl refl
 either_true false b e = inr e
 
+pub neither : (a b : Bool) → (a || b) ≡ false → (a ≡ false) × (b ≡ false)
+neither true b e = cc
+neither false b e = (refl, e)
+
+pub or_off : (a b : Bool) → a ≡ false → b ≡ false → (a || b) ≡ false
+or_off true b e f = cc
+or_off false b e f = f
+
 pub or_right : (a b : Bool) → b ≡ true → (a || b) ≡ true
 or_right true b e = refl
 or_right false b e = e
@@ -30,6 +38,10 @@ or_right false b e = e
 pub or_false : (a : Bool) → (a || false) ≡ a
 or_false true = refl
 or_false false = refl
+
+pub not_off : (b : Bool) → not b ≡ true → b ≡ false
+not_off true e = cc
+not_off false e = refl
 
 pub not_true : (b : Bool) → (b ≡ true → ⊥) → b ≡ false
 not_true true h = absurd (h refl)

@@ -5,7 +5,8 @@ use Rattle.at_model.specs.Classes.{Classes, Component, Shape, parts}
 use Rattle.at_model.specs.Classes as class
 use Rattle.at_model.specs.Trees.{Tree, Cell, Node as branch, One, Many, Empty, Filled, Holds, class_of, from_cells, children, conforms, cell_conforms}
 use Rattle.at_model.specs.Paths.{Path, Step, Node, children_at, tree_at, place_in, step_in, node_at, index_in, step_of, path_of, ArePartsApart}
-use Rattle.at_model.proofs.Options.{both, led}
+use Rattle.at_model.proofs.Options.{led}
+use Rattle.at_model.proofs.ConformingParts.{conforming_parts}
 use Rattle.at_model.proofs.Complete.{cell_there, child_conforms}
 
 -- a child's index is written so that it is found again
@@ -41,7 +42,7 @@ step_back : (classes : Classes) → ArePartsApart classes → (t : Tree) (b : �
     → conforms classes t b ≡ true → slice_get (children_at t way.0) way.1 ≡ Some v → LeadsTo classes t way
 step_back classes apart (branch k cells) b way v ok child =
     let (c, here, at') = in_some (slice_get (from_cells cells) way.0) way.1 v child in
-    let (q, is, fits) = cell_there classes cells (parts classes k) way.0 c (both _ _ ok).1 here in
+    let (q, is, fits) = cell_there classes cells (parts classes k) way.0 c (conforming_parts classes k cells b ok).1 here in
     let P : Option ℕ → Type 0 = λ o. option_and_then (λ part. option_and_then (λ p. option_map (λ i. (part, i))
     (place_in p.shape (index_in q.shape way.1))) (slice_get (parts classes k) part)) o ≡ Some way in
     let found = placed classes c q.shape way.1 v fits at' in

@@ -22,11 +22,13 @@ own_sound : (classes : Classes) → AreSound classes → (c : ℕ) → (o : Opti
 own_sound classes sound c None is = All-nil (IsComponentSound (length classes))
 own_sound classes sound c (Some k) is = (at_index (IsClassSound (length classes)) classes c k sound.each is).own
 
+pub parts_sound : (classes : Classes) → AreSound classes → (c : ℕ) → All (IsComponentSound (length classes)) (parts classes c)
+parts_sound classes sound c = in_each (IsComponentSound (length classes)) (own_of classes) (λ d. own_sound classes sound d (slice_get classes d) refl) (reverse (chain classes c))
+
 -- a component of a sound class has a name
 pub component_named : (classes : Classes) → AreSound classes → (c part : ℕ) (p : Component) → slice_get (parts classes c) part ≡ Some p → IsName p.name
 component_named classes sound c part p is =
-    (at_index (IsComponentSound (length classes)) (parts classes c) part p
-    (in_each (IsComponentSound (length classes)) (own_of classes) (λ d. own_sound classes sound d (slice_get classes d) refl) (reverse (chain classes c))) is).name
+    (at_index (IsComponentSound (length classes)) (parts classes c) part p (parts_sound classes sound c) is).name
 
 pub index_written : (shape : Shape) (i : ℕ) → i < 16777216 → IsIndex (index_in shape i)
 index_written (One c) i small = tt

@@ -3,6 +3,7 @@ pub mod Words
 pub mod QuotedTexts
 pub mod OneTerm
 pub mod OneLine
+pub mod Planting
 pub mod Shaped
 pub mod PlainLines
 pub mod Unread

@@ -8,6 +8,7 @@ use Rattle.at_model.specs.Classes.{Classes, Component, is_sub, parts, class_in}
 use Rattle.at_model.specs.Drawers.{Key, mark_of}
 use Rattle.at_model.specs.Trees.{Token}
 use Rattle.at_model.specs.Trees as tree
+pub use Rattle.at_model.specs.SyntaxTrees.{bool_eq}
 use Rattle.at_model.specs.Run.{Value, Int, Truth, Text, Ref, Nodes, Is, Tok, Slot, Up, Idx, Drawer, Null, Index, Absent, Zero, Cast, Long, Run, Gives, Fails, Looks, Demands, ◌>>=◌}
 
 -- operators on two ints that give an int
@@ -244,11 +245,6 @@ max_text = 65535
 -- the text, or the fault `long`
 abbrev pub joined : {N : Type 0} → List ℕ → Run N (Value N)
 joined bytes = cond (nat_le (length bytes) max_text) (Gives (Text bytes)) (Fails Long)
-
--- both or neither
-abbrev pub bool_eq : Bool → Bool → Bool
-bool_eq true b = b
-bool_eq false b = not b
 
 -- the same node, by the test that is given, or both null
 abbrev pub ref_eq : {N : Type 0} → (N → N → Bool) → Option N → Option N → Bool

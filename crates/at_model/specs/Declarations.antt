@@ -59,7 +59,7 @@ shape_in Tok c kind = class.Token kind
 -- the component that is declared, where `named` says which class a name names; a word that names nothing, which is a
 -- fault, stands for the first class and for String
 abbrev pub component_by : (List ℕ → Option ℕ) → PartDeclaration → Component
-component_by named p = record { name = p.name; shape = shape_in p.form (unwrap_or (named p.kind) 0) (unwrap_or (token_kind_named p.kind) Text) }
+component_by named p = record { name = p.name; shape = shape_in p.form (unwrap_or (named p.kind) 0) (unwrap_or (token_kind_named p.kind) Text); fixed = None }
 
 abbrev pub class_by : (List ℕ → Option ℕ) → Declaration → Class
 class_by named d = record { name = d.name; is_abstract = d.is_abstract; parent = option_and_then named d.parent; own = map (component_by named) d.parts }

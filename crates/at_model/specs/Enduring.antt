@@ -1,7 +1,6 @@
 -- What holds of a state over all lines, beside that it is sound.
-use Rattle.std.specs.Prelude.{ℕ, ◌<◌, ◌≤◌, nat_eq, List, [], ◌∷◌, map, count_by, ⊤}
-use Rattle.at_model.specs.Trees.{Tree, Node, Cells, no_cells, cell, Cell, One, Many, Empty, Filled, Holds, Trees, no_trees, tree}
-use Rattle.at_model.specs.Terms.{IsToken}
+use Rattle.std.specs.Prelude.{ℕ, ◌<◌, ◌≤◌, nat_eq, List, [], ◌∷◌, map, count_by}
+pub use Rattle.at_model.specs.SyntaxTrees.{AreTokens, CellsAreTokens, CellIsTokens, TreesAreTokens}
 use Rattle.at_model.specs.Meaning.{Distinct}
 use Rattle.at_model.specs.Lines.{last_version, last_post}
 use Rattle.at_model.specs.Machine.{State, Marked, Posted, max_marks, max_posted}
@@ -24,23 +23,3 @@ pub record IsOrderly (s : State) : Type 0 where
   pub numbered : AreNumbered 0 s.posted s.posts
   pub posts : s.posts ≤ last_post
   pub few_posted : (session : ℕ) → count_by (λ q. nat_eq session q.session) s.posted ≤ max_posted
-
--- each token in a tree is one that can be written: a text of characters, an int of 32 bits, a truth value
-abbrev mutual
-  pub AreTokens : Tree → Type 0
-  AreTokens (Node c cells) = CellsAreTokens cells
-
-  pub CellsAreTokens : Cells → Type 0
-  CellsAreTokens no_cells = ⊤
-  CellsAreTokens (cell c cs) = CellIsTokens c × CellsAreTokens cs
-
-  pub CellIsTokens : Cell → Type 0
-  CellIsTokens (One t) = AreTokens t
-  CellIsTokens (Many ts) = TreesAreTokens ts
-  CellIsTokens Empty = ⊤
-  CellIsTokens (Filled t) = AreTokens t
-  CellIsTokens (Holds v) = IsToken v
-
-  pub TreesAreTokens : Trees → Type 0
-  TreesAreTokens no_trees = ⊤
-  TreesAreTokens (tree t ts) = AreTokens t × TreesAreTokens ts

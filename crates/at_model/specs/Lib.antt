@@ -1,5 +1,6 @@
 pub mod Names
 pub mod Texts
+pub mod SyntaxTrees
 pub mod Classes
 pub mod Declarations
 pub mod Trees

@@ -1,5 +1,5 @@
 -- What each refusal says of an edit and of a line, in words of its own, and which comes first. `Edits` and `Machine` have the tests.
-use Rattle.std.specs.Prelude.{◌≡◌, ◌⊎◌, ℕ, ◌≤◌, Bool, true, false, nat_eq, nat_le, List, [], ◌∷◌, length, count_by, Option, Some, None, option_and_then, option_map, is_some, IsSome, map}
+use Rattle.std.specs.Prelude.{◌≡◌, ◌⊎◌, ℕ, ◌≤◌, Bool, true, false, ◌&&◌, nat_eq, nat_le, List, [], ◌∷◌, length, count_by, Option, Some, None, option_and_then, option_map, is_some, IsSome, map}
 use Rattle.std.specs.List.{flat_map}
 use Rattle.at_model.specs.Classes.{Classes, Shape}
 use Rattle.at_model.specs.Trees.{Tree, class_of, nodes}
@@ -8,7 +8,7 @@ use Rattle.at_model.specs.Paths.{Node, tree_at}
 use Rattle.at_model.specs.Run.{Value}
 use Rattle.at_model.specs.Rules.{Rules, attribute_asked}
 use Rattle.at_model.specs.Meaning.{Among}
-use Rattle.at_model.specs.Edits.{Edit, Refusal, has_component, fits_there, is_in_range, is_free, is_removable, is_outside, is_within_limits, left_by, shape_at, class_asked, list_class, optional_class, token_kind}
+use Rattle.at_model.specs.Edits.{Edit, Refusal, has_component, fits_there, is_in_range, is_free, is_loose, is_removable, is_outside, is_within_limits, left_by, shape_at, class_asked, list_class, optional_class, token_kind}
 use Rattle.at_model.specs.Edits as edit
 use Rattle.at_model.specs.Shaping.{names_classes, shaped}
 use Rattle.at_model.specs.Effects.{component_named}
@@ -47,7 +47,7 @@ Breaks classes t e edit.Component = has_component classes t e ≡ false
 Breaks classes t e edit.Fit = fits_there classes t e ≡ false
 Breaks classes t e edit.Index = is_in_range t e ≡ false
 Breaks classes t e edit.Taken = is_free t e ≡ false
-Breaks classes t e edit.Fixed = is_removable classes t e ≡ false
+Breaks classes t e edit.Fixed = (is_loose classes t e && is_removable classes t e) ≡ false
 Breaks classes t e edit.Inside = is_outside e ≡ false
 Breaks classes t e edit.Limit = is_within_limits (left_by t e) ≡ false
 

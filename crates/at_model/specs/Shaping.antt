@@ -1,8 +1,8 @@
 -- Which tree a term is: its names looked up, its cells laid against the components.
 use Rattle.std.specs.Prelude.{ℕ, Bool, true, false, ◌&&◌, if◌then◌else◌, List, [], ◌∷◌, Option, Some, None, option_map, option_and_then}
-use Rattle.at_model.specs.Classes.{Classes, Component, Shape, parts, fits, is_concrete, class_of_name}
+use Rattle.at_model.specs.Classes.{Classes, Component, Shape, parts, free, fits, is_concrete, class_of_name}
 use Rattle.at_model.specs.Classes as class
-use Rattle.at_model.specs.Trees.{Tree, is_of_kind}
+use Rattle.at_model.specs.Trees.{Tree, is_of_kind, cell_conforms}
 use Rattle.at_model.specs.Trees as tree
 use Rattle.at_model.specs.Terms.{Term, Cells, Cell, Terms, Node, no_cells, cell, One, Many, Empty, Holds, no_terms, term}
 
@@ -29,12 +29,26 @@ abbrev mutual
   terms_name_classes classes no_terms = true
   terms_name_classes classes (term t ts) = names_classes classes t && terms_name_classes classes ts
 
--- the tree of the class asked, or of one below it, that the term writes, where there is one
+-- what is fixed conforms
+abbrev pub fixed_fit : Classes → List Component → Bool
+fixed_fit classes [] = true
+fixed_fit classes (p ∷ ps) = elim p.fixed [ None ↦ true | Some d ↦ cell_conforms classes d p.shape ] && fixed_fit classes ps
+
+-- what is fixed in its components, and these cells in the others
+abbrev pub planted : List Component → tree.Cells → tree.Cells
+planted [] ds = ds
+planted (p ∷ ps) ds = elim p.fixed [
+  | Some d ↦ tree.cell d (planted ps ds)
+  | None ↦ elim ds [ tree.no_cells ↦ tree.no_cells | tree.cell d rest ↦ tree.cell d (planted ps rest) ]
+]
+
+-- the tree of the class asked, or of one below it, that the term writes, where there is one: what is fixed comes by itself
 abbrev mutual
   pub shaped : Classes → Term → ℕ → Option Tree
   shaped classes (Node name cells) b =
       option_and_then (λ c.
-      if fits classes c b then option_map (λ ds. tree.Node c ds) (cells_shaped classes cells (parts classes c)) else None)
+      if fits classes c b && fixed_fit classes (parts classes c)
+      then option_map (λ ds. tree.Node c (planted (parts classes c) ds)) (cells_shaped classes cells (free (parts classes c))) else None)
       (class_of_name classes name)
 
   pub cells_shaped : Classes → Cells → List Component → Option tree.Cells

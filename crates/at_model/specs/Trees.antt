@@ -1,63 +1,9 @@
--- Syntax trees: a class and a cell for each of its components (JastAdd2 reference manual, "Abstract syntax").
-use Rattle.std.specs.Prelude.{ℕ, ◌+◌, max, ℤ, Bool, true, false, ◌&&◌, List, [], ◌∷◌}
+-- Which syntax trees conform to the classes, and how large they are.
+use Rattle.std.specs.Prelude.{ℕ, ◌+◌, max, Bool, true, false, ◌&&◌, List, [], ◌∷◌, Some, None}
 use Rattle.at_model.specs.Classes.{Classes, Component, Shape, TokenKind, fits, parts}
 use Rattle.at_model.specs.Classes as class
-
--- the value of a token
-pub data Token : Type 0 where
-  Text : List ℕ → Token
-  Int : ℤ → Token
-  Truth : Bool → Token
-
-mutual
-  pub data Tree : Type 0 where
-    Node : (class : ℕ) → (cells : Cells) → Tree
-
-  pub data Cells : Type 0 where
-    no_cells : Cells
-    cell : Cell → Cells → Cells
-
-  -- one tree, a list of trees, an optional that is empty or filled, a token
-  pub data Cell : Type 0 where
-    One : Tree → Cell
-    Many : Trees → Cell
-    Empty : Cell
-    Filled : Tree → Cell
-    Holds : Token → Cell
-
-  pub data Trees : Type 0 where
-    no_trees : Trees
-    tree : Tree → Trees → Trees
-
-abbrev pub class_of : Tree → ℕ
-class_of (Node c cells) = c
-
-abbrev pub cells_of : Tree → Cells
-cells_of (Node c cells) = cells
-
-abbrev pub to_cells : List Cell → Cells
-to_cells [] = no_cells
-to_cells (c ∷ cs) = cell c (to_cells cs)
-
-abbrev pub from_cells : Cells → List Cell
-from_cells no_cells = []
-from_cells (cell c cs) = c ∷ from_cells cs
-
-abbrev pub to_trees : List Tree → Trees
-to_trees [] = no_trees
-to_trees (t ∷ ts) = tree t (to_trees ts)
-
-abbrev pub from_trees : Trees → List Tree
-from_trees no_trees = []
-from_trees (tree t ts) = t ∷ from_trees ts
-
--- the trees in a cell
-abbrev pub children : Cell → List Tree
-children (One t) = t ∷ []
-children (Many ts) = from_trees ts
-children Empty = []
-children (Filled t) = t ∷ []
-children (Holds v) = []
+pub use Rattle.at_model.specs.SyntaxTrees.{Token, Text, Int, Truth, Tree, Node, Cells, no_cells, cell, Cell, One, Many, Empty, Filled, Holds, Trees, no_trees, tree, class_of, cells_of, to_cells, from_cells, to_trees, from_trees, children}
+use Rattle.at_model.specs.SyntaxTrees.{cell_eq}
 
 -- the token is of the kind
 abbrev pub is_of_kind : Token → TokenKind → Bool
@@ -66,11 +12,17 @@ is_of_kind (Int n) class.Int = true
 is_of_kind (Truth b) class.Truth = true
 is_of_kind v kind = false
 
+-- in each component that is fixed stands what is fixed there
+abbrev pub fixed_stand : List Component → Cells → Bool
+fixed_stand [] cs = true
+fixed_stand (p ∷ ps) no_cells = true
+fixed_stand (p ∷ ps) (cell c cs) = elim p.fixed [ None ↦ true | Some d ↦ cell_eq d c ] && fixed_stand ps cs
+
 -- The class of the tree fits the one asked, its cells are one for each component, each of the component's shape and
--- kind, and all trees in them conform.
+-- kind, all trees in them conform, and in fixed components stands what is fixed there.
 abbrev mutual
   pub conforms : Classes → Tree → ℕ → Bool
-  conforms classes (Node c cells) b = fits classes c b && cells_conform classes cells (parts classes c)
+  conforms classes (Node c cells) b = fits classes c b && (cells_conform classes cells (parts classes c) && fixed_stand (parts classes c) cells)
 
   pub cells_conform : Classes → Cells → List Component → Bool
   cells_conform classes no_cells [] = true

@@ -120,7 +120,7 @@ pub fn an_orderly_state_stays_orderly()
 
 /// Where all tokens of the tree are ones that can be written, they are so after each line.
 pub fn tokens_stay_tokens()
-    ensures { (rules : Rules) (old : State) (bytes : List ℕ) (new : State) (said : Bool × Reply)
+    ensures { (rules : Rules) → AreSound rules.classes → (old : State) (bytes : List ℕ) (new : State) (said : Bool × Reply)
         → AreTokens old.tree → Serves rules old bytes new said → AreTokens new.tree }
 {}
 

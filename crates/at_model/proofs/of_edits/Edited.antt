@@ -11,7 +11,8 @@ use Rattle.at_model.specs.Meaning.{content}
 use Rattle.at_model.specs.Alike.{IsInjective, Names, AlikeAt}
 use Rattle.at_model.specs.Edits.{Edit, Set, Put, Drop, Insert, Token, Move, shape_at, list_class, optional_class, token_kind, fits_class, fits_kind, fits_as, is_plain, is_element, with_one_more, left_by, children_of, is_within_limits, edited, moved_under, past_set, past_put, past_insert, past_taking, changed_nodes, carried}
 use Rattle.at_model.specs.Touches.{touches, shifts, touches_in, is_slot}
-use Rattle.at_model.proofs.of_edits.Conforming.{IsAccepted, accepted, set_at, drop_at, at_component, fill, hold, one_more, seen}
+use Rattle.at_model.proofs.Options.{not_off}
+use Rattle.at_model.proofs.of_edits.Conforming.{IsAccepted, accepted, set_at, drop_at, part_changed, fill, hold, one_more, seen}
 use Rattle.at_model.proofs.of_edits.Moving.{Way, moved_apart}
 use Rattle.at_model.proofs.of_edits.Ways.{same_some, set_apart, put_apart, insert_apart, put_keeps, insert_keeps}
 use Rattle.at_model.proofs.of_edits.Surviving.{at_set as set_out, at_drop as drop_out, put_out, insert_out, none_moved_out, no_children, around, or_none, out_taken}
@@ -96,22 +97,22 @@ gone_where_touched classes t u e is n v found = gone classes t u e (accepted cla
 
 module _ (classes : Classes) where
   left_conforms : (t u : Tree) (e : Edit) → IsAccepted classes t e u → conforms classes t 0 ≡ true → conforms classes (left_by t e) 0 ≡ true
-  left_conforms t u (Set node new) made ok = set_at classes t new node (parent_of node) refl made.fit ok
-  left_conforms t u (Put node part new) made ok = at_component classes optional_class (λ c. Filled new) t node part
-      made.component (λ c shape sees old. fill classes new shape
+  left_conforms t u (Set node new) made ok = set_at classes t new node (parent_of node) refl (not_off _ made.loose) made.fit ok
+  left_conforms t u (Put node part new) made ok = part_changed classes (λ c. Filled new) t node part
+      (not_off _ made.loose) (λ c shape sees old. fill classes new shape
       (seen classes optional_class (fits_class classes new) (shape_at classes t node part) shape sees made.fit)) 0 ok
-  left_conforms t u (Drop node) made ok = drop_at classes t (parent_of node) ok
-  left_conforms t u (Insert node part index new) made ok = at_component classes list_class (with_one_more new index) t
-      node part made.component (λ c shape sees. one_more classes new index c shape
+  left_conforms t u (Drop node) made ok = drop_at classes t node (not_off _ made.loose) ok
+  left_conforms t u (Insert node part index new) made ok = part_changed classes (with_one_more new index) t
+      node part (not_off _ made.loose) (λ c shape sees. one_more classes new index c shape
       (seen classes list_class (fits_class classes new) (shape_at classes t node part) shape sees made.fit)) 0 ok
   left_conforms t u (Token node part v) made ok =
-      at_component classes token_kind (λ c. Holds v) t node part made.component (λ c shape sees old. hold classes v
+      part_changed classes (λ c. Holds v) t node part (not_off _ made.loose) (λ c shape sees old. hold classes v
       shape (seen classes token_kind (fits_kind v) (shape_at classes t node part) shape sees made.fit)) 0 ok
   left_conforms t u (Move node to part index) made ok =
       let move = is_move classes t node to part index made.fit made.removable made.outside in
-      let after = left_is classes t ok node to part index move.moved move.found move.place move.above move.listed move.target move.goes made.component made.fit made.index in
+      let after = left_is classes t ok node to part index made.loose move.moved move.found move.place move.above move.listed move.target move.goes made.component made.fit made.index in
       subst (λ (x : Tree). conforms classes x 0 ≡ true) (sym after)
-      (move_conforms classes t ok node to part index move.moved move.found move.place move.above move.listed
+      (move_conforms classes t ok node to part index made.loose move.moved move.found move.place move.above move.listed
       move.target move.goes made.component made.fit made.index)
 
   pub accepted_conforms : (t : Tree) (e : Edit) (u : Tree) → conforms classes t 0 ≡ true → edited classes t e ≡ Ok u → (conforms classes u 0 ≡ true) × (is_within_limits u ≡ true)
@@ -131,9 +132,9 @@ module _ (classes : Classes) (t : Tree) (ok : conforms classes t 0 ≡ true) whe
       subst P same (λ m s. token_alike classes t ok node part v made.component l m h hs s)
   left_alike (Move node to part index) u made l h hs =
       let move = is_move classes t node to part index made.fit made.removable made.outside in
-      let after = left_is classes t ok node to part index move.moved move.found move.place move.above move.listed move.target move.goes made.component made.fit made.index in
+      let after = left_is classes t ok node to part index made.loose move.moved move.found move.place move.above move.listed move.target move.goes made.component made.fit made.index in
       subst (λ (x : Tree). AlikeAt (Names (carried (Move node to part index))) (content t) (content x) l) (sym after)
-      (λ m s. move_alike classes t ok node to part index move.moved move.found move.place move.above move.listed move.target move.goes made.component made.fit made.index l m h hs s)
+      (λ m s. move_alike classes t ok node to part index made.loose move.moved move.found move.place move.above move.listed move.target move.goes made.component made.fit made.index l m h hs s)
 
   pub edited_alike : (e : Edit) (u : Tree) → edited classes t e ≡ Ok u → (l : Location Node) → touches_in t e l ≡ false → AlikeAt (Names (carried e)) (content t) (content u) l
   edited_alike e u is l h =
@@ -153,12 +154,12 @@ module _ (classes : Classes) (t : Tree) (ok : conforms classes t 0 ≡ true) whe
       (token_fits classes t ok node part w made.component) (moved_nowhere node n ∙ goes) found)
   left_there (Move node to part index) u made n m v goes found =
       let move = is_move classes t node to part index made.fit made.removable made.outside in
-      let after = left_is classes t ok node to part index move.moved move.found move.place move.above move.listed move.target move.goes made.component made.fit made.index in
-      let how = way classes t ok node to part index move.moved move.found move.place move.above move.listed move.target move.goes made.component made.fit made.index n m goes in
+      let after = left_is classes t ok node to part index made.loose move.moved move.found move.place move.above move.listed move.target move.goes made.component made.fit made.index in
+      let how = way classes t ok node to part index made.loose move.moved move.found move.place move.above move.listed move.target move.goes made.component made.fit made.index n m goes in
       let P : Option (Node × Way) → Type 0 = λ o. IsThere (left_by t (Move node to part index)) m v (IsElsewhere (to ∷ elim o [ None ↦ [] | Some p ↦ p.0 ∷ [] ]) n) in
       subst P (sym move.above)
       (subst (λ (x : Tree). IsThere x m v (IsElsewhere (to ∷ move.place.0 ∷ []) n)) (sym after)
-      (move_there classes t ok node to part index move.moved move.found move.place move.above move.listed move.target move.goes made.component made.fit made.index n m v how found))
+      (move_there classes t ok node to part index made.loose move.moved move.found move.place move.above move.listed move.target move.goes made.component made.fit made.index n m v how found))
 
 pub carried_there : (classes : Classes) (t u : Tree) (e : Edit) → conforms classes t 0 ≡ true
     → edited classes t e ≡ Ok u → (n m : Node) (v : Tree) → carried e n ≡ Some m → tree_at t n ≡ Some v

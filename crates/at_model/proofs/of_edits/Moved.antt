@@ -12,16 +12,17 @@ use Rattle.at_model.specs.Run.{Location, Is, Tok, Slot, Up, Idx, Drawer}
 use Rattle.at_model.specs.Meaning.{token_in, is_marked, child_nodes, chosen_nodes, content}
 use Rattle.at_model.specs.Alike.{OptionLike, ListLike, LocationLike, ContentLike, Names, AlikeAt}
 use Rattle.at_model.specs.Alike as alike
-use Rattle.at_model.specs.Edits.{Drop, Insert, Move, shape_at, plain_class, list_class, fits_class, fits_as, has_component, is_in_range, children_of, with_cell, with_node, without_child, with_one_more, taken_out, past_taking, put_in, left_by, moved_under, past_drop, past_insert, carried}
+use Rattle.at_model.specs.Edits.{Drop, Insert, Move, shape_at, plain_class, list_class, fits_class, fits_as, has_component, is_in_range, is_fixed_part, is_planted, is_planted_in, is_loose, children_of, with_cell, with_node, without_child, with_one_more, taken_out, past_taking, put_in, left_by, moved_under, past_drop, past_insert, carried}
 use Rattle.at_model.specs.Touches.{touches, shifts, node_of, is_up, is_slot, is_index, is_slot_around, is_index_around, is_drawer}
-use Rattle.at_model.proofs.Options.{both, and_true, led, mapped}
+use Rattle.at_model.proofs.Options.{both, and_true, led, mapped, neither, not_off, or_off}
 use Rattle.at_model.proofs.Nodes.{step_eq-refl, node_eq-refl, node_eq-sound}
+use Rattle.at_model.proofs.ConformingParts.{conforming_parts}
 use Rattle.at_model.proofs.Complete.{conforms_at, cells_there}
-use Rattle.at_model.proofs.of_edits.Conforming.{at_component, drop_at, one_more, seen, wanted, lives}
+use Rattle.at_model.proofs.of_edits.Conforming.{part_changed, loose_above, one_more, one_less, seen, wanted, lives}
 use Rattle.at_model.proofs.WayUp.{snoc, parent_of-snoc}
 use Rattle.at_model.proofs.of_edits.Moving.{Way}
 use Rattle.at_model.proofs.of_edits.Ways.{same_some, insert_keeps, drop_keeps}
-use Rattle.at_model.proofs.of_edits.Untouched.{in_cell, local, local_class, local_told, tree_moved, tree_at-append, changed_there, cell_there, cell-same, true_if, child-length, from_to_trees}
+use Rattle.at_model.proofs.of_edits.Untouched.{in_cell, local, local_class, local_told, tree_moved, tree_at-append, changed_there, cell_there, cell-same, true_if, child-length, from_to_trees, planted_moved}
 use Rattle.at_model.proofs.of_edits.Drawn.{chosen_alike, each_there}
 use Rattle.at_model.proofs.of_edits.Drawing.{none_of}
 use Rattle.at_model.proofs.of_edits.Untouching.{drop_alike, drop_fits, insert_alike, insert_fits, list_cell, component_there, counted, false_or, not_both}
@@ -76,7 +77,7 @@ all_off false false false false false h = (refl, refl, refl, refl, refl)
 
 -- the tree conforms to a class that its own fits, if it does to any
 refitted : (classes : Classes) (u : Tree) (b c : ℕ) → conforms classes u b ≡ true → fits classes (class_of u) c ≡ true → conforms classes u c ≡ true
-refitted classes (branch k cells) b c ok fit = and_true _ _ fit (both (fits classes k b) (cells_conform classes cells (parts classes k)) ok).1
+refitted classes (branch k cells) b c ok fit = and_true _ _ fit (both (fits classes k b) _ ok).1
 
 same_then : {A B : Type 0} (f : A → Option B) (h : A → A) (o : Option A) → ((v : A) → f (h v) ≡ f v) → option_and_then f (option_map h o) ≡ option_and_then f o
 same_then f h None same = refl
@@ -90,7 +91,7 @@ part_there classes t ok n part (branch k cells) shape there is none =
     let e : option_map (λ c. c.shape) (slice_get (parts classes k) part) ≡ Some shape = sym (ap (option_and_then
     (λ x. option_map (λ c. c.shape) (slice_get (parts classes (class_of x)) part))) there) ∙ is in
     let (c, here, f) = mapped (λ (c : Component). c.shape) (slice_get (parts classes k) part) shape e in
-    cells_there classes cells (parts classes k) part c (both (fits classes k b) (cells_conform classes cells (parts classes k)) conf).1 here none
+    cells_there classes cells (parts classes k) part c (conforming_parts classes k cells b conf).1 here none
 
 -- what stands at the node whose cell is changed
 local_here : (g : Cell → Cell) (part : ℕ) (past : Way → Option Way) (p : Node) (v : Tree) → local g part past p p v ≡ with_cell g part v
@@ -103,7 +104,8 @@ less_none a = omega arith
 fewer : (a b : ℕ) → a + 1 ≡ b → a ≡ b - 1
 fewer a b e = omega (arith, e)
 
-module _ (classes : Classes) (t : Tree) (ok : conforms classes t 0 ≡ true) (node to : Node) (part index : ℕ) (u : Tree) (found : tree_at t node ≡ Some u)
+module _ (classes : Classes) (t : Tree) (ok : conforms classes t 0 ≡ true) (node to : Node) (part index : ℕ)
+    (loose : is_loose classes t (Move node to part index) ≡ true) (u : Tree) (found : tree_at t node ≡ Some u)
     (p : Node × Way) (above : parent_of node ≡ Some p) (listed : is_some (option_and_then list_class (shape_at classes t p.0 p.1.0)) ≡ true)
     (q : Node) (target : past_taking node to ≡ Some q)
     (has : is_some (option_and_then list_class (shape_at classes t to part)) ≡ true) (fit : fits_as classes t node (option_and_then list_class (shape_at classes t to part)) ≡ true)
@@ -128,7 +130,7 @@ module _ (classes : Classes) (t : Tree) (ok : conforms classes t 0 ≡ true) (no
   plain = element_plain (shape_at classes t p.0 p.1.0) listed
 
   pub ok1 : conforms classes between 0 ≡ true
-  ok1 = drop_at classes t (Some p) ok
+  ok1 = part_changed classes (without_child p.1.1) t p.0 p.1.0 (loose_above classes t node p above (neither _ _ (not_off _ loose)).0) (λ c shape sees. one_less classes p.1.1 c shape) 0 ok
 
   -- what stands in the tree between
   pub found_between : (n k : Node) → past_taking node n ≡ Some k → tree_at between k ≡ option_map (local (without_child p.1.1) p.1.0 (past_drop p.1) p.0 n) (tree_at t n)
@@ -154,6 +156,23 @@ module _ (classes : Classes) (t : Tree) (ok : conforms classes t 0 ≡ true) (no
           let f : fits classes (class_of u) b ≡ true = sym (ap (λ (o : Option Tree). elim o [ None ↦ false | Some x ↦ fits classes (class_of x) b ]) found) ∙ e in
           let (c, conf) = conforms_at classes t 0 node u ok found in
           refitted classes u c b conf f
+
+  -- the component into which it is put isn't fixed
+  loose1 : is_planted_in classes between q part ≡ false
+  loose1 =
+      let (above, here) = neither (is_planted classes t to) _ (neither _ _ (not_off _ loose)).1 in
+      let same = planted_moved (without_child p.1.1) p.1.0 (past_drop p.1) (drop_keeps p.1) classes p.0 to q t (drop_fits classes t ok p plain) (sym (taking_is to) ∙ target) in
+      let found = found_between to q target in
+      or_off _ _ (same ∙ above)
+      (ap (λ (o : Option Tree). elim o as (λ _. Bool) [ None ↦ false | Some v ↦ is_fixed_part classes (class_of v) part ]) found
+      ∙ local_part (tree_at t to) ∙ here)
+    where
+      local_part : (o : Option Tree) → elim (option_map (local (without_child p.1.1) p.1.0 (past_drop p.1) p.0 to) o) as (λ _. Bool) [
+        | None ↦ false
+        | Some v ↦ is_fixed_part classes (class_of v) part
+      ] ≡ elim o as (λ _. Bool) [ None ↦ false | Some v ↦ is_fixed_part classes (class_of v) part ]
+      local_part None = refl
+      local_part (Some v) = ap (λ c. is_fixed_part classes c part) (local_class (without_child p.1.1) p.1.0 (past_drop p.1) (drop_keeps p.1) p.0 to v)
 
   -- how many children the target's list has, when the node is taken out
   pub count_is : length (children_of between q part) ≡ length (children_of t to part) - cond (is_child to part node) 1 0
@@ -213,7 +232,7 @@ module _ (classes : Classes) (t : Tree) (ok : conforms classes t 0 ≡ true) (no
   range1 = ap (nat_le index) count_is ∙ range
 
   pub move_conforms : conforms classes after 0 ≡ true
-  move_conforms = at_component classes list_class (with_one_more u index) between q part has1
+  move_conforms = part_changed classes (with_one_more u index) between q part loose1
       (λ c shape sees. one_more classes u index c shape
       (seen classes list_class (fits_class classes u) (shape_at classes between q part) shape sees fit1)) 0 ok1
 

@@ -1,5 +1,5 @@
 -- The trees before and after a change of one cell show the same, up to the nodes that move, wherever the change is not seen.
-use Rattle.std.proofs.Common.{◌≡◌, ℕ, zero, suc, ◌+◌, Bool, true, false, ◌&&◌, nat_eq, if◌then◌else◌, List, [], ◌∷◌, ◌++◌, length, Option, Some, None, refl, sym, ap, ◌∙◌, subst, arith, option_and_then, option_map, ◌⊎◌, inl, inr}
+use Rattle.std.proofs.Common.{◌≡◌, ℕ, zero, suc, ◌+◌, Bool, true, false, ◌&&◌, ◌||◌, nat_eq, if◌then◌else◌, List, [], ◌∷◌, ◌++◌, length, Option, Some, None, refl, sym, ap, ◌∙◌, subst, arith, option_and_then, option_map, ◌⊎◌, inl, inr}
 use Rattle.std.specs.Prelude.{⊤}
 use Rattle.std.specs.List.{slice_get}
 use Rattle.std.proofs.lemmas.Bool.Decides.{nat_tests}
@@ -11,7 +11,8 @@ use Rattle.at_model.specs.Run.{Location, Is, Tok, Slot, Up, Idx, Drawer}
 use Rattle.at_model.specs.Meaning.{token_in, is_marked, child_nodes, chosen_nodes, content}
 use Rattle.at_model.specs.Alike.{OptionLike, ListLike, LocationLike, ContentLike, Names}
 use Rattle.at_model.specs.Alike as alike
-use Rattle.at_model.specs.Edits.{changed_at, with_child, with_cell, with_node, moved_under}
+use Rattle.at_model.specs.Classes.{Classes}
+use Rattle.at_model.specs.Edits.{changed_at, with_child, with_cell, with_node, moved_under, is_fixed_part, is_planted}
 use Rattle.at_model.proofs.Options.{both, mapped}
 use Rattle.at_model.proofs.Nodes.{step_eq-sound, step_eq-refl, node_eq-sound}
 use Rattle.at_model.proofs.WayUp.{snoc, parent_of-snoc}
@@ -253,6 +254,51 @@ module _ (g : Cell → Cell) (part : ℕ) (past : Way → Option Way) where
             let f : s ∷ ss ≡ m = same_some (s ∷ ss) m e in
             subst (λ (x : Node). tree_at (with_node (with_cell g part) t (a ∷ p)) x ≡ option_map (λ (v : Tree). v) (tree_at t (s ∷ ss))) f
             (ap (option_and_then (λ x. tree_at x ss)) (step-other (λ x. with_node (with_cell g part) x p) a s t same) ∙ sym (map-id (tree_at t (s ∷ ss))))
+
+    -- a node that is moved stands in something fixed where it did before
+    pub planted_moved : (classes : Classes) (p n m : Node) (t : Tree) → FitsAt t p → moved_under p past n ≡ Some m
+        → is_planted classes (with_node (with_cell g part) t p) m ≡ is_planted classes t n
+    planted_moved classes [] [] m t fits e = let f : [] ≡ m = same_some [] m e in subst (λ (k : Node). is_planted classes (with_cell g part t) k ≡ false) f refl
+    planted_moved classes (a ∷ p) [] m t fits e =
+        let f : [] ≡ m = same_some [] m e in subst (λ (k : Node). is_planted classes (with_node (with_cell g part) t (a ∷ p)) k ≡ false) f refl
+    planted_moved classes [] (s ∷ ss) m t fits e =
+        let (u, moves, f) = mapped (λ (w : Way). w ∷ ss) (past s) m e in
+        let same = class-same g part t in
+        let ends = keeps.same s u moves in
+        let found = step-moved t (λ c. fits t c refl) s u moves in
+        subst (λ (k : Node). is_planted classes (with_cell g part t) k ≡ is_planted classes t (s ∷ ss)) f
+        (λ i. is_fixed_part classes (same i) (ends i) || elim (found i) as (λ _. Bool) [ None ↦ false | Some w ↦ is_planted classes w ss ])
+    planted_moved classes (a ∷ p) (s ∷ ss) m t fits e = by_step (step_eq a s) refl e (planted_moved classes p ss)
+      where
+        H : Tree → Tree
+        H x = with_node (with_cell g part) x p
+
+        same : class_of (with_node (with_cell g part) t (a ∷ p)) ≡ class_of t
+        same = class-same (with_child H a.1) a.0 t
+
+        through : (k : Node) (o : Option Tree) → ((v : Tree) → o ≡ Some v → is_planted classes (H v) k ≡ is_planted classes v ss)
+            → elim (option_map H o) as (λ _. Bool) [ None ↦ false | Some w ↦ is_planted classes w k ] ≡ elim o as (λ _. Bool) [ None ↦ false | Some v ↦ is_planted classes v ss ]
+        through k None h = refl
+        through k (Some v) h = h v refl
+
+        by_step : (b : Bool) → step_eq a s ≡ b → (if b then option_map (λ (us : Node). s ∷ us) (moved_under p past ss) else Some (s ∷ ss)) ≡ Some m →
+            ((k : Node) (v : Tree) → FitsAt v p → moved_under p past ss ≡ Some k → is_planted classes (with_node (with_cell g part) v p) k ≡ is_planted classes v ss) →
+            is_planted classes (with_node (with_cell g part) t (a ∷ p)) m ≡ is_planted classes t (s ∷ ss)
+        by_step true is e more =
+            let (k, moves, f) = mapped (λ (us : Node). s ∷ us) (moved_under p past ss) m e in
+            let way = step_eq-sound a s is in
+            let found = subst (λ (x : Way). slice_get (children_at (with_cell (with_child H a.1) a.0 t) x.0) x.1 ≡ option_map H (slice_get (children_at t x.0) x.1)) way (step-same H a t) in
+            let below : (v : Tree) → slice_get (children_at t s.0) s.1 ≡ Some v → FitsAt v p = λ v child u c at' here.
+            fits u c (ap (option_and_then (λ (x : Tree). tree_at x p)) (subst (λ (x : Way). slice_get (children_at t x.0) x.1 ≡ Some v) (sym way) child) ∙ at') here in
+            let under = ap (λ (o : Option Tree). elim o as (λ _. Bool) [ None ↦ false | Some w ↦ is_planted classes w k ]) found
+            ∙ through k (slice_get (children_at t s.0) s.1) (λ v child. more k v (below v child) moves) in
+            subst (λ (x : Node). is_planted classes (with_node (with_cell g part) t (a ∷ p)) x ≡ is_planted classes t (s ∷ ss)) f
+            (λ i. is_fixed_part classes (same i) s.0 || under i)
+        by_step false is e more =
+            let f : s ∷ ss ≡ m = same_some (s ∷ ss) m e in
+            let other = step-other (λ x. with_node (with_cell g part) x p) a s t is in
+            subst (λ (x : Node). is_planted classes (with_node (with_cell g part) t (a ∷ p)) x ≡ is_planted classes t (s ∷ ss)) f
+            (λ i. is_fixed_part classes (same i) s.0 || elim (other i) as (λ _. Bool) [ None ↦ false | Some w ↦ is_planted classes w ss ])
 
     -- what stands in a cell, where it is the same in a cell with another child
     module _ {X : Type 0} (told : Option Cell → X) (child_told : (h : Tree → Tree) (i : ℕ) (c : Cell) → told (Some (with_child h i c)) ≡ told (Some c)) where

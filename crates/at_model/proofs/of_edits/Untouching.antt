@@ -17,6 +17,7 @@ use Rattle.at_model.specs.Touches.{touches, shifts, is_slot, is_index, is_slot_a
 use Rattle.at_model.proofs.Options.{both}
 use Rattle.at_model.proofs.Nodes.{node_eq-sound}
 use Rattle.at_model.proofs.Complete.{conforms_at, cell_there}
+use Rattle.at_model.proofs.ConformingParts.{conforming_parts}
 use Rattle.at_model.proofs.of_edits.Conforming.{set_in_parent}
 use Rattle.at_model.proofs.WayUp.{parent_of-snoc}
 use Rattle.at_model.proofs.of_edits.Moving.{Way, KeepsParts}
@@ -108,7 +109,7 @@ pub shape_there : (classes : Classes) (t : Tree) (p : Node) (part : ℕ) (u : Tr
     → (shape : Shape) × (shape_at classes t p part ≡ Some shape) × (cell_conforms classes c shape ≡ true)
 shape_there classes t p part (branch k cells) c ok found here =
     let (b, ok') = conforms_at classes t 0 p (branch k cells) ok found in
-    let (q, is, fits) = cell_there classes cells (parts classes k) part c (both _ _ ok').1 here in
+    let (q, is, fits) = cell_there classes cells (parts classes k) part c (conforming_parts classes k cells b ok').1 here in
     (q.shape, ap (option_and_then (λ x. option_map (λ q. q.shape) (slice_get (parts classes (class_of x)) part))) found ∙ ap (option_map (λ q. q.shape)) is, fits)
 
 pub selected : {A : Type 0} (select : Shape → Option A) (o : Option Shape) (b : Bool) (shape : Shape) → o ≡ Some shape → is_some (option_and_then select o) ≡ b → is_some (select shape) ≡ b

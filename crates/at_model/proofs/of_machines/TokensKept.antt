@@ -1,19 +1,27 @@
 -- The tokens of a tree stay ones that can be written over every line, and a tree that conforms is then written as a term.
-use Rattle.std.proofs.Common.{◌≡◌, ℕ, zero, suc, ◌-◌, Bool, true, false, List, [], ◌∷◌, Option, Some, None, Ok, refl, sym, subst}
-use Rattle.std.specs.List.{slice_get, insert, remove}
-use Rattle.at_model.specs.Classes.{Classes}
-use Rattle.at_model.specs.Trees.{Tree, Cells, Cell, Trees, One, Many, Empty, Filled, Holds, no_cells, cell, no_trees, tree, to_cells, from_cells, to_trees, from_trees, children}
+use Rattle.std.proofs.Common.{◌≡◌, ℕ, zero, suc, ◌-◌, Bool, true, false, if◌then◌else◌, List, [], ◌∷◌, length, Option, Some, None, Ok, refl, sym, subst, is_some}
+use Rattle.std.specs.List.{AllByRecursion, slice_get, insert, remove}
+use Rattle.std.specs.Option.{IfSome}
+use Rattle.std.proofs.lemmas.List.Elements.{recursion_from_All}
+use Rattle.at_model.specs.Classes.{Classes, Component, Shape, IsComponentSound, AreSound, parts}
+use Rattle.at_model.specs.Classes as class
+use Rattle.at_model.specs.Trees.{Tree, Cells, Cell, Trees, One, Many, Empty, Filled, Holds, no_cells, cell, no_trees, tree, to_cells, from_cells, to_trees, from_trees, children, conforms, cells_conform, cell_conforms, trees_conform, fixed_stand}
+use Rattle.at_model.specs.SyntaxTrees.{cell_eq}
 use Rattle.at_model.specs.Trees as trees
-use Rattle.at_model.specs.Terms.{IsToken, IsTerm, IsTermWithin, AreCellsWithin, IsCellWithin, AreTermsWithin, term_of, cells_of, cell_of, terms_of, max_depth}
+use Rattle.at_model.specs.Terms.{IsToken, IsTerm, IsTermWithin, AreCellsWithin, IsCellWithin, AreTermsWithin, written, term_of, cells_of, cell_of, terms_of, max_depth}
+use Rattle.at_model.specs.Terms as term
 use Rattle.at_model.specs.Paths.{Node, tree_at, children_at, parent_of}
 use Rattle.at_model.specs.Rules.{Rules}
-use Rattle.at_model.specs.Edits.{Edit, Set, Put, Drop, Insert, Token, Move, changed_at, with_child, with_cell, with_node, without_child, with_one_more, taken_out, past_taking, put_in, left_by, edited}
+use Rattle.at_model.specs.Edits.{Edit, Set, Put, Drop, Insert, Token, Move, changed_at, with_child, with_cell, with_node, without_child, with_one_more, taken_out, past_taking, put_in, left_by, fits_class, edited}
 use Rattle.at_model.specs.Lines.{Line, Command, IsCommand}
 use Rattle.at_model.specs.Replies.{Reply}
 use Rattle.at_model.specs.Machine.{State, Verdict, Step, Handles, obeys, waits, refuses, Serves, handles, runs_out, after, verdict, is_edit}
 use Rattle.at_model.specs.Effects.{IsEditOf, set, put, drop, insert as inserted, token, move}
 use Rattle.at_model.specs.Enduring.{AreTokens, CellsAreTokens, CellIsTokens, TreesAreTokens}
-use Rattle.at_model.proofs.Options.{led}
+use Rattle.at_model.proofs.Options.{both, led}
+use Rattle.at_model.proofs.ConformingParts.{conforming_parts}
+use Rattle.at_model.proofs.SameTrees.{cell_eq-sound}
+use Rattle.at_model.proofs.PathsWritten.{parts_sound}
 use Rattle.at_model.proofs.of_edits.Conforming.{accepted as is_accepted}
 use Rattle.at_model.proofs.of_machines.Machines.{waited}
 use Rattle.at_model.proofs.of_edits.Changes.{whole, other_step}
@@ -140,56 +148,87 @@ is_left classes t u e is = (is_accepted classes t e u is).left
 
 -- lines ---------------------------------------------------------------------------------------------------------------
 
-mutual
-  of_term : (classes : Classes) (d : ℕ) (t : Tree) → IsTermWithin d (term_of classes t) → AreTokens t
-  of_term classes d (trees.Node c cells) h = of_cells classes (d - 1) cells h.2
+module _ (classes : Classes) (sound : AreSound classes) where
+  mutual
+    of_term : (d : ℕ) (t : Tree) (b : ℕ) → conforms classes t b ≡ true → IsTermWithin d (term_of classes t) → AreTokens t
+    of_term d (trees.Node c cells) b e h =
+        let (fit, conform, stand) = conforming_parts classes c cells b e in
+        of_cells (d - 1) (parts classes c) cells (recursion_from_All (IsComponentSound (length classes)) (parts classes c) (parts_sound classes sound c)) conform stand h.2
 
-  of_cells : (classes : Classes) (d : ℕ) (cs : Cells) → AreCellsWithin d (cells_of classes cs) → CellsAreTokens cs
-  of_cells classes d no_cells h = tt
-  of_cells classes d (cell c cs) h = (of_cell classes d c h.0, of_cells classes d cs h.1)
+    of_cells : (d : ℕ) (ps : List Component) (cs : Cells) → AllByRecursion (IsComponentSound (length classes)) ps → cells_conform classes cs ps ≡ true
+        → fixed_stand ps cs ≡ true → AreCellsWithin d (written ps (cells_of classes cs)) → CellsAreTokens cs
+    of_cells d [] no_cells fixed e stand h = tt
+    of_cells d [] (cell c cs) fixed e stand h = absurd cc
+    of_cells d (p ∷ ps) no_cells fixed e stand h = tt
+    of_cells d (p ∷ ps) (cell c cs) fixed e stand h =
+        let (here, rest) = both (cell_conforms classes c p.shape) (cells_conform classes cs ps) e in
+        let (same, others) = both _ (fixed_stand ps cs) stand in
+        by_fixed p.fixed fixed.0.fixed same (λ x. of_cell d c p.shape here x) (λ x. of_cells d ps cs fixed.1 rest others x) h
+      where
+        by_fixed : (o : Option Cell) → IfSome o CellIsTokens → elim o as (λ _. Bool) [ None ↦ true | Some x ↦ cell_eq x c ] ≡ true
+            → (IsCellWithin d (cell_of classes c) → CellIsTokens c) → (AreCellsWithin d (written ps (cells_of classes cs)) → CellsAreTokens cs)
+            → AreCellsWithin d (if is_some o then written ps (cells_of classes cs) else term.cell (cell_of classes c) (written ps (cells_of classes cs)))
+            → CellIsTokens c × CellsAreTokens cs
+        by_fixed None k same one rest h = (one h.0, rest h.1)
+        by_fixed (Some x) k same one rest h = (subst CellIsTokens (cell_eq-sound x c same) k, rest h)
 
-  of_cell : (classes : Classes) (d : ℕ) (c : Cell) → IsCellWithin d (cell_of classes c) → CellIsTokens c
-  of_cell classes d (One t) h = of_term classes d t h
-  of_cell classes d (Many ts) h = of_terms classes d ts h
-  of_cell classes d Empty h = tt
-  of_cell classes d (Filled t) h = of_term classes d t h
-  of_cell classes d (Holds v) h = h
+    of_cell : (d : ℕ) (c : Cell) (s : Shape) → cell_conforms classes c s ≡ true → IsCellWithin d (cell_of classes c) → CellIsTokens c
+    of_cell d (One t) (class.One b) e h = of_term d t b e h
+    of_cell d (One t) (class.Many b) e h = absurd cc
+    of_cell d (One t) (class.Maybe b) e h = absurd cc
+    of_cell d (One t) (class.Token kind) e h = absurd cc
+    of_cell d (Many ts) (class.One b) e h = absurd cc
+    of_cell d (Many ts) (class.Many b) e h = of_terms d ts b e h
+    of_cell d (Many ts) (class.Maybe b) e h = absurd cc
+    of_cell d (Many ts) (class.Token kind) e h = absurd cc
+    of_cell d Empty s e h = tt
+    of_cell d (Filled t) (class.One b) e h = absurd cc
+    of_cell d (Filled t) (class.Many b) e h = absurd cc
+    of_cell d (Filled t) (class.Maybe b) e h = of_term d t b e h
+    of_cell d (Filled t) (class.Token kind) e h = absurd cc
+    of_cell d (Holds v) s e h = h
 
-  of_terms : (classes : Classes) (d : ℕ) (ts : Trees) → AreTermsWithin d (terms_of classes ts) → TreesAreTokens ts
-  of_terms classes d no_trees h = tt
-  of_terms classes d (tree t ts) h = (of_term classes d t h.0, of_terms classes d ts h.1)
+    of_terms : (d : ℕ) (ts : Trees) (b : ℕ) → trees_conform classes ts b ≡ true → AreTermsWithin d (terms_of classes ts) → TreesAreTokens ts
+    of_terms d no_trees b e h = tt
+    of_terms d (tree t ts) b e h =
+        let (one, rest) = both (conforms classes t b) (trees_conform classes ts b) e in
+        (of_term d t b one h.0, of_terms d ts b rest h.1)
 
--- the tokens of a tree whose term can be written can be written
-pub written_tokens : (classes : Classes) (t : Tree) → IsTerm (term_of classes t) → AreTokens t
-written_tokens classes t h = of_term classes max_depth t h
+  -- the tokens of a tree that conforms and whose term can be written can be written
+  pub written_tokens : (t : Tree) (b : ℕ) → conforms classes t b ≡ true → IsTerm (term_of classes t) → AreTokens t
+  written_tokens t b e h = of_term max_depth t b e h
 
-brings : (classes : Classes) (s : State) (session : ℕ) (c : Command) (e : Edit) → IsEditOf classes s session c e → IsCommand c → Brings e
-brings classes s session c e (set place n new named) h = of_term classes max_depth new h.1
-brings classes s session c e (put place name n part new named has) h = of_term classes max_depth new h.2
-brings classes s session c e (drop place n named) h = tt
-brings classes s session c e (inserted place name n part index new named has) h = of_term classes max_depth new h.3
-brings classes s session c e (token place name n part v named has) h = h.2
-brings classes s session c e (move place to name n m part index named also has) h = tt
+  of_class : (t : Tree) (o : Option ℕ) → fits_class classes t o ≡ true → IsTerm (term_of classes t) → AreTokens t
+  of_class t None e h = absurd cc
+  of_class t (Some b) e h = written_tokens t b e h
 
-tokens_after : (rules : Rules) (s : State) (l : Line) (v : Verdict) → IsCommand l.command → IsChangeOf rules.classes s l.session l.command v → AreTokens s.tree → AreTokens (after s v).tree
-tokens_after rules s l v h (refused c) k = k
-tokens_after rules s l v h (accepted e t asked is) k = subst AreTokens (is_left rules.classes s.tree t e is) (left s.tree e (brings rules.classes s l.session l.command e asked h) k)
+  brings : (s : State) (session : ℕ) (c : Command) (e : Edit) (u : Tree) → IsEditOf classes s session c e → edited classes s.tree e ≡ Ok u → IsCommand c → Brings e
+  brings s session c e u (set place n new named) is h = of_class new _ (is_accepted classes s.tree e u is).fit h.1
+  brings s session c e u (put place name n part new named has) is h = of_class new _ (is_accepted classes s.tree e u is).fit h.2
+  brings s session c e u (drop place n named) is h = tt
+  brings s session c e u (inserted place name n part index new named has) is h = of_class new _ (is_accepted classes s.tree e u is).fit h.3
+  brings s session c e u (token place name n part v named has) is h = h.2
+  brings s session c e u (move place to name n m part index named also has) is h = tt
 
-tokens_step : (rules : Rules) (old : State) (l : Line) (new : State) (reply : Reply) (b : Bool) → is_edit l.command ≡ b
+tokens_after : (rules : Rules) → AreSound rules.classes → (s : State) (l : Line) (v : Verdict) → IsCommand l.command → IsChangeOf rules.classes s l.session l.command v → AreTokens s.tree → AreTokens (after s v).tree
+tokens_after rules sound s l v h (refused c) k = k
+tokens_after rules sound s l v h (accepted e t asked is) k = subst AreTokens (is_left rules.classes s.tree t e is) (left s.tree e (brings rules.classes sound s l.session l.command e t asked is h) k)
+
+tokens_step : (rules : Rules) → AreSound rules.classes → (old : State) (l : Line) (new : State) (reply : Reply) (b : Bool) → is_edit l.command ≡ b
     → IsCommand l.command → Step rules old l new reply → AreTokens old.tree → AreTokens new.tree
-tokens_step rules old l new reply true is h step k =
+tokens_step rules sound old l new reply true is h step k =
     let P : State → Type 0 = λ x. AreTokens x.tree in
-    subst P (sym step.state) (tokens_after rules old l (verdict rules old l) h (whole (IsChangeOf rules.classes old
+    subst P (sym step.state) (tokens_after rules sound old l (verdict rules old l) h (whole (IsChangeOf rules.classes old
     l.session l.command) refused rules old l (edit_of rules old l.session l.command is)) k)
-tokens_step rules old l new reply false is h step k = let same = other_step rules old l new reply is step in subst AreTokens (sym same.0) k
+tokens_step rules sound old l new reply false is h step k = let same = other_step rules old l new reply is step in subst AreTokens (sym same.0) k
 
-tokens_handled : (rules : Rules) (old : State) (bytes : List ℕ) (new : State) (said : Bool × Reply) → AreTokens old.tree → Handles rules old bytes new said → AreTokens new.tree
-tokens_handled rules old bytes new _ k (obeys l {reply = reply} spells step) = tokens_step rules old l new reply (is_edit l.command) refl spells.is_line.command step k
-tokens_handled rules old bytes new said k (waits l number spells is answered) =
+tokens_handled : (rules : Rules) → AreSound rules.classes → (old : State) (bytes : List ℕ) (new : State) (said : Bool × Reply) → AreTokens old.tree → Handles rules old bytes new said → AreTokens new.tree
+tokens_handled rules sound old bytes new _ k (obeys l {reply = reply} spells step) = tokens_step rules sound old l new reply (is_edit l.command) refl spells.is_line.command step k
+tokens_handled rules sound old bytes new said k (waits l number spells is answered) =
     let w = waited rules number old new said answered in
     let P : State → Type 0 = λ x. AreTokens x.tree in subst P (sym w.state) k
-tokens_handled rules old bytes _ _ k (refuses none session) = k
+tokens_handled rules sound old bytes _ _ k (refuses none session) = k
 
-pub tokens_served : (rules : Rules) (old : State) (bytes : List ℕ) (new : State) (said : Bool × Reply) → AreTokens old.tree → Serves rules old bytes new said → AreTokens new.tree
-tokens_served rules old bytes new said k (handles h) = tokens_handled rules old bytes new said k h
-tokens_served rules old bytes _ _ k (runs_out session) = k
+pub tokens_served : (rules : Rules) → AreSound rules.classes → (old : State) (bytes : List ℕ) (new : State) (said : Bool × Reply) → AreTokens old.tree → Serves rules old bytes new said → AreTokens new.tree
+tokens_served rules sound old bytes new said k (handles h) = tokens_handled rules sound old bytes new said k h
+tokens_served rules sound old bytes _ _ k (runs_out session) = k

@@ -1,17 +1,19 @@
 -- The tree that a term is shaped to conforms and is written as that term, and it is the only one where names are apart.
-use Rattle.std.proofs.Common.{◌≡◌, ℕ, ◌<◌, true, false, ◌&&◌, not, if◌then◌else◌, List, [], ◌∷◌, length, Option, Some, None, refl, sym, ap, ◌∙◌, subst, option_and_then, option_map}
+use Rattle.std.proofs.Common.{◌≡◌, ℕ, ◌<◌, Bool, true, false, ◌&&◌, not, if◌then◌else◌, List, [], ◌∷◌, length, Option, Some, None, refl, sym, ap, ◌∙◌, subst, option_and_then, option_map}
 use Rattle.std.specs.List.{slice_get}
 use Rattle.std.specs.Str.{bytes_eq}
 use Rattle.std.proofs.lemmas.List.Quantifiers.{position-Some}
 use Rattle.std.proofs.lemmas.Option.{slice_get-get_or, slice_get_within}
 use Rattle.std.proofs.lemmas.Slice.Eq.{bytes_eq-Decides}
-use Rattle.at_model.specs.Classes.{AreNamedApart, Classes, Class, Component, Shape, parts, fits, is_sub, is_concrete, name_of, class_of_name}
+use Rattle.at_model.specs.Classes.{AreNamedApart, Classes, Class, Component, Shape, parts, free, is_fixed, fits, is_sub, is_concrete, name_of, class_of_name}
 use Rattle.at_model.specs.Classes as class
-use Rattle.at_model.specs.Trees.{Tree, is_of_kind, conforms, cells_conform, cell_conforms, trees_conform}
+use Rattle.at_model.specs.Trees.{Tree, is_of_kind, conforms, cells_conform, cell_conforms, trees_conform, fixed_stand}
 use Rattle.at_model.specs.Trees as tree
-use Rattle.at_model.specs.Terms.{Term, Cells, Cell, Terms, Node, no_cells, cell, One, Many, Empty, Holds, no_terms, term, term_of, cells_of, cell_of, terms_of}
-use Rattle.at_model.specs.Shaping.{shaped, cells_shaped, cell_shaped, terms_shaped, names_classes, cells_name_classes, cell_names_classes, terms_name_classes}
+use Rattle.at_model.specs.Terms.{Term, Cells, Cell, Terms, Node, no_cells, cell, One, Many, Empty, Holds, no_terms, term, written, term_of, cells_of, cell_of, terms_of}
+use Rattle.at_model.specs.Shaping.{fixed_fit, planted, shaped, cells_shaped, cell_shaped, terms_shaped, names_classes, cells_name_classes, cell_names_classes, terms_name_classes}
 use Rattle.at_model.proofs.Options.{both, and_true, led, mapped, if_some, if_true}
+use Rattle.at_model.proofs.ConformingParts.{conforming_parts, conforming_whole}
+use Rattle.at_model.proofs.of_texts.Planting.{loose, planted_conform, planted_written, fixed_conform, loose_planted}
 
 no_class : Class
 no_class = record { name = []; is_abstract = false; parent = None; own = [] }
@@ -29,13 +31,16 @@ module _ (classes : Classes) where
   mutual
     pub shaped_conforms : (t : Term) (b : ℕ) (u : Tree) → shaped classes t b ≡ Some u → (conforms classes u b ≡ true) × (term_of classes u ≡ t)
     shaped_conforms (Node name cs) b u e =
-        let (c, named, f) = led (λ c. if fits classes c b then option_map (λ ds. tree.Node c ds) (cells_shaped classes cs (parts classes c)) else None) (class_of_name classes name) u e in
-        let (fit, g) = if_some (fits classes c b) _ u f in
-        let (ds, made, h) = mapped (λ ds. tree.Node c ds) (cells_shaped classes cs (parts classes c)) u g in
-        let inner = cells_shaped_conform cs (parts classes c) ds made in
+        let (c, named, f) = led (λ c. if fits classes c b && fixed_fit classes (parts classes c)
+        then option_map (λ ds. tree.Node c (planted (parts classes c) ds)) (cells_shaped classes cs (free (parts classes c))) else None) (class_of_name classes name) u e in
+        let (test, g) = if_some (fits classes c b && fixed_fit classes (parts classes c)) _ u f in
+        let (fit, fixed) = both (fits classes c b) (fixed_fit classes (parts classes c)) test in
+        let (ds, made, h) = mapped (λ ds. tree.Node c (planted (parts classes c) ds)) (cells_shaped classes cs (free (parts classes c))) u g in
+        let inner = cells_shaped_conform cs (free (parts classes c)) ds made in
+        let (conform, stand) = planted_conform classes (parts classes c) ds fixed inner.0 in
         let same = name_found classes name c named in
         let P : Tree → Type 0 = λ x. (conforms classes x b ≡ true) × (term_of classes x ≡ Node name cs) in
-        subst P h (and_true _ _ fit inner.0, λ i. Node (same i) (inner.1 i))
+        subst P h (conforming_whole classes c _ b fit conform stand, λ i. Node (same i) ((planted_written classes (parts classes c) ds inner.0 ∙ inner.1) i))
 
     cells_shaped_conform : (cs : Cells) (ps : List Component) (ds : tree.Cells) → cells_shaped classes cs ps ≡ Some ds → (cells_conform classes ds ps ≡ true) × (cells_of classes ds ≡ cs)
     cells_shaped_conform no_cells [] ds e = let P : tree.Cells → Type 0 = λ x. (cells_conform classes x [] ≡ true)
@@ -105,27 +110,41 @@ module _ (classes : Classes) where
     mutual
       pub conforms_shaped : (u : Tree) (b : ℕ) → conforms classes u b ≡ true → (shaped classes (term_of classes u) b ≡ Some u) × (names_classes classes (term_of classes u) ≡ true)
       conforms_shaped (tree.Node c ds) b e =
-          let here = both (fits classes c b) (cells_conform classes ds (parts classes c)) e in
-          let concrete = both (is_concrete classes c) (is_sub classes c b) here.0 in
+          let ps = parts classes c in
+          let (fit, conform, stand) = conforming_parts classes c ds b e in
+          let concrete = both (is_concrete classes c) (is_sub classes c b) fit in
           let named = apart c (concrete_there c concrete.0) in
-          let inner = cells_conform_shaped ds (parts classes c) here.1 in
-          let P : Option ℕ → Type 0 = λ o. (option_and_then (λ k. if fits classes k b then option_map (λ x. tree.Node k
-          x) (cells_shaped classes (cells_of classes ds) (parts classes k)) else None) o ≡ Some (tree.Node c ds))
-          × ((elim o [ None ↦ false | Some k ↦ is_concrete classes k ]
-          && cells_name_classes classes (cells_of classes ds)) ≡ true) in
-          subst P (sym named) (if_true (fits classes c b) _ None here.0 ∙ ap (option_map (λ x. tree.Node c x)) inner.0, and_true _ _ concrete.0 inner.1)
+          let (shape, names) = cells_conform_shaped ds ps conform stand in
+          let P : Option ℕ → Type 0 = λ o. (option_and_then (λ k. if fits classes k b && fixed_fit classes (parts classes k)
+          then option_map (λ x. tree.Node k (planted (parts classes k) x)) (cells_shaped classes (written ps (cells_of classes ds)) (free (parts classes k))) else None) o
+          ≡ Some (tree.Node c ds)) × ((elim o [ None ↦ false | Some k ↦ is_concrete classes k ]
+          && cells_name_classes classes (written ps (cells_of classes ds))) ≡ true) in
+          subst P (sym named) (
+            if_true (fits classes c b && fixed_fit classes ps) _ None (and_true _ _ fit (fixed_conform classes ps ds conform stand))
+                ∙ ap (option_map (λ x. tree.Node c (planted ps x))) shape ∙ ap (λ x. Some (tree.Node c x)) (loose_planted classes ps ds conform stand),
+            and_true _ _ concrete.0 names,
+          )
 
-      cells_conform_shaped : (ds : tree.Cells) (ps : List Component) → cells_conform classes ds ps ≡ true
-          → (cells_shaped classes (cells_of classes ds) ps ≡ Some ds)
-          × (cells_name_classes classes (cells_of classes ds) ≡ true)
-      cells_conform_shaped tree.no_cells [] e = (refl, refl)
-      cells_conform_shaped tree.no_cells (p ∷ ps) e = absurd cc
-      cells_conform_shaped (tree.cell d ds) [] e = absurd cc
-      cells_conform_shaped (tree.cell d ds) (p ∷ ps) e =
+      cells_conform_shaped : (ds : tree.Cells) (ps : List Component) → cells_conform classes ds ps ≡ true → fixed_stand ps ds ≡ true
+          → (cells_shaped classes (written ps (cells_of classes ds)) (free ps) ≡ Some (loose ps ds))
+          × (cells_name_classes classes (written ps (cells_of classes ds)) ≡ true)
+      cells_conform_shaped tree.no_cells [] e stand = (refl, refl)
+      cells_conform_shaped tree.no_cells (p ∷ ps) e stand = absurd cc
+      cells_conform_shaped (tree.cell d ds) [] e stand = absurd cc
+      cells_conform_shaped (tree.cell d ds) (p ∷ ps) e stand =
           let both_parts = both (cell_conforms classes d p.shape) (cells_conform classes ds ps) e in
           let here = cell_conform_shaped d p.shape both_parts.0 in
-          let there = cells_conform_shaped ds ps both_parts.1 in (
-            ap (option_and_then (λ x. option_map (λ y. tree.cell x y) (cells_shaped classes (cells_of classes ds) ps)))
+          let there = cells_conform_shaped ds ps both_parts.1 (both _ (fixed_stand ps ds) stand).1 in
+          by_fixed (is_fixed p) here there
+        where
+          by_fixed : (b : Bool) → (cell_shaped classes (cell_of classes d) p.shape ≡ Some d) × (cell_names_classes classes (cell_of classes d) ≡ true)
+              → (cells_shaped classes (written ps (cells_of classes ds)) (free ps) ≡ Some (loose ps ds)) × (cells_name_classes classes (written ps (cells_of classes ds)) ≡ true)
+              → (cells_shaped classes (if b then written ps (cells_of classes ds) else cell (cell_of classes d) (written ps (cells_of classes ds)))
+              (if b then free ps else p ∷ free ps) ≡ Some (if b then loose ps ds else tree.cell d (loose ps ds)))
+              × (cells_name_classes classes (if b then written ps (cells_of classes ds) else cell (cell_of classes d) (written ps (cells_of classes ds))) ≡ true)
+          by_fixed true here there = there
+          by_fixed false here there = (
+            ap (option_and_then (λ x. option_map (λ y. tree.cell x y) (cells_shaped classes (written ps (cells_of classes ds)) (free ps))))
                 here.0 ∙ ap (option_map (λ y. tree.cell d y)) there.0,
             and_true _ _ here.1 there.1,
           )

@@ -1,17 +1,19 @@
 -- A tree that conforms, is not too deep and has tokens that can be written is written as a term.
-use Rattle.std.proofs.Common.{◌≡◌, ℕ, zero, suc, ◌-◌, ◌≤◌, Bool, true, false, not, ◌&&◌, nat_le, List, [], ◌∷◌, length, Option, Some, None, refl, subst, arith}
+use Rattle.std.proofs.Common.{◌≡◌, ℕ, zero, suc, ◌-◌, ◌≤◌, Bool, true, false, not, ◌&&◌, if◌then◌else◌, nat_le, List, [], ◌∷◌, length, Option, Some, None, refl, subst, arith}
 use Rattle.std.specs.List.{AllByRecursion, slice_get}
 use Rattle.std.proofs.lemmas.Bool.{leb-true}
 use Rattle.std.proofs.lemmas.List.Elements.{recursion_from_All}
 use Rattle.at_model.specs.Names.{IsName}
-use Rattle.at_model.specs.Classes.{Classes, Class, Component, Shape, AreSound, IsClassSound, fits, is_concrete, is_sub, parts, name_of}
+use Rattle.at_model.specs.Classes.{Classes, Class, Component, Shape, AreSound, IsClassSound, is_fixed, fits, is_concrete, is_sub, parts, name_of}
 use Rattle.at_model.specs.Classes as class
 use Rattle.at_model.specs.Trees.{Tree, Cells, Cell, Trees, One, Many, Empty, Filled, Holds, no_cells, cell, no_trees, tree, conforms, cells_conform, cell_conforms, trees_conform, nodes, depth, cells_depth, cell_depth, trees_depth}
 use Rattle.at_model.specs.Trees as trees
-use Rattle.at_model.specs.Terms.{IsTerm, IsTermWithin, AreCellsWithin, IsCellWithin, AreTermsWithin, term_of, cells_of, cell_of, terms_of, max_depth}
+use Rattle.at_model.specs.Terms.{IsTerm, IsTermWithin, AreCellsWithin, IsCellWithin, AreTermsWithin, written, term_of, cells_of, cell_of, terms_of, max_depth}
+use Rattle.at_model.specs.Terms as term
 use Rattle.at_model.specs.Edits.{is_within_limits, max_nodes, tokens_short}
 use Rattle.at_model.specs.Enduring.{AreTokens, CellsAreTokens, CellIsTokens, TreesAreTokens}
 use Rattle.at_model.proofs.Options.{both}
+use Rattle.at_model.proofs.ConformingParts.{conforming_parts}
 
 element : {A : Type 0} (P : A → Type 0) (xs : List A) (i : ℕ) (a : A) → AllByRecursion P xs → slice_get xs i ≡ Some a → P a
 element P [] i a h e = absurd cc
@@ -30,11 +32,21 @@ module _ (classes : Classes) (sound : AreSound classes) where
   named : (c b : ℕ) → fits classes c b ≡ true → IsName (name_of classes c)
   named c b e = class_named c (slice_get classes c) refl (both (is_concrete classes c) (is_sub classes c b) e).0
 
+  -- what is written of the cells is within the bound, where they are
+  written_within : (d : ℕ) (ps : List Component) (cs : term.Cells) → AreCellsWithin d cs → AreCellsWithin d (written ps cs)
+  written_within d [] cs h = h
+  written_within d (p ∷ ps) term.no_cells h = tt
+  written_within d (p ∷ ps) (term.cell c cs) h = by_fixed (is_fixed p) h.0 (written_within d ps cs h.1)
+    where
+      by_fixed : (b : Bool) → IsCellWithin d c → AreCellsWithin d (written ps cs) → AreCellsWithin d (if b then written ps cs else term.cell c (written ps cs))
+      by_fixed true one rest = rest
+      by_fixed false one rest = (one, rest)
+
   mutual
     pub tree_term : (d : ℕ) (t : Tree) (b : ℕ) → conforms classes t b ≡ true → depth t ≤ d → AreTokens t → IsTermWithin d (term_of classes t)
     tree_term d (trees.Node c cells) b e deep k =
-        let (fit, below) = both (fits classes c b) (cells_conform classes cells (parts classes c)) e in
-        (omega (arith, deep), named c b fit, cells_term (d - 1) cells (parts classes c) below (omega (arith, deep)) k)
+        let (fit, below, stand) = conforming_parts classes c cells b e in
+        (omega (arith, deep), named c b fit, written_within (d - 1) (parts classes c) (cells_of classes cells) (cells_term (d - 1) cells (parts classes c) below (omega (arith, deep)) k))
 
     cells_term : (d : ℕ) (cs : Cells) (ps : List Component) → cells_conform classes cs ps ≡ true → cells_depth cs ≤ d → CellsAreTokens cs → AreCellsWithin d (cells_of classes cs)
     cells_term d no_cells ps e deep k = tt

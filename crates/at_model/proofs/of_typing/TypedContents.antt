@@ -11,6 +11,7 @@ use Rattle.at_model.specs.Paths.{Node, tree_at, cell_at, children_at, parent_of}
 use Rattle.at_model.specs.Run.{Tok, Slot, Up, Idx}
 use Rattle.at_model.specs.Bodies.{value_of}
 use Rattle.at_model.specs.Meaning.{content, is_marked, child_nodes, chosen_nodes, token_in}
+use Rattle.at_model.proofs.ConformingParts.{conforming_parts}
 use Rattle.at_model.proofs.Complete.{child_conforms, conforms_at, fits_there}
 use Rattle.at_model.proofs.WithinTree.{tree_at-snoc}
 use Rattle.at_model.proofs.WayUp.{snoc, parent_of-snoc, parent_there}
@@ -182,7 +183,7 @@ token_of_kind classes at (held.Truth b) class.Int e h = absurd (cc)
 token_there : (classes : Classes) (u : Tree) (b part : ℕ) (k : TokenKind) → conforms classes u b ≡ true
     → shape_of_part classes (class_of u) part ≡ Some (Token k) → is_of_kind (token_in (cell_at u part)) k ≡ true
 token_there classes (Branch d cells) b part k e f =
-    let (x, y) = both (fits classes d b) (cells_conform classes cells (parts classes d)) e in
+    let (x, y, z) = conforming_parts classes d cells b e in
     let (p, g, h) = mapped (λ (p : Component). p.shape) (slice_get (parts classes d) part) (Token k) f in
     let (c, there, is) = cell_for classes cells (parts classes d) part p y g in
     ap (λ o. is_of_kind (token_in o) k) there ∙ kept_kind classes c k (subst (λ z. cell_conforms classes c z ≡ true) h is)
