@@ -41,6 +41,7 @@ pub mod Keeping
 pub mod SampleLines
 pub mod Playing
 pub mod SampleSessions
+pub mod SampleFixed
 pub mod SampleGrammars
 pub mod Working
 pub mod Lists
