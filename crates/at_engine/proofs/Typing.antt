@@ -1,7 +1,7 @@
 -- What is asked is well typed, and what holds of the rules and of the tokens holds after each line.
 use Rattle.std.proofs.Common.{◌≡◌, ℕ, Bool, true, ◌&&◌, List, [], ◌∷◌, length, Option, Some, None, sym, ap, subst}
 use Rattle.std.specs.Str.{bytes_eq}
-use Rattle.at_model.specs.Classes.{Classes, is_sub}
+use Rattle.at_model.specs.Classes.{AreSound, Classes, is_sub}
 use Rattle.at_model.specs.Trees.{Tree, class_of}
 use Rattle.at_model.specs.Paths.{Node, tree_at}
 use Rattle.at_model.specs.Run.{Value, Instance}
@@ -55,6 +55,6 @@ numbered_typed rules s i j like well =
     }
 
 -- after a line that was served
-pub typed_served : (rules later : Rules) (said : Bool × Reply) (old new : State) (line : List ℕ) → IsTyped rules old → later ≡ rules → Serves rules old line new said → IsTyped later new
-typed_served rules later said old new line typed same serves =
-    subst (λ r. IsTyped r new) (sym same) (record { formed = typed.formed; circular = typed.circular; tokens = tokens_served rules old line new said typed.tokens serves })
+pub typed_served : (rules later : Rules) (said : Bool × Reply) (old new : State) (line : List ℕ) → AreSound rules.classes → IsTyped rules old → later ≡ rules → Serves rules old line new said → IsTyped later new
+typed_served rules later said old new line sound typed same serves =
+    subst (λ r. IsTyped r new) (sym same) (record { formed = typed.formed; circular = typed.circular; tokens = tokens_served rules sound old line new said typed.tokens serves })

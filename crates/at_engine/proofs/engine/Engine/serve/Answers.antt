@@ -41,5 +41,5 @@ returns g c =
       room = omega (arith, c.reserve.ensures.capacity, c.say.ensures.room);
       rules = stays.rules;
       settings = stays.settings;
-      sound = record { held = stays.sound; typed = typed_served (rules_of e) (rules_of new) (wants, a.0) (state_of e) (state_of new) line c.requires.sound.typed stays.rules a.1.serves; known = stays.known c.requires.sound.known };
+      sound = record { held = stays.sound; typed = typed_served (rules_of e) (rules_of new) (wants, a.0) (state_of e) (state_of new) line c.requires.sound.held.sound c.requires.sound.typed stays.rules a.1.serves; known = stays.known c.requires.sound.known };
     }
