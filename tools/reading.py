@@ -21,6 +21,8 @@ from typing import Dict, Iterable, Iterator, List, Optional, Sequence, Set, Tupl
 
 ROOT = Path(__file__).resolve().parent.parent
 THEOREM = ("at_start/laws.rt:whole", "at_start/serving.rt:answer:answers")
+# A line by which a crate hands on a page of another one.
+HANDED_ON = re.compile(r"^pub use Rattle\.(\w+)\.specs\.(\w+)$", re.M)
 USE = re.compile(r"^(?:pub |ghost )*use Rattle\.(\w+)\.specs\.([^\s{;]+?)(?:\.\{(.*)\}| as (\S+?));?$")
 # Where a definition begins: at the margin, or, among mutual ones, two blanks behind it.
 HEAD = re.compile(r"^(?:abbrev |unfoldable |pub |data |record )+([^\s:({]+)")
@@ -45,13 +47,16 @@ class Page:
 
 
 def page_named(crate: str, dotted: str) -> Optional[Path]:
-    """The file of specs that a module's name leads to, or a type in it; None where it is a type of the code or the kit's."""
+    """The file of specs that a module's name leads to, also through a crate that hands it on, or a type in it; None where it is a type
+    of the code or the kit's."""
     parts = dotted.split(".")
     for count in range(len(parts), 0, -1):
         file = ROOT.joinpath("crates", crate, "specs", *parts[:count]).with_suffix(".antt")
         if file.exists():
             return file
-    return None
+    lib = ROOT / "crates" / crate / "specs/Lib.antt"
+    handed = HANDED_ON.findall(lib.read_text(encoding="utf-8")) if lib.exists() else []
+    return next((page_named(other, dotted) for other, name in handed if name == parts[0]), None)
 
 
 def imported(page: Page, line: str) -> None:

@@ -9,3 +9,5 @@ pub mod Rules
 pub mod Intervals
 pub mod Table
 pub mod Upward
+pub mod Token
+pub mod TreeView

@@ -1,9 +1,10 @@
-//! The classes of an abstract grammar: their numbers, superclasses and components, or the grammar's first fault.
+//! The classes of an abstract grammar: their numbers, superclasses and components, or the grammar's first fault. And trees of these
+//! classes as they are held: `tree.rt`, and the values of their tokens, `token.rt`. Their texts are `at_tree`'s.
 //!
 //! **Its specs:** `View` is what a table stands for in `at_model`, `Grammar` what a grammar that was read declares,
 //! `Faults` which fault a refusal says; `Rules` and `Checks` say each rule as its check looks at it, `Climbs`,
 //! `Ways` and `Taken` what is known on the way, `Intervals` what the numbers of classes tell, `Upward` what is found on the way up
-//! from a class, `Table` what a table holds.
+//! from a class, `Table` what a table holds. `TreeView` and `Token` are what trees and values of tokens stand for.
 //!
 //! **Where to begin:** `ClassTable::build` in `table.rt`; `checks.rt` has the rules in the order of their codes.
 //!
@@ -27,6 +28,8 @@ mod part;
 mod rules;
 mod table;
 mod taken;
+pub mod token;
+pub mod tree;
 mod way;
 
 pub use fault::{ClassCode, ClassFault};

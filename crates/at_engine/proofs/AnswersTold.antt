@@ -15,8 +15,8 @@ use Rattle.at_model.specs.Alike.{AnswerLike, outcome, circle, find, fault, Value
 use Rattle.at_tree.specs.PathView.{path_view}
 use Rattle.at_tree.specs.declared.path.Path.{Path as PathValue}
 use Rattle.at_tree.specs.Token.{token_view}
-use Rattle.at_tree.specs.declared.token.TokVal.{TokVal}
-use Rattle.at_tree.specs.declared.token.TokVal.TheVariants as token
+use Rattle.at_class.specs.declared.token.TokVal.{TokVal}
+use Rattle.at_class.specs.declared.token.TokVal.TheVariants as token
 use Rattle.at_body.specs.Values.{FaultCode, fault_view}
 use Rattle.at_protocol.specs.declared.reply.Shown.{Shown as ShownValue}
 use Rattle.at_protocol.specs.declared.reply.Shown.TheVariants as shown

@@ -2,8 +2,8 @@
 use Rattle.std.specs.Prelude.{⊤, ℕ, Option, Some, None}
 use Rattle.at_model.specs.Paths.{IsPath}
 use Rattle.at_tree.specs.PathView.{path_view}
-use Rattle.at_tree.specs.declared.token.TokVal.{TokVal}
-use Rattle.at_tree.specs.declared.token.TokVal.TheVariants as value
+use Rattle.at_class.specs.declared.token.TokVal.{TokVal}
+use Rattle.at_class.specs.declared.token.TokVal.TheVariants as value
 use Rattle.at_protocol.specs.declared.reply.Shown.{Shown}
 use Rattle.at_protocol.specs.declared.reply.Shown.TheVariants as shown
 use Rattle.at_protocol.specs.declared.reply.Form.{Form}

@@ -5,11 +5,11 @@ use Rattle.std.specs.Global.{Global}
 use Rattle.at_model.specs.Trees.{Tree, Cell, One, Many, Holds, to_trees}
 use Rattle.at_tree.specs.Token.{token_view}
 use Rattle.at_tree.specs.TreeView.{see_tree, see_cell, tree_view, cell_view}
-use Rattle.at_tree.specs.declared.token.TokVal.{TokVal}
-use Rattle.at_tree.specs.declared.tree.Tree.{Tree as TreeValue}
-use Rattle.at_tree.specs.declared.tree.Cell.TheOpen.{Cell-F}
-use Rattle.at_tree.specs.declared.tree.Cell.TheVariants as value
-use Rattle.at_tree.specs.declared.tree.Cell.TheFolds.{fold-roll-Cell}
+use Rattle.at_class.specs.declared.token.TokVal.{TokVal}
+use Rattle.at_class.specs.declared.tree.Tree.{Tree as TreeValue}
+use Rattle.at_class.specs.declared.tree.Cell.TheOpen.{Cell-F}
+use Rattle.at_class.specs.declared.tree.Cell.TheVariants as value
+use Rattle.at_class.specs.declared.tree.Cell.TheFolds.{fold-roll-Cell}
 
 pub made_one : (t : TreeValue) → cell_view (value.One t) ≡ One (tree_view t)
 made_one t = ap cell_view (sym (value.rolls-One t)) ∙ fold-roll-Cell Cell Tree see_cell see_tree (Cell-F.One t)

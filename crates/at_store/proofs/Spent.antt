@@ -8,9 +8,9 @@ use Rattle.at_model.specs.Trees.{Tree, Cell, Node as branch, to_cells, to_trees,
 use Rattle.at_model.specs.Terms.{max_depth}
 use Rattle.at_model.specs.Edits.{tokens_short, cell_tokens_short, cells_tokens_short, trees_tokens_short}
 use Rattle.at_tree.specs.TreeView.{see_tree, see_cell, tree_view, cell_view}
-use Rattle.at_tree.specs.declared.tree.Tree.{Tree as TreeValue, out-Tree}
-use Rattle.at_tree.specs.declared.tree.Cell.{Cell as CellValue}
-use Rattle.at_tree.specs.declared.tree.Cell.TheFolds.{fold_out-Tree}
+use Rattle.at_class.specs.declared.tree.Tree.{Tree as TreeValue, out-Tree}
+use Rattle.at_class.specs.declared.tree.Cell.{Cell as CellValue}
+use Rattle.at_class.specs.declared.tree.Cell.TheFolds.{fold_out-Tree}
 use Rattle.at_store.specs.Spending.{left_of, left_by_tree, left_by_cell, left_by_trees}
 use Rattle.at_store.specs.Told.{room}
 

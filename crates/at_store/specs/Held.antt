@@ -1,6 +1,6 @@
 -- What the components of a node hold.
 use Rattle.std.specs.Prelude.{List, [], false, take}
-use Rattle.at_tree.specs.declared.token.TokVal.TheVariants.{Bool}
+use Rattle.at_class.specs.declared.token.TokVal.TheVariants.{Bool}
 use Rattle.at_store.specs.declared.components.Components.{Components}
 use Rattle.at_store.specs.declared.components.Components.TheVariants.{None, One, Two, Three, Four, More}
 use Rattle.at_store.specs.declared.entry.Slot.{Slot}

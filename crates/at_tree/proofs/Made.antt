@@ -9,13 +9,13 @@ use Rattle.at_tree.specs.declared.term.Term.{Term as TermValue}
 use Rattle.at_tree.specs.declared.term.TermCell.TheOpen.{TermCell-F}
 use Rattle.at_tree.specs.declared.term.TermCell.TheVariants as written
 use Rattle.at_tree.specs.declared.term.TermCell.TheFolds.{fold-roll-TermCell}
-use Rattle.at_tree.specs.TreeView.{see_tree, see_cell, tree_view, cell_view}
-use Rattle.at_tree.specs.declared.tree.Tree.{Tree as TreeValue}
-use Rattle.at_tree.specs.declared.tree.Cell.{Cell as CellValue}
-use Rattle.at_tree.specs.declared.tree.Cell.TheOpen.{Cell-F}
-use Rattle.at_tree.specs.declared.tree.Cell.TheViews.{roll-Tree}
-use Rattle.at_tree.specs.declared.tree.Cell.TheVariants as value
-use Rattle.at_tree.specs.declared.tree.Cell.TheFolds.{fold-roll-Tree, fold-roll-Cell}
+use Rattle.at_class.specs.TreeView.{see_tree, see_cell, tree_view, cell_view}
+use Rattle.at_class.specs.declared.tree.Tree.{Tree as TreeValue}
+use Rattle.at_class.specs.declared.tree.Cell.{Cell as CellValue}
+use Rattle.at_class.specs.declared.tree.Cell.TheOpen.{Cell-F}
+use Rattle.at_class.specs.declared.tree.Cell.TheViews.{roll-Tree}
+use Rattle.at_class.specs.declared.tree.Cell.TheVariants as value
+use Rattle.at_class.specs.declared.tree.Cell.TheFolds.{fold-roll-Tree, fold-roll-Cell}
 
 pub made_tree : (c : ℕ) (cells : Vec CellValue Global) → tree_view (roll-Tree (record { class = c; cells = cells })) ≡ Node c (to_cells (map cell_view cells.items))
 made_tree c cells = fold-roll-Tree Cell Tree see_cell see_tree (record { class = c; cells = cells })

@@ -7,10 +7,10 @@ use Rattle.at_model.specs.Classes.{Classes, Component, fits, parts}
 use Rattle.at_model.specs.Trees.{Tree, Cell, Node, to_cells, to_trees, nodes, cell_nodes, cells_nodes, trees_nodes, depth, cell_depth, cells_depth, trees_depth, conforms, cell_conforms, cells_conform, trees_conform}
 use Rattle.at_class.specs.declared.part.Part.{Part}
 use Rattle.at_class.specs.View.{part_view}
-use Rattle.at_tree.specs.TreeView.{see_tree, see_cell, tree_view, cell_view}
-use Rattle.at_tree.specs.declared.tree.Tree.{Tree as TreeValue, out-Tree}
-use Rattle.at_tree.specs.declared.tree.Cell.{Cell as CellValue}
-use Rattle.at_tree.specs.declared.tree.Cell.TheFolds.{fold_out-Tree}
+use Rattle.at_class.specs.TreeView.{see_tree, see_cell, tree_view, cell_view}
+use Rattle.at_class.specs.declared.tree.Tree.{Tree as TreeValue, out-Tree}
+use Rattle.at_class.specs.declared.tree.Cell.{Cell as CellValue}
+use Rattle.at_class.specs.declared.tree.Cell.TheFolds.{fold_out-Tree}
 
 pub tree_view_out : (t : TreeValue) → tree_view t ≡ Node (out-Tree t).class (to_cells (map cell_view (out-Tree t).cells.items))
 tree_view_out t = fold_out-Tree Cell Tree see_cell see_tree t

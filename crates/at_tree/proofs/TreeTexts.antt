@@ -6,9 +6,9 @@ use Rattle.at_model.specs.Classes.{Classes, name_of}
 use Rattle.at_model.specs.Trees.{Many, to_cells, to_trees}
 use Rattle.at_model.specs.Terms.{with_commas, tree_text, cell_text, cell_texts, cell_of, cells_of, term_texts, terms_of}
 use Rattle.at_tree.specs.Separated.{separator}
-use Rattle.at_tree.specs.TreeView.{tree_view, cell_view}
-use Rattle.at_tree.specs.declared.tree.Tree.{Tree as TreeValue, out-Tree}
-use Rattle.at_tree.specs.declared.tree.Cell.{Cell as CellValue}
+use Rattle.at_class.specs.TreeView.{tree_view, cell_view}
+use Rattle.at_class.specs.declared.tree.Tree.{Tree as TreeValue, out-Tree}
+use Rattle.at_class.specs.declared.tree.Cell.{Cell as CellValue}
 use Rattle.at_tree.proofs.TreeLoops.{tree_view_out}
 
 pub with_commas-push : (ys : List (List ℕ)) (y : List ℕ) → with_commas (ys ++ y ∷ []) ≡ with_commas ys ++ (separator (length ys) ++ y)

@@ -1,4 +1,5 @@
-pub mod Token
+pub use Rattle.at_class.specs.Token
+pub use Rattle.at_class.specs.TreeView
 pub mod Faults
 pub mod View
 pub mod PathView
@@ -14,7 +15,6 @@ pub mod PartialPath
 pub mod PathSteps
 pub mod PlainNames
 pub mod Laws
-pub mod TreeView
 pub mod Separated
 pub mod Appending
 pub mod Fronts

@@ -5,10 +5,10 @@ use Rattle.at_model.specs.Terms.{Term, IsTerm, term_of, term_text, tree_text}
 use Rattle.at_model.specs.Trees.{Tree, conforms}
 use Rattle.at_tree.specs.Shape.{IsShaped, IsMisshaped}
 use Rattle.at_tree.specs.Stops.{IsTermText, StopsAt}
-use Rattle.at_tree.specs.TreeView.{tree_view}
+use Rattle.at_class.specs.TreeView.{tree_view}
 use Rattle.at_tree.specs.declared.fault.TermFault.{TermFault}
 use Rattle.at_tree.specs.declared.fault.TermFault.TheVariants as term
-use Rattle.at_tree.specs.declared.tree.Tree.{Tree as TreeValue}
+use Rattle.at_class.specs.declared.tree.Tree.{Tree as TreeValue}
 use Rattle.at_tree.specs.declared.tree.shaping.ShapeFault.{ShapeFault}
 use Rattle.at_tree.specs.declared.tree.shaping.ShapeFault.TheVariants as shape
 use Rattle.at_tree.specs.declared.tree.reading.ReadFault.{ReadFault}

@@ -1,7 +1,7 @@
 -- What a term stands for.
 use Rattle.std.specs.Prelude.{List, [], ◌∷◌, string_bytes}
 use Rattle.at_model.specs.Terms.{Term, Node, Cells, no_cells, cell, Cell, One, Many, Empty, Holds, Terms, no_terms, term}
-use Rattle.at_tree.specs.Token.{token_view}
+use Rattle.at_class.specs.Token.{token_view}
 use Rattle.at_tree.specs.declared.term.Term.{Term as TermValue}
 use Rattle.at_tree.specs.declared.term.TermCell.{TermCell as CellValue}
 use Rattle.at_tree.specs.declared.term.TermCell.TheOpen.{TermCell-F, Term-F}

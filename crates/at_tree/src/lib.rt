@@ -1,6 +1,7 @@
-//! Terms, nested trees and paths, and the one text of each.
+//! Terms, nested trees and paths, and the one text of each. Trees and tokens themselves are `at_class`'s, and passed on from here.
 //!
-//! **Its specs:** `View`, `TreeView`, `PathView`, `Token` and `Faults` are what terms, trees, paths, tokens and kinds of faults stand for;
+//! **Its specs:** `View`, `PathView` and `Faults` are what terms, paths and kinds of faults stand for (of trees and tokens `TreeView` and
+//! `Token` of `at_class`, also by this crate's name);
 //! `Reads`, `ReadTrees` and `Shape` what the readers and `shape` answer; `Laws` and `TreeLaws` what is promised of
 //! texts. `Partial`, `PartialPath`, `Gives`, `Leads`, `Stops` and `Finishes` are texts by characters,
 //! `Fronts`, `TermFronts`, `PathSteps`, `Runs` and `PlainNames` the readers that take whole names, cells and steps; `Seen`
@@ -19,5 +20,6 @@ pub mod path;
 pub mod reader;
 mod runs;
 pub mod term;
-pub mod token;
 pub mod tree;
+
+pub use at_class::token;

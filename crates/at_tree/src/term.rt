@@ -1,7 +1,7 @@
 //! Terms: trees as they are written. The words alone, with no class checked.
 mod direct;
 
-use crate::token::TokVal;
+use at_class::token::TokVal;
 pub(crate) use direct::whole_term;
 
 /// A term: a class's name, and a cell for each component.

@@ -1,4 +1,4 @@
-//! Syntax trees: a class, and a cell for each of its components.
+//! Syntax trees: their texts, their shapes, and how great they are. The trees themselves are those of the class table.
 mod conforming;
 mod counts;
 mod direct;
@@ -8,29 +8,9 @@ mod reading;
 mod shaping;
 pub mod writing;
 
-use crate::token::TokVal;
-use at_class::ClassId;
+pub use at_class::tree::{Cell, Tree};
 pub use conforming::fits;
 pub use counts::{depth, nodes};
 pub use reading::{ReadFault, read_tree};
 pub use shaping::{ShapeFault, shape};
 pub use writing::write_term;
-
-/// A syntax tree.
-#[cycle(tree)]
-#[derive(Drop)]
-pub struct Tree {
-    pub class: ClassId,
-    pub cells: Vec<Cell>,
-}
-
-/// What a component holds: one tree, a list of trees, none or one where it is optional, or the value of a token.
-#[cycle(tree)]
-#[derive(Drop)]
-pub enum Cell {
-    One(Tree),
-    Many(Vec<Tree>),
-    Empty,
-    Filled(Tree),
-    Tok(TokVal),
-}

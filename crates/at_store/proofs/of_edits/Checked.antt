@@ -8,8 +8,8 @@ use Rattle.at_model.proofs.of_edits.Edited.{accepted_conforms}
 use Rattle.at_model.proofs.of_edits.Conforming.{accepted as model_accepted}
 use Rattle.at_store.proofs.of_edits.Taking.{move_does, taker_is}
 use Rattle.at_tree.specs.Token.{token_view}
-use Rattle.at_tree.specs.declared.token.TokVal.{TokVal}
-use Rattle.at_tree.specs.declared.tree.Tree.{Tree as Nested}
+use Rattle.at_class.specs.declared.token.TokVal.{TokVal}
+use Rattle.at_class.specs.declared.tree.Tree.{Tree as Nested}
 use Rattle.at_tree.specs.TreeView.{tree_view}
 use Rattle.at_store.specs.Numbers.{number_at, relabel, relabel_edit}
 use Rattle.at_store.specs.Memory.{Info, Keeps, class_in, top}

@@ -6,10 +6,10 @@ use Rattle.std.specs.Prelude.{map}
 use Rattle.std.specs.List.{slice_get}
 use Rattle.at_model.specs.Trees.{Tree, Cell, Node as branch, no_cells, cell, Many, One, Filled, tree, to_cells, to_trees}
 use Rattle.at_tree.specs.TreeView.{see_tree, see_cell, tree_view, cell_view}
-use Rattle.at_tree.specs.declared.tree.Tree.{Tree as TreeValue}
-use Rattle.at_tree.specs.declared.tree.Cell.TheOpen.{Cell-F}
-use Rattle.at_tree.specs.declared.tree.Cell.TheVariants as value
-use Rattle.at_tree.specs.declared.tree.Cell.TheFolds.{fold-roll-Cell}
+use Rattle.at_class.specs.declared.tree.Tree.{Tree as TreeValue}
+use Rattle.at_class.specs.declared.tree.Cell.TheOpen.{Cell-F}
+use Rattle.at_class.specs.declared.tree.Cell.TheVariants as value
+use Rattle.at_class.specs.declared.tree.Cell.TheFolds.{fold-roll-Cell}
 use Rattle.at_store.specs.Numbers.{relabel, relabel_cells, relabel_cell, relabel_trees}
 use Rattle.at_store.specs.Memory.{Info, Kept, Kids, Token_of, Plain, List_of, Optional, cells_in, class_in}
 use Rattle.at_store.specs.Grown.{grown, grown_cell, grown_node, shown_below}

@@ -8,7 +8,7 @@ use super::words::{after_word, in_word};
 use super::{Level, Number, Partial, Place};
 use crate::fault::{Misfit, Untaken};
 use crate::term::{Term, TermCell};
-use crate::token::TokVal;
+use at_class::token::TokVal;
 use at_text::names::starts_name;
 use std::alloc::Global;
 

@@ -7,7 +7,7 @@ use super::steps::{in_cell, inside};
 use super::{Level, MAX_DEPTH, Partial, Place};
 use crate::fault::{Misfit, Untaken};
 use crate::term::TermCell;
-use crate::token::TokVal;
+use at_class::token::TokVal;
 use at_text::names::{continues_name, is_reserved};
 use std::alloc::Global;
 

@@ -1,11 +1,11 @@
 ghost use Rattle.std.specs.Prelude.{◌≡◌, map};
 ghost use Rattle.at_model.specs.Trees.{conforms, cell_conforms, trees_conform, is_of_kind, to_trees};
 ghost use Rattle.at_class.specs.View.{shape_view, token_kind_view};
-ghost use Rattle.at_tree.specs.Token.{token_view};
-ghost use Rattle.at_tree.specs.TreeView.{tree_view, cell_view};
+ghost use Rattle.at_class.specs.Token.{token_view};
+ghost use Rattle.at_class.specs.TreeView.{tree_view, cell_view};
 
 use super::{Cell, Tree};
-use crate::token::TokVal;
+use at_class::token::TokVal;
 use at_class::{ClassId, ClassTable, PartShape, TokenKind};
 
 /// Whether the value is of the kind.

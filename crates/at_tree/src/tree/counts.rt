@@ -1,6 +1,6 @@
 ghost use Rattle.std.specs.Prelude.{◌≡◌, map, min, max};
 ghost use Rattle.at_model.specs.Trees.{nodes, cell_nodes, trees_nodes, depth, cell_depth, trees_depth, to_trees};
-ghost use Rattle.at_tree.specs.TreeView.{tree_view, cell_view};
+ghost use Rattle.at_class.specs.TreeView.{tree_view, cell_view};
 
 use super::{Cell, Tree};
 

@@ -4,7 +4,7 @@ ghost use Rattle.at_model.specs.Classes.{AreSound, Many, Maybe};
 ghost use Rattle.at_model.specs.Trees.{to_cells, to_trees};
 ghost use Rattle.at_model.specs.Trees as tree;
 ghost use Rattle.at_class.specs.View.{part_view, shape_view};
-ghost use Rattle.at_tree.specs.TreeView.{tree_view, cell_view};
+ghost use Rattle.at_class.specs.TreeView.{tree_view, cell_view};
 ghost use Rattle.at_tree.specs.Separated.{separator};
 ghost use Rattle.at_tree.specs.ReadTrees.{IsReadAs};
 ghost use Rattle.at_tree.specs.Fronts.{IsTreeFront, IsCellFront, AreCellsFront};

@@ -8,11 +8,11 @@ ghost use Rattle.at_model.specs.Terms.{IsToken, IsInt32, token_text};
 ghost use Rattle.at_model.specs.Texts.{quoted};
 ghost use Rattle.at_model.specs.Trees.{Truth, is_of_kind};
 ghost use Rattle.at_class.specs.View.{token_kind_view};
-ghost use Rattle.at_tree.specs.Token.{token_view};
+ghost use Rattle.at_class.specs.Token.{token_view};
 
 use crate::fault::{Misfit, Untaken};
 use crate::runs::{Run, cut};
-use crate::token::TokVal;
+use at_class::token::TokVal;
 use at_class::{ClassId, ClassTable, TokenKind};
 use at_text::decimal::read_int;
 use at_text::quoted::{QuoteFault, read_quoted};

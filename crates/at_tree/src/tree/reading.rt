@@ -2,7 +2,7 @@
 ghost use Rattle.std.specs.Prelude.{◌≡◌, IfOk, IfErr, true};
 ghost use Rattle.at_model.specs.Terms.{IsTerm, term_of, tree_text};
 ghost use Rattle.at_model.specs.Trees.{Tree as Nodes, conforms};
-ghost use Rattle.at_tree.specs.TreeView.{tree_view};
+ghost use Rattle.at_class.specs.TreeView.{tree_view};
 ghost use Rattle.at_tree.specs.ReadTrees.{IsReadAs, IsUnread, ReadsTree, ReadsTrees};
 
 use super::Tree;

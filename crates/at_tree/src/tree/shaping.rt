@@ -2,8 +2,8 @@ ghost use Rattle.std.specs.Prelude.{◌≡◌, IfOk, IfErr, OnOk, Some, map, tru
 ghost use Rattle.at_model.specs.Classes.{AreSound};
 ghost use Rattle.at_model.specs.Trees.{to_trees};
 ghost use Rattle.at_class.specs.View.{shape_view};
-ghost use Rattle.at_tree.specs.TreeView.{tree_view};
-ghost use Rattle.at_tree.specs.TreeView.{cell_view as tree_cell_view};
+ghost use Rattle.at_class.specs.TreeView.{tree_view};
+ghost use Rattle.at_class.specs.TreeView.{cell_view as tree_cell_view};
 ghost use Rattle.at_tree.specs.View.{term_view, cell_view, to_terms};
 ghost use Rattle.at_model.specs.Shaping.{names_classes, names_concrete_class, cell_names_classes, terms_name_classes, shaped, cell_shaped, terms_shaped};
 ghost use Rattle.at_tree.specs.Shape.{IsShaped, IsMisshaped, IsNoneAtFit};

@@ -3,12 +3,12 @@ ghost use Rattle.at_model.specs.Classes.{name_of};
 ghost use Rattle.at_model.specs.Terms.{tree_text, cell_text, cell_of, token_text};
 ghost use Rattle.at_model.specs.Trees.{Many, to_trees};
 ghost use Rattle.at_tree.specs.Appending.{Appends};
-ghost use Rattle.at_tree.specs.Token.{token_view};
-ghost use Rattle.at_tree.specs.TreeView.{tree_view, cell_view};
+ghost use Rattle.at_class.specs.Token.{token_view};
+ghost use Rattle.at_class.specs.TreeView.{tree_view, cell_view};
 ghost use Rattle.at_tree.specs.Separated.{separator};
 
 use super::{Cell, Tree};
-use crate::token::TokVal;
+use at_class::token::TokVal;
 use at_class::{ClassId, ClassTable};
 use at_text::decimal::write_int;
 use at_text::quoted::write_quoted;

@@ -9,7 +9,7 @@ use Rattle.at_tree.proofs.Made.{made_empty, made_filled}
 use Rattle.at_tree.specs.TreeView.{cell_view, tree_view}
 use Rattle.at_store.specs.Memory.{Kids, List_of, Optional}
 use Rattle.at_store.specs.Planting.{GainsCell, GainsTree, StaysPlanted}
-use Rattle.at_tree.specs.declared.tree.Tree.{out-Tree}
+use Rattle.at_class.specs.declared.tree.Tree.{out-Tree}
 use Rattle.at_tree.proofs.TreeLoops.{tree_view_out}
 use Rattle.at_store.specs.View.{form_view, stored_of}
 use Rattle.at_store.proofs.Cells.{made_one, made_many, made_token}

@@ -2,7 +2,7 @@ use Rattle.std.proofs.Common.{◌≡◌, length, map}
 use Rattle.std.specs.Iterator.Adapters.{enumerate_source, enumerate_count}
 use Rattle.std.specs.Vec.Iter.{into_iter_items, into_iter_len}
 use Rattle.at_tree.specs.TreeView.{cell_view, tree_view}
-use Rattle.at_tree.specs.declared.tree.Tree.{out-Tree}
+use Rattle.at_class.specs.declared.tree.Tree.{out-Tree}
 use Rattle.at_store.specs.View.{MarksNoMore, stored_of}
 use Rattle.at_store.proofs.of_planting.Gains.{HasFirstCells, HasFirstTrees}
 use Rattle.at_store.proofs.plant.+plant.Given as goal

@@ -4,8 +4,8 @@ use Rattle.std.proofs.lemmas.List.{length-map}
 use Rattle.at_model.specs.Classes.{fits}
 use Rattle.at_model.specs.Trees.{cell_conforms}
 use Rattle.at_class.specs.View.{part_view}
-use Rattle.at_tree.specs.TreeView.{cell_view}
-use Rattle.at_tree.specs.declared.tree.Tree.{out-Tree}
+use Rattle.at_class.specs.TreeView.{cell_view}
+use Rattle.at_class.specs.declared.tree.Tree.{out-Tree}
 use Rattle.at_tree.proofs.TreeLoops.{rest_conforms, rest_conforms-here, rest_conforms-end, cells_conform-lengths, conforms-whole}
 use Rattle.at_tree.proofs.tree.conforming.+fits.Goals as goal
 

@@ -1,7 +1,7 @@
 use Rattle.std.proofs.Common.{◌≡◌, map, take}
 use Rattle.std.specs.Prelude.{min}
 use Rattle.at_model.specs.Trees.{to_cells, to_trees, cells_depth, trees_depth}
-use Rattle.at_tree.specs.TreeView.{tree_view, cell_view}
+use Rattle.at_class.specs.TreeView.{tree_view, cell_view}
 use Rattle.at_tree.proofs.tree.counts.+depth.Given as goal
 
 abbrev pub invariant-depth-loop-cell : goal.invariant-depth-loop-cell

@@ -4,7 +4,7 @@ use Rattle.at_class.specs.View.{part_view}
 use Rattle.at_model.specs.Classes.{Many, Maybe}
 use Rattle.at_model.specs.Trees as tree
 use Rattle.at_model.specs.Trees.{Cell, to_cells, to_trees}
-use Rattle.at_tree.specs.TreeView.{tree_view, cell_view}
+use Rattle.at_class.specs.TreeView.{tree_view, cell_view}
 use Rattle.at_tree.specs.Fronts.{IsCellFront}
 use Rattle.at_tree.proofs.Made.{made_tree, made_empty, made_filled}
 use Rattle.at_tree.proofs.FrontsLemmas.{tree_front, HasCells, HasTrees, has_none, one_cell_more, all_cells, empty_list, first_tree, one_tree_more, whole_list, shorter}

@@ -1,6 +1,6 @@
 use Rattle.std.proofs.Common.{◌+◌, ◌*◌, map, length}
 use Rattle.at_class.specs.View.{part_view}
-use Rattle.at_tree.specs.TreeView.{tree_view, cell_view}
+use Rattle.at_class.specs.TreeView.{tree_view, cell_view}
 use Rattle.at_tree.proofs.FrontsLemmas.{HasCells, HasTrees}
 use Rattle.at_tree.proofs.tree.direct.+take.Given as goal
 

@@ -2,7 +2,7 @@ use Rattle.std.proofs.Common.{rules}
 use Rattle.std.proofs.lemmas.Result.{err_from_is_err_and}
 use Rattle.at_tree.specs.ReadTrees.{IsReadAs, of_shape}
 use Rattle.at_tree.specs.View.{term_view}
-use Rattle.at_tree.specs.TreeView.{tree_view}
+use Rattle.at_class.specs.TreeView.{tree_view}
 use Rattle.at_tree.proofs.ReadTreesLemmas.{no_term, no_tree, again_found, again_no_term, again_refused}
 use Rattle.at_tree.proofs.tree.reading.read_by_term.Goals as goal
 

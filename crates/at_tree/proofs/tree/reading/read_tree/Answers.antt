@@ -1,4 +1,4 @@
-use Rattle.at_tree.specs.TreeView.{tree_view}
+use Rattle.at_class.specs.TreeView.{tree_view}
 use Rattle.at_tree.proofs.ReadTreesLemmas.{again_found}
 use Rattle.at_tree.proofs.tree.reading.read_tree.Goals as goal
 

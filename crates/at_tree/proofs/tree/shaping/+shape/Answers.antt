@@ -6,7 +6,7 @@ use Rattle.at_class.specs.View.{part_view, shape_view}
 use Rattle.at_model.specs.Classes.{class_of_name, Maybe}
 use Rattle.at_model.specs.Trees.{Node, Filled}
 use Rattle.at_model.specs.Shaping.{cell_shaped, shaped}
-use Rattle.at_tree.specs.TreeView.{tree_view, cell_view}
+use Rattle.at_class.specs.TreeView.{tree_view, cell_view}
 use Rattle.at_tree.specs.View.{term_view, cell_view as term_cell_view}
 use Rattle.at_tree.proofs.Made.{made_tree, made_filled, term_one}
 use Rattle.at_tree.proofs.Shaping.{cells_from, cells_from-more, cells_from-none, cells_from-end, cells_from-lengths, trees_from, trees_from-more, trees_from-end, shaped-whole, onto_cells, onto_trees, unfit_when}

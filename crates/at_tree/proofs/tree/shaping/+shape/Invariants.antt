@@ -1,6 +1,6 @@
 use Rattle.std.proofs.Common.{◌≡◌, map}
 use Rattle.std.specs.Option.{option_map}
-use Rattle.at_tree.specs.TreeView.{tree_view, cell_view}
+use Rattle.at_class.specs.TreeView.{tree_view, cell_view}
 use Rattle.at_tree.proofs.Shaping.{cells_from, trees_from, onto_cells, onto_trees}
 use Rattle.at_tree.proofs.tree.shaping.+shape.Given as goal
 

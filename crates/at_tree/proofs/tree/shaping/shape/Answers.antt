@@ -1,7 +1,7 @@
 use Rattle.std.proofs.Common.{◌∙◌, sym, ap}
 use Rattle.at_model.specs.Shaping.{names_classes}
 use Rattle.at_model.proofs.of_texts.Shaped.{conforms_shaped}
-use Rattle.at_tree.specs.TreeView.{tree_view}
+use Rattle.at_class.specs.TreeView.{tree_view}
 use Rattle.at_tree.specs.View.{term_view}
 use Rattle.at_tree.proofs.ShapeLaws.{found-is, misshaped}
 use Rattle.at_tree.proofs.tree.shaping.shape.Goals as goal

@@ -3,7 +3,7 @@ use Rattle.std.proofs.lemmas.Result.{err_from_is_err_and}
 use Rattle.at_model.specs.Classes.{name_of}
 use Rattle.at_model.specs.Terms.{tree_text, cell_text, cell_of}
 use Rattle.at_tree.specs.Separated.{separator}
-use Rattle.at_tree.specs.TreeView.{tree_view, cell_view}
+use Rattle.at_class.specs.TreeView.{tree_view, cell_view}
 use Rattle.at_tree.proofs.TreeTexts.{cells_so_far, trees_so_far, commas-more, tree_text-whole, list_text-whole, stays, one_more, one_sep, closed}
 use Rattle.at_tree.proofs.tree.writing.+append.Goals as goal
 

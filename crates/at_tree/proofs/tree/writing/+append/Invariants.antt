@@ -1,6 +1,6 @@
 use Rattle.std.proofs.Common.{◌≡◌, ◌++◌, [], ◌∷◌}
 use Rattle.at_model.specs.Classes.{name_of}
-use Rattle.at_tree.specs.declared.tree.Tree.{out-Tree}
+use Rattle.at_class.specs.declared.tree.Tree.{out-Tree}
 use Rattle.at_tree.proofs.TreeTexts.{cells_so_far, trees_so_far}
 use Rattle.at_tree.proofs.tree.writing.+append.Given as goal
 

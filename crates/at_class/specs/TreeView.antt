@@ -1,10 +1,10 @@
 -- What a tree stands for.
 use Rattle.at_model.specs.Trees.{Tree, Node, Cell, One, Many, Empty, Filled, Holds, to_cells, to_trees}
-use Rattle.at_tree.specs.Token.{token_view}
-use Rattle.at_tree.specs.declared.tree.Tree.{Tree as TreeValue}
-use Rattle.at_tree.specs.declared.tree.Cell.{Cell as CellValue}
-use Rattle.at_tree.specs.declared.tree.Cell.TheOpen.{Cell-F, Tree-F}
-use Rattle.at_tree.specs.declared.tree.Cell.TheFolds.{fold-Tree, fold-Cell}
+use Rattle.at_class.specs.Token.{token_view}
+use Rattle.at_class.specs.declared.tree.Tree.{Tree as TreeValue}
+use Rattle.at_class.specs.declared.tree.Cell.{Cell as CellValue}
+use Rattle.at_class.specs.declared.tree.Cell.TheOpen.{Cell-F, Tree-F}
+use Rattle.at_class.specs.declared.tree.Cell.TheFolds.{fold-Tree, fold-Cell}
 
 -- one level, with the trees and cells inside already seen
 abbrev pub see_tree : Tree-F Cell Tree → Tree

@@ -27,7 +27,7 @@ fn shortened(text: &str) -> Option<ShortText>
 impl TokVal {
     ghost use Rattle.std.specs.Prelude.{◌≡◌, IfOk, string_bytes};
     ghost use Rattle.at_model.specs.Trees.{Text};
-    ghost use Rattle.at_tree.specs.Token.{token_view};
+    ghost use Rattle.at_class.specs.Token.{token_view};
 
     /// The text as a value, whose memory is given back where the text is short.
     pub fn of_text(alloc: Global, text: String) -> TokVal
