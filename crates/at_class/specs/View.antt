@@ -1,5 +1,5 @@
 -- What the values of this crate stand for.
-use Rattle.std.specs.Prelude.{ℕ, map, List, Option, position, String, string_bytes}
+use Rattle.std.specs.Prelude.{ℕ, map, List, Option, option_map, position, String, string_bytes}
 use Rattle.std.specs.Str.{bytes_eq}
 use Rattle.at_model.specs.Classes.{Classes, Class as ModelClass, Component, Shape, TokenKind as Kind}
 use Rattle.at_model.specs.Classes as class
@@ -9,6 +9,7 @@ use Rattle.at_class.specs.declared.part.PartShape.{PartShape}
 use Rattle.at_class.specs.declared.part.PartShape.TheVariants.{One, Many, Maybe, Tok}
 use Rattle.at_class.specs.declared.part.Part.{Part}
 use Rattle.at_class.specs.declared.class.Class.{Class}
+use Rattle.at_class.specs.TreeView.{cell_view}
 
 abbrev pub token_kind_view : TokenKind → Kind
 token_kind_view Str = class.Text
@@ -22,7 +23,7 @@ shape_view (Maybe c) = class.Maybe c
 shape_view (Tok kind) = class.Token (token_kind_view kind)
 
 abbrev pub part_view : Part → Component
-part_view p = record { name = string_bytes p.name; shape = shape_view p.shape }
+part_view p = record { name = string_bytes p.name; shape = shape_view p.shape; fixed = option_map cell_view p.fixed }
 
 abbrev pub class_view : Class → ModelClass
 class_view k = record { name = string_bytes k.name; is_abstract = k.is_abstract; parent = k.parent; own = map part_view k.own.items }

@@ -71,6 +71,7 @@ fn part_declared(
     Ok(Part {
         name,
         shape: shape_named(names, part.shape, part.kind.as_str()),
+        fixed: None,
     })
 }
 

@@ -1,4 +1,5 @@
 //! Classes, and components.
+use crate::tree::Cell;
 use std::alloc::{AllocError, Global};
 use std::marker::Model;
 
@@ -110,25 +111,31 @@ impl PartShape {
     }
 }
 
-/// A component of a class.
-#[derive(Debug, Drop)]
+/// A component of a class; where it is fixed (a constant nonterminal attribute), what stands in it in each tree.
+#[derive(Drop)]
 pub struct Part {
     pub name: String,
     pub shape: PartShape,
+    pub fixed: Option<Cell>,
 }
 
 impl Part {
     ghost use Rattle.std.specs.Prelude.{◌≡◌, IfOk};
     ghost use Rattle.at_class.specs.View.{part_view};
 
-    /// A component of the same name and shape, or want of memory.
+    /// A component of the same name and shape, in which the same is fixed, or want of memory.
     pub(crate) fn copied(&self, alloc: Global) -> Result<Part, AllocError>
         ensures { IfOk result (λ p. part_view p ≡ part_view self.now) }
     {
         let name = String::from_str(alloc, self.name.as_str())?;
+        let fixed = match &self.fixed {
+            None => None,
+            Some(cell) => Some(cell.copied(alloc)?),
+        };
         Ok(Part {
             name,
             shape: self.shape,
+            fixed,
         })
     }
 }
