@@ -1,4 +1,6 @@
 //! Syntax trees: a class, and a cell for each of its components.
+mod copying;
+
 use crate::part::ClassId;
 use crate::token::TokVal;
 
