@@ -1,5 +1,5 @@
 -- Ways up from class to superclass, one step at a time.
-use Rattle.std.proofs.Common.{◌≡◌, ℕ, ◌+◌, ◌-◌, ◌<◌, ◌≤◌, [], ◌∷◌, refl, ap, ◌∙◌, arith, Option, Some, None, suc, zero}
+use Rattle.std.proofs.Common.{◌≡◌, ℕ, ◌+◌, ◌-◌, ◌<◌, ◌≤◌, [], ◌∷◌, refl, ap, arith, Option, Some, None, suc, zero}
 use Rattle.at_model.specs.Classes.{Classes, chain_within, parent_of}
 
 -- what is left of the way after one step

@@ -14,3 +14,5 @@ pub mod Places
 pub mod Apart
 pub mod PartsTested
 pub mod FirstUpward
+pub mod FixedParts
+pub mod TreesMade

@@ -80,6 +80,7 @@ component_sound : (ds : Declarations) (p : PartDeclaration) → 0 < length ds �
 component_sound ds p some named = record {
   name = named;
   within = shape_within p.form (length ds) _ _ (or_first (length ds) (class_named ds p.kind) some (class_named-within ds p.kind));
+  fixed = tt;
 }
 
 class_sound : (ds : Declarations) (d : Declaration) → 0 < length ds → IsDeclarationNamed d → AreTexts d → IsClassSound (length ds) (class_by (class_named ds) d)

@@ -11,3 +11,5 @@ pub mod Table
 pub mod Upward
 pub mod Token
 pub mod TreeView
+pub mod Fixing
+pub mod Codes

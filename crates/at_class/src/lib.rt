@@ -19,6 +19,7 @@ mod class;
 mod descent;
 mod entry;
 mod fault;
+mod fixing;
 mod found;
 mod intervals;
 pub mod laws;
@@ -33,6 +34,7 @@ pub mod tree;
 mod way;
 
 pub use fault::{ClassCode, ClassFault};
+pub use fixing::Fixed;
 pub use naming::are_named;
 pub use part::{ClassId, Part, PartShape, TokenKind};
 pub use table::ClassTable;

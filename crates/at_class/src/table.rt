@@ -2,6 +2,7 @@
 use crate::class::classes_declared;
 use crate::entry::{Entry, entries_of};
 use crate::fault::ClassFault;
+use crate::fixing::{Fixed, fix_all};
 use crate::intervals::{Interval, interval_of, intervals_of};
 use crate::names::class_named;
 use crate::part::{ClassId, Part, position_named};
@@ -36,8 +37,12 @@ impl Drop for ClassTable {
 
 impl Model for ClassTable {
     ghost use Rattle.at_model.specs.Classes.{Classes};
+    ghost use Rattle.at_class.specs.Codes.{cell_code};
+    ghost use Rattle.std.specs.Coded.{codes};
 
     ghost Value = { Classes };
+
+    ghost coded = { Prim.hlevel (codes, cell_code) };
 
     ghost use Rattle.at_class.specs.Table.{IsTable, table_view};
 
@@ -56,6 +61,7 @@ impl ClassTable {
     ghost use Rattle.at_class.specs.Upward.{AnswersFirst};
     ghost use Rattle.at_class.specs.Grammar.{grammar_view};
     ghost use Rattle.at_class.specs.Faults.{IsRefusedFor};
+    ghost use Rattle.at_class.specs.Fixing.{fixed_as, fixed_view};
 
     /// The table of the classes that the grammar declares. A grammar that breaks a rule is refused: of several rules the first in
     /// the order of `ClassCode` counts, at its earliest place. `Memory` where memory is wanting.
@@ -66,7 +72,22 @@ impl ClassTable {
         ensures hierarchy { IfOk result IsHierarchy }
         ensures refused { IfErr result (IsRefusedFor (grammar_view grammar.now)) }
     {
-        table_of(alloc, &grammar.classes)
+        table_of(alloc, &grammar.classes, &[])
+    }
+
+    /// The same table, but that in these components the same stands in each tree.
+    pub fn build_fixed(
+        alloc: Global,
+        grammar: &Grammar,
+        fixed: &[Fixed],
+    ) -> Result<ClassTable, ClassFault>
+        requires { AreNamed (grammar_view grammar.now) }
+        ensures faultless { IfOk result (λ t. first_fault (grammar_view grammar.now) ≡ None) }
+        ensures built { IfOk result (λ t. t ≡ fixed_as (map fixed_view fixed.now) (classes_of (grammar_view grammar.now))) }
+        ensures hierarchy { IfOk result IsHierarchy }
+        ensures refused { IfErr result (IsRefusedFor (grammar_view grammar.now)) }
+    {
+        table_of(alloc, &grammar.classes, fixed)
     }
 
     /// How many classes there are: their numbers are those below. Each superclass is one of them, no class is above itself, and no two
@@ -191,22 +212,28 @@ impl ClassTable {
     }
 }
 
-ghost use Rattle.std.specs.Prelude.{◌≡◌, IfOk, IfErr, None};
+ghost use Rattle.std.specs.Prelude.{◌≡◌, IfOk, IfErr, None, map};
 ghost use Rattle.at_model.specs.Declarations.{AreNamed, classes_of, first_fault};
 ghost use Rattle.at_model.specs.WellFormed.{IsHierarchy};
 ghost use Rattle.at_class.specs.Grammar.{declarations_view};
 ghost use Rattle.at_class.specs.Faults.{IsRefusedFor};
+ghost use Rattle.at_class.specs.Fixing.{fixed_as, fixed_view};
 
-fn table_of(alloc: Global, declarations: &[ClassDecl]) -> Result<ClassTable, ClassFault>
+fn table_of(
+    alloc: Global,
+    declarations: &[ClassDecl],
+    fixed: &[Fixed],
+) -> Result<ClassTable, ClassFault>
     requires { AreNamed (declarations_view declarations.now) }
     ensures faultless { IfOk result (λ t. first_fault (declarations_view declarations.now) ≡ None) }
-    ensures built { IfOk result (λ t. t ≡ classes_of (declarations_view declarations.now)) }
+    ensures built { IfOk result (λ t. t ≡ fixed_as (map fixed_view fixed.now) (classes_of (declarations_view declarations.now))) }
     ensures hierarchy { IfOk result IsHierarchy }
     ensures refused { IfErr result (IsRefusedFor (declarations_view declarations.now)) }
 {
     let names = known_names(alloc, declarations)?;
     let classes = classes_declared(alloc, &names, declarations)?;
     refuse_classes(alloc, &classes, declarations)?;
+    let classes = fix_all(alloc, classes, fixed)?;
     let entries = entries_of(alloc, &classes)?;
     let intervals = intervals_of(alloc, &classes)?;
     Ok(ClassTable {

@@ -27,6 +27,7 @@ fn shortened(text: &str) -> Option<ShortText>
 impl TokVal {
     ghost use Rattle.std.specs.Prelude.{◌≡◌, IfOk, string_bytes};
     ghost use Rattle.at_model.specs.Trees.{Text};
+    ghost use Rattle.at_model.specs.SyntaxTrees.{IsToken};
     ghost use Rattle.at_class.specs.Token.{token_view};
 
     /// The text as a value, whose memory is given back where the text is short.
@@ -36,6 +37,25 @@ impl TokVal {
         match shortened(text.as_str()) {
             Some(short) => TokVal::Short(short, alloc),
             None => TokVal::Str(text),
+        }
+    }
+
+    /// The same value once more, of which it is known that it can be written; or want of memory.
+    pub(crate) fn written(&self, alloc: Global) -> Result<TokVal, AllocError>
+        ensures same { IfOk result (λ v. token_view v ≡ token_view self.now) }
+        ensures token { IfOk result (λ v. IsToken (token_view v)) }
+    {
+        match self {
+            TokVal::Str(text) => Ok(TokVal::of_text(
+                alloc,
+                String::from_str(alloc, text.as_str())?,
+            )),
+            TokVal::Short(text, _) => Ok(TokVal::of_text(
+                alloc,
+                String::from_str(alloc, text.as_str())?,
+            )),
+            TokVal::Int(n) => Ok(TokVal::Int(*n)),
+            TokVal::Bool(b) => Ok(TokVal::Bool(*b)),
         }
     }
 

@@ -1,5 +1,6 @@
 //! Syntax trees: a class, and a cell for each of its components.
 mod copying;
+mod written;
 
 use crate::part::ClassId;
 use crate::token::TokVal;

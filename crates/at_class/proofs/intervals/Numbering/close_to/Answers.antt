@@ -1,4 +1,4 @@
-use Rattle.std.proofs.Common.{◌<◌, ◌∙◌, ap, sym, subst, arith, Option, Some}
+use Rattle.std.proofs.Common.{◌<◌, ◌∙◌, ap, sym, subst, arith, Option}
 use Rattle.at_model.specs.Classes.{parent_of}
 use Rattle.at_class.specs.View.{classes_view}
 use Rattle.at_class.specs.Intervals.{AreNumbered, interval_at}
