@@ -14,5 +14,4 @@ pub mod Places
 pub mod Apart
 pub mod PartsTested
 pub mod FirstUpward
-pub mod FixedParts
-pub mod TreesMade
+pub mod Comparing

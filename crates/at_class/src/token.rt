@@ -26,8 +26,7 @@ fn shortened(text: &str) -> Option<ShortText>
 
 impl TokVal {
     ghost use Rattle.std.specs.Prelude.{◌≡◌, IfOk, string_bytes};
-    ghost use Rattle.at_model.specs.Trees.{Text};
-    ghost use Rattle.at_model.specs.SyntaxTrees.{IsToken};
+    ghost use Rattle.at_model.specs.SyntaxTrees.{Text, token_eq};
     ghost use Rattle.at_class.specs.Token.{token_view};
 
     /// The text as a value, whose memory is given back where the text is short.
@@ -68,6 +67,29 @@ impl TokVal {
             TokVal::Short(text, alloc) => Ok(TokVal::Short(*text, *alloc)),
             TokVal::Int(n) => Ok(TokVal::Int(*n)),
             TokVal::Bool(b) => Ok(TokVal::Bool(*b)),
+        }
+    }
+
+    /// Whether the other value is the same: a text by its bytes, wherever they lie.
+    pub fn is_same(&self, other: &TokVal) -> bool
+        ensures { result ≡ token_eq (token_view self.now) (token_view other.now) }
+    {
+        match self {
+            TokVal::Str(text) => other.is_text(text.as_str()),
+            TokVal::Short(text, _) => other.is_text(text.as_str()),
+            TokVal::Int(n) => matches!(other, TokVal::Int(m) if m == n),
+            TokVal::Bool(b) => matches!(other, TokVal::Bool(c) if c == b),
+        }
+    }
+
+    /// Whether the value is that text.
+    fn is_text(&self, text: &str) -> bool
+        ensures { result ≡ token_eq (Text text.now) (token_view self.now) }
+    {
+        match self {
+            TokVal::Str(own) => text == own.as_str(),
+            TokVal::Short(own, _) => text == own.as_str(),
+            TokVal::Int(_) | TokVal::Bool(_) => false,
         }
     }
 }

@@ -1,4 +1,5 @@
 //! Syntax trees: a class, and a cell for each of its components.
+mod comparing;
 mod copying;
 mod written;
 
