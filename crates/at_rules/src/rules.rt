@@ -94,12 +94,13 @@ impl Drop for Rules {
 
 impl Model for Rules {
     ghost use Rattle.at_model.specs.Rules.{Rules as Meant};
+    ghost use Rattle.at_class.specs.Codes.{cell_code};
     ghost use Rattle.at_rules.specs.Marks.{expr_code};
     ghost use Rattle.std.specs.Coded.{codes};
 
     ghost Value = { Meant };
 
-    ghost coded = { Prim.hlevel (codes, expr_code) };
+    ghost coded = { Prim.hlevel (codes, expr_code, cell_code) };
 
     ghost use Rattle.std.specs.Prelude.{map};
     ghost use Rattle.at_rules.specs.RulesView.{attribute_view, own_view, inherited_view, named, text_of};
