@@ -19,7 +19,7 @@ use Rattle.at_store.proofs.Sizes.{above_there}
 pub allowed : (classes : Classes) (t : Tree) (e : Edit) (u : Tree) → edited classes t e ≡ Ok u → IsAllowed classes t e
 allowed classes t e u is =
     let made = accepted classes t e u is in
-    record { component = made.component; fit = made.fit; index = made.index; empty = made.free; removable = made.removable; outside = made.outside }
+    record { component = made.component; fit = made.fit; index = made.index; empty = made.free; loose = made.loose; removable = made.removable; outside = made.outside }
 
 -- what a cell was before its numbers were taken for classes
 module _ (f : ℕ → ℕ) where

@@ -70,7 +70,7 @@ module _ (classes : Classes) (f : ℕ → ℕ) (s : Tree) (ok : conforms classes
     pub taken_is : taken_out s node ≡ mid
     taken_is = ap (λ (o : Option (Node × Way)). elim o as (λ _. Tree) [ None ↦ s | Some p ↦ with_node (with_cell (without_child p.1.1) p.1.0) s p.0 ]) move.above
 
-    pub mid_classes : relabel f mid ≡ between classes (relabel f s) ok node to part index move.moved move.found p move.above move.listed q move.goes made.component made.fit made.index
+    pub mid_classes : relabel f mid ≡ between classes (relabel f s) ok node to part index made.loose move.moved move.found p move.above move.listed q move.goes made.component made.fit made.index
     mid_classes = ap (relabel f) (sym taken_is) ∙ relabelled-left f s (Drop node)
         ∙ ap (λ (o : Option (Node × Way)). elim o as (λ _. Tree) [
           | None ↦ relabel f s
@@ -79,21 +79,23 @@ module _ (classes : Classes) (f : ℕ → ℕ) (s : Tree) (ok : conforms classes
         ]) move.above
 
     mid_goes : Goes classes f s ok apart (moved_under p.0 (past_drop p.1)) mid (λ k. None)
-    mid_goes = drop_goes classes f s ok apart p (plain classes (relabel f s) ok node to part index move.moved move.found p move.above move.listed q move.goes made.component made.fit made.index)
+    mid_goes = drop_goes classes f s ok apart p
+        (plain classes (relabel f s) ok node to part index made.loose move.moved move.found p move.above move.listed q move.goes made.component made.fit made.index)
 
     mid_ok : conforms classes (relabel f mid) 0 ≡ true
-    mid_ok = ap (λ z. conforms classes z 0) mid_classes ∙ ok1 classes (relabel f s) ok node to part index move.moved move.found p move.above move.listed q move.goes made.component made.fit made.index
+    mid_ok = ap (λ z. conforms classes z 0) mid_classes ∙ ok1 classes (relabel f s) ok
+        node to part index made.loose move.moved move.found p move.above move.listed q move.goes made.component made.fit made.index
 
     pub mid_has : has_component classes (relabel f mid) (Insert q part index x) ≡ true
-    mid_has = ap (λ z. has_component classes z (Insert q part index x)) mid_classes ∙ has1 classes (relabel f s) ok node
-        to part index move.moved move.found p move.above move.listed q move.goes made.component made.fit made.index
+    mid_has = ap (λ z. has_component classes z (Insert q part index x)) mid_classes ∙ has1 classes (relabel f s) ok
+        node to part index made.loose move.moved move.found p move.above move.listed q move.goes made.component made.fit made.index
 
     mid_range : is_in_range (relabel f mid) (Insert q part index x) ≡ true
-    mid_range = ap (λ z. is_in_range z (Insert q part index x)) mid_classes ∙ range1 classes (relabel f s) ok node to
-        part index move.moved move.found p move.above move.listed q move.goes made.component made.fit made.index
+    mid_range = ap (λ z. is_in_range z (Insert q part index x)) mid_classes ∙ range1 classes (relabel f s) ok
+        node to part index made.loose move.moved move.found p move.above move.listed q move.goes made.component made.fit made.index
 
     taking : (n : Node) → past_taking node n ≡ moved_under p.0 (past_drop p.1) n
-    taking = taking_is classes (relabel f s) ok node to part index move.moved move.found p move.above move.listed q move.goes made.component made.fit made.index
+    taking = taking_is classes (relabel f s) ok node to part index made.loose move.moved move.found p move.above move.listed q move.goes made.component made.fit made.index
 
     fresh : IsFreshTree mid x
     fresh = (subtree_apart s node x apart moved_numbers.1, λ k m is. out k m is (path_in k s) refl)

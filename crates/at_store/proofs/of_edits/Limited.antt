@@ -106,11 +106,11 @@ module _ (classes : Classes) (limit : ℕ) (slab : Slab Entry) (s : Tree) (h : I
       within n part (tree_view tree) (relabel (class_in (memory_of slab)) u) (there n u is) allowed
   bounded (Drop node) n m p q allowed =
       let (u, is, number) = number_found s node n p in
-      drop_room classes shown h.conforming most within n (relabel (class_in (memory_of slab)) u) (there n u is) allowed
+      drop_room classes shown h.conforming most within n (relabel (class_in (memory_of slab)) u) (there n u is) allowed.removable
   bounded (Insert node part index tree) n m p q allowed =
       let (u, is, number) = number_found s node n p in
       (λ i. room most (count_is i) (suc (level node n p i)) (tree_view tree)) ∙ insert_room classes shown h.conforming
-      most within n part index (tree_view tree) (relabel (class_in (memory_of slab)) u) (there n u is) allowed
+      most within n part index (tree_view tree) (relabel (class_in (memory_of slab)) u) (there n u is) allowed.component allowed.index
   bounded (Token node part value) n m p q allowed =
       let (u, is, number) = number_found s node n p in
       token_room classes shown h.conforming most within n part (token_view value) (relabel (class_in (memory_of slab)) u) (there n u is) allowed

@@ -12,7 +12,7 @@ use Rattle.at_model.proofs.of_edits.Conforming.{wanted, lives}
 use Rattle.at_model.proofs.of_edits.Surviving.{parent_is}
 use Rattle.at_model.proofs.of_edits.Untouching.{list_cell, component_there}
 use Rattle.at_model.proofs.of_edits.Edited.{is_move}
-use Rattle.at_model.proofs.of_edits.Moved.{between, left_is, ok1, has1, fit1, range1, taking_is, plain}
+use Rattle.at_model.proofs.of_edits.Moved.{between, left_is, ok1, has1, range1, taking_is, plain}
 use Rattle.at_store.specs.Refusing.{IsAllowed}
 use Rattle.at_store.proofs.Counts.{of_cell, count_drop}
 use Rattle.at_store.proofs.Depths.{moved_length, one_at_least}
@@ -48,13 +48,12 @@ module _ (classes : Classes) (t : Tree) (ok : conforms classes t 0 ≡ true) (mo
       let move = is_move classes t n m part index allowed.fit allowed.removable allowed.outside in
       let p = move.place in
       let q = move.target in
-      let mid = between classes t ok n m part index u found p move.above move.listed q move.goes allowed.component allowed.fit allowed.index in
-      let left = left_is classes t ok n m part index u found p move.above move.listed q move.goes allowed.component allowed.fit allowed.index in
-      let ok' = ok1 classes t ok n m part index u found p move.above move.listed q move.goes allowed.component allowed.fit allowed.index in
-      let has' = has1 classes t ok n m part index u found p move.above move.listed q move.goes allowed.component allowed.fit allowed.index in
-      let fit' = fit1 classes t ok n m part index u found p move.above move.listed q move.goes allowed.component allowed.fit allowed.index in
-      let range' = range1 classes t ok n m part index u found p move.above move.listed q move.goes allowed.component allowed.fit allowed.index in
-      let taking = taking_is classes t ok n m part index u found p move.above move.listed q move.goes allowed.component allowed.fit allowed.index in
+      let mid = between classes t ok n m part index allowed.loose u found p move.above move.listed q move.goes allowed.component allowed.fit allowed.index in
+      let left = left_is classes t ok n m part index allowed.loose u found p move.above move.listed q move.goes allowed.component allowed.fit allowed.index in
+      let ok' = ok1 classes t ok n m part index allowed.loose u found p move.above move.listed q move.goes allowed.component allowed.fit allowed.index in
+      let has' = has1 classes t ok n m part index allowed.loose u found p move.above move.listed q move.goes allowed.component allowed.fit allowed.index in
+      let range' = range1 classes t ok n m part index allowed.loose u found p move.above move.listed q move.goes allowed.component allowed.fit allowed.index in
+      let taking = taking_is classes t ok n m part index allowed.loose u found p move.above move.listed q move.goes allowed.component allowed.fit allowed.index in
       let taken : left_by t (Drop n) ≡ mid = ap (λ (o : Option (Node × (ℕ × ℕ))). elim o as (λ _. Tree) [ None ↦ t | Some p ↦ with_node (with_cell (without_child p.1.1) p.1.0) t p.0 ]) move.above in
       let (x, there, child) = above_there t p.0 p.1 u (sym (ap (tree_at t) (parent_is n p move.above)) ∙ found) in
       let (c, here, in_it) = of_cell (cell_at x p.1.0) p.1.1 u child in
@@ -64,18 +63,11 @@ module _ (classes : Classes) (t : Tree) (ok : conforms classes t 0 ≡ true) (mo
       let count : nodes (left_by t (Drop n)) + nodes u ≡ nodes t = count_drop t n p.0 p.1 x u c move.above found there here not_one in
       let few = leb-true (nodes t) most (both _ _ (both _ _ within).0).0 in
       let within' : in_bounds most mid ≡ true = sym (ap (in_bounds most) taken)
-      ∙ sym (drop_room classes t ok most within n u found (record {
-        component = refl;
-        fit = refl;
-        index = refl;
-        empty = refl;
-        removable = drop_plain n p move.above (plain classes t ok n m part index u found p move.above
-            move.listed q move.goes allowed.component allowed.fit allowed.index);
-        outside = refl;
-      })) in
+      ∙ sym (drop_room classes t ok most within n u found (drop_plain n p move.above (plain classes t ok n m part index allowed.loose u found p move.above
+      move.listed q move.goes allowed.component allowed.fit allowed.index))) in
       let (shape', sees) = wanted classes list_class (shape_at classes mid q part) has' in
       let (w, at_q) = lives classes mid q part shape' sees in
-      let room' = insert_room classes mid ok' most within' q part index u w at_q (record { component = has'; fit = fit'; index = range'; empty = refl; removable = refl; outside = refl }) in
+      let room' = insert_room classes mid ok' most within' q part index u w at_q has' range' in
       let long : length q ≡ length m = moved_length _ p.0 m q (sym (taking m) ∙ move.goes) in
       let fewer : nat_le (nodes mid + nodes u) most ≡ true = true_le (nodes mid + nodes u) most (subst (λ (z : Tree). nodes z + nodes u ≤ most) taken (omega (arith, count, few))) in
       levels_left (depth u) (length m) max_depth (one_at_least u) ∙ ap (λ l. nat_le (suc l + depth u) max_depth) (sym long) ∙

@@ -9,8 +9,9 @@ use Rattle.at_model.specs.Terms.{max_depth}
 use Rattle.at_model.specs.Trees.{Tree, Cells, Cell, Trees, Node as branch, no_cells, cell, One, Many, Empty, Filled, Holds, class_of, children, from_cells, from_trees, nodes, depth, conforms, cells_conform, cell_conforms}
 use Rattle.at_model.specs.Trees as trees
 use Rattle.at_model.specs.Paths.{Node, tree_at, cell_at, children_at, parent_of}
-use Rattle.at_model.specs.Edits.{Set, Put, Drop, Insert, Token, shape_at, plain_class, list_class, optional_class, token_kind, is_plain, children_of, with_cell, with_node, without_child, left_by, tokens_short, is_short}
+use Rattle.at_model.specs.Edits.{Set, Put, Drop, Insert, Token, shape_at, plain_class, list_class, optional_class, token_kind, has_component, is_in_range, is_plain, is_removable, children_of, with_cell, with_node, without_child, left_by, tokens_short, is_short}
 use Rattle.at_model.proofs.Complete.{conforms_at}
+use Rattle.at_model.proofs.ConformingParts.{conforming_parts}
 use Rattle.at_model.proofs.Options.{both}
 use Rattle.at_model.proofs.of_edits.Surviving.{parent_is}
 use Rattle.at_model.proofs.of_edits.Untouching.{shape_there, list_cell, plain_cell, selected, not_false}
@@ -107,7 +108,7 @@ module _ (classes : Classes) (t : Tree) (ok : conforms classes t 0 ≡ true) (mo
           let g : false ≡ true = sym (ap (λ (o : Option Component). is_some (option_and_then select (option_map (λ p. p.shape) o))) e) ∙ f in absurd cc
       by_part (Some q) e =
           let (b, conf) = conforms_at classes t 0 n (branch k cells) ok found in
-          let (c, here) = some_cell classes cells (parts classes k) part q (both _ _ conf).1 e in
+          let (c, here) = some_cell classes cells (parts classes k) part q (conforming_parts classes k cells b conf).1 e in
           let (shape, sees, fits) = shape_there classes t n part (branch k cells) c ok found here in
           (c, shape, here, selected select (shape_at classes t n part) true shape sees has, fits)
 
@@ -128,14 +129,14 @@ module _ (classes : Classes) (t : Tree) (ok : conforms classes t 0 ≡ true) (mo
       (at_cell (λ c. Filled x) part t n u Empty short found there).0
 
   pub insert_room : (n : Node) (part index : ℕ) (x u : Tree) → tree_at t n ≡ Some u →
-      IsAllowed classes t (Insert n part index x) →
+      has_component classes t (Insert n part index x) ≡ true → is_in_range t (Insert n part index x) ≡ true →
       room most (nodes t) (suc (length n)) x ≡ in_bounds most (left_by t (Insert n part index x))
-  insert_room n part index x u found allowed =
-      let (c, shape, here, some, conf) = held list_class n part u allowed.component found in
+  insert_room n part index x u found has range =
+      let (c, shape, here, some, conf) = held list_class n part u has found in
       let (ts, many) = list_cell classes c shape some conf in
       let there : cell_at u part ≡ Some (Many ts) = here ∙ ap Some many in
       let count : length (children_of t n part) ≡ length (from_trees ts) = ap length (children_are n part u (Many ts) found there) in
-      let bounded : index ≤ length (children_of t n part) = leb-true index (length (children_of t n part)) allowed.index in
+      let bounded : index ≤ length (children_of t n part) = leb-true index (length (children_of t n part)) range in
       let bound : index ≤ length (from_trees ts) = omega arith in
       same_room most (left_by t (Insert n part index x)) x (nodes t) (suc (length n)) (count_insert t x n part index u
       ts found there bound) (depth_insert max_depth t low x u n part index ts found there bound)
@@ -152,9 +153,9 @@ module _ (classes : Classes) (t : Tree) (ok : conforms classes t 0 ≡ true) (mo
       let tokens = (at_cell (λ c. Holds v) part t n u (Holds old) short found there).0 in
       λ i. sym count i && sym deep i && sym tokens i
 
-  pub drop_room : (n : Node) (x : Tree) → tree_at t n ≡ Some x → IsAllowed classes t (Drop n) →
+  pub drop_room : (n : Node) (x : Tree) → tree_at t n ≡ Some x → is_removable classes t (Drop n) ≡ true →
       true ≡ in_bounds most (left_by t (Drop n))
-  drop_room n x found allowed = by_parent (parent_of n) refl (not_false (is_plain classes t n) allowed.removable)
+  drop_room n x found removable = by_parent (parent_of n) refl (not_false (is_plain classes t n) removable)
     where
       by_parent : (o : Option (Node × (ℕ × ℕ))) → parent_of n ≡ o →
           elim o as (λ _. Bool) [ None ↦ true | Some p ↦ is_some (option_and_then plain_class (shape_at classes t p.0 p.1.0)) ] ≡ false →
