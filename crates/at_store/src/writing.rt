@@ -1,14 +1,17 @@
-//! The text of the tree below a node, written as the nodes are gone over.
-ghost use Rattle.std.specs.Prelude.{◌≡◌, ◌++◌, OnErr, OnOk, length, map, take};
+//! The text of the tree below a node, written as the nodes are gone over; what is fixed is left out.
+ghost use Rattle.std.specs.Prelude.{◌≡◌, ◌++◌, OnErr, OnOk, is_some, length, map, option_and_then, take};
+ghost use Rattle.std.specs.List.{slice_get};
 ghost use Rattle.at_model.specs.Terms.{cell_of, cell_text, tree_text};
 ghost use Rattle.at_model.specs.Trees.{Many, to_trees};
+ghost use Rattle.at_class.specs.View.{part_view};
 ghost use Rattle.at_store.specs.Grown.{grown_cell, shown_below};
 ghost use Rattle.at_store.specs.Memory.{Kids, Optional};
 ghost use Rattle.at_store.specs.View.{form_view, kept_view, memory_of};
 
 use crate::entry::{Entry, Form, Slot, class_at, slots_at};
 use crate::node::Node;
-use at_class::ClassTable;
+use crate::walks::{part_in, parts_of};
+use at_class::{ClassTable, Part};
 use at_tree::tree::writing::{append_value, open, separate};
 use slab::Slab;
 use std::alloc::AllocError;
@@ -32,6 +35,16 @@ pub(crate) fn write_tree(
     written
 }
 
+/// Whether the component at that position is fixed.
+fn is_fixed_among(parts: &[Part], position: usize) -> bool
+    ensures { result ≡ is_some (option_and_then (λ p. p.fixed) (slice_get (map part_view parts.now) position)) }
+{
+    match part_in(parts, position) {
+        Some(part) => part.fixed.is_some(),
+        None => false,
+    }
+}
+
 /// Appends the text. Where memory is wanting, it may have appended a part of it.
 #[cycle(append)]
 fn append_tree(
@@ -44,13 +57,20 @@ fn append_tree(
     ensures ok { OnOk result (out.new.items ≡ out.old.items ++ tree_text classes.now (shown_below (memory_of slab.now) levels node)) }
     ensures err { OnErr result (take (length out.old.items) out.new.items ≡ out.old.items) }
 {
-    open(classes, class_at(slab, node), out)?;
+    let class = class_at(slab, node);
+    open(classes, class, out)?;
     if levels == 0 {
         return Ok(out.push(b')')?);
     }
+    let parts = parts_of(classes, class);
+    let mut count = 0;
     for (i, slot) in slots_at(slab, node).iter().enumerate() {
-        separate(i, out)?;
+        if is_fixed_among(parts, i) {
+            continue;
+        }
+        separate(count, out)?;
         append_slot(slab, classes, slot, levels - 1, out)?;
+        count += 1;
     }
     Ok(out.push(b')')?)
 }

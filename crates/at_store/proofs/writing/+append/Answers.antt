@@ -1,13 +1,16 @@
-use Rattle.std.proofs.Common.{◌++◌, ◌-◌, [], ◌∷◌, ◌∙◌, ap, sym, arith, append_assoc}
+use Rattle.std.proofs.Common.{◌≡◌, ◌++◌, ◌+◌, ◌-◌, [], ◌∷◌, ◌∙◌, true, false, ap, sym, arith, append_assoc, append-nil, length, map, take}
+use Rattle.std.proofs.lemmas.List.{length-append}
 use Rattle.std.proofs.lemmas.Result.{err_from_is_err_and}
-use Rattle.at_model.specs.Classes.{name_of}
-use Rattle.at_model.specs.Terms.{tree_text}
+use Rattle.at_model.specs.Classes.{name_of, parts}
+use Rattle.at_model.specs.Terms.{tree_text, with_commas}
+use Rattle.at_class.specs.View.{part_view}
 use Rattle.at_tree.specs.Separated.{separator}
 use Rattle.at_tree.proofs.TreeTexts.{commas-more, stays, one_more, one_sep, closed}
 use Rattle.at_store.specs.Grown.{shown_below}
 use Rattle.at_store.specs.Memory.{class_in}
 use Rattle.at_store.specs.View.{memory_of}
-use Rattle.at_store.proofs.TextsBelow.{list_text, number_text, numbers_so_far, slot_text, slots_so_far, text_above, text_at_no_level}
+use Rattle.at_store.proofs.TextsBelow.{list_text, no_slot, number_text, numbers_so_far, one_more_slot, slot_text, slots_so_far, text_above, text_at_no_level}
+use Rattle.at_store.proofs.Unfixed.{fixed_among, next_fixed, next_free, unfixed, unfixed_none}
 use Rattle.at_store.proofs.writing.+append.Goals as goal
 
 pub append_list-returns-in_err-separate-clause-err : goal.append_list-returns-in_err-separate-clause-err
@@ -41,44 +44,85 @@ append_tree-returns-then-levels-eq0-clause-ok t c =
     let memory = memory_of c.args.slab.now in
     let classes = c.args.classes.now in
     let name = name_of classes (class_in memory c.args.node) in
-    let opened = c.in_ok-open.ensures.ok ∙ ap (λ k. c.args.out.now.items ++ (name_of classes k ++ 40 ∷ [])) c.class_at.ensures in
+    let opened = c.in_ok-open.ensures.ok ∙ ap (λ k. c.args.out.now.items ++ (name_of classes k ++ 40 ∷ [])) c.class_at-class.ensures in
     c.in_ok-push.ensures.items ∙ ap (λ ys. ys ++ 41 ∷ []) opened ∙ append_assoc c.args.out.now.items (name ++ 40 ∷ []) (41 ∷ [])
     ∙ ap (λ ys. c.args.out.now.items ++ ys) (append_assoc name (40 ∷ []) (41 ∷ []) ∙ sym (ap (λ n. tree_text classes
     (shown_below memory n c.args.node)) c.if-levels-eq0.true ∙ text_at_no_level classes memory c.args.node))
 
+pub append_tree-loop-i-init : goal.append_tree-loop-i-init
+append_tree-loop-i-init t c =
+    let memory = memory_of c.args.slab.now in
+    let classes = c.args.classes.now in
+    let ps = parts classes (class_in memory c.args.node) in
+    let name = name_of classes (class_in memory c.args.node) in
+    let none = no_slot classes (shown_below memory (c.args.levels - 1)) ps c.slots_at-slot-items.result.now in (
+      c.in_ok-open.ensures.ok ∙ ap (λ k. c.args.out.now.items ++ (name_of classes k ++ 40 ∷ [])) c.class_at-class.ensures
+          ∙ ap (λ ys. c.args.out.now.items ++ ys) (sym (append-nil (name ++ 40 ∷ [])) ∙ ap (λ ys. (name ++ 40 ∷ []) ++ ys) (sym none)),
+      sym (ap length (unfixed_none ps)),
+      omega arith,
+    )
+
 pub append_tree-returns-in_err-separate-clause-err : goal.append_tree-returns-in_err-separate-clause-err
 append_tree-returns-in_err-separate-clause-err t c =
     let p = err_from_is_err_and c.from_residual-in_err-separate.result c.from_residual-in_err-separate.ensures.1 in
-    rw p.1 (stays _ _ _ _ c.loop-i.invariant c.in_err-separate.ensures.err)
+    rw p.1 (stays _ _ _ _ c.loop-i.invariant.0 c.in_err-separate.ensures.err)
 
 pub append_tree-returns-in_err-append_slot-clause-err : goal.append_tree-returns-in_err-append_slot-clause-err
 append_tree-returns-in_err-append_slot-clause-err t c =
     let p = err_from_is_err_and c.from_residual-in_err-append_slot.result c.from_residual-in_err-append_slot.ensures.1 in
     let memory = memory_of c.args.slab.now in
     let classes = c.args.classes.now in
+    let ps = parts classes (class_in memory c.args.node) in
     rw p.1 (stays _ _ _ _ (one_sep _ (name_of classes (class_in memory c.args.node) ++ 40 ∷ [])
-    (slots_so_far classes (shown_below memory (c.args.levels - 1)) c.slots_at-slot-items.result.now c.loop-i.i)
-    _ _ _ c.loop-i.invariant c.in_ok-separate.ensures.ok) c.in_err-append_slot.ensures.err)
+    (slots_so_far classes (shown_below memory (c.args.levels - 1)) ps c.slots_at-slot-items.result.now c.loop-i.i)
+    _ _ _ c.loop-i.invariant.0 c.in_ok-separate.ensures.ok) c.in_err-append_slot.ensures.err)
+
+pub append_tree-loop-i-preserved-then-is_fixed_among : goal.append_tree-loop-i-preserved-then-is_fixed_among
+append_tree-loop-i-preserved-then-is_fixed_among t c =
+    let memory = memory_of c.args.slab.now in
+    let classes = c.args.classes.now in
+    let ps = parts classes (class_in memory c.args.node) in
+    let name = name_of classes (class_in memory c.args.node) in
+    let deeper = shown_below memory (c.args.levels - 1) in
+    let xs = c.slots_at-slot-items.result.now in
+    let known : map part_view c.parts_of-parts.result.now ≡ ps = c.parts_of-parts.ensures ∙ ap (parts classes) c.class_at-class.ensures in
+    let here : fixed_among ps c.loop-i.i ≡ true = ap (λ qs. fixed_among qs c.loop-i.i) (sym known) ∙ sym c.is_fixed_among.ensures ∙ c.if-is_fixed_among.true in
+    let same = next_fixed ps xs c.loop-i.i c.slot-item.result (omega arith) c.slot-item.is here in (
+      c.loop-i.invariant.0 ∙ ap (λ ys. c.args.out.now.items ++ ((name ++ 40 ∷ []) ++ with_commas (map (slot_text classes deeper) ys))) (sym same),
+      c.loop-i.invariant.1 ∙ ap length (sym same),
+      omega (arith, c.loop-i.invariant.2),
+    )
 
 pub append_tree-loop-i-preserved : goal.append_tree-loop-i-preserved
 append_tree-loop-i-preserved t c =
     let memory = memory_of c.args.slab.now in
     let classes = c.args.classes.now in
+    let ps = parts classes (class_in memory c.args.node) in
     let deeper = shown_below memory (c.args.levels - 1) in
     let text = slot_text classes deeper in
     let xs = c.slots_at-slot-items.result.now in
-    let next = commas-more text xs c.loop-i.i c.slot-item.result (omega arith) c.slot-item.is in
-    one_more _ (name_of classes (class_in memory c.args.node) ++ 40 ∷ []) (slots_so_far classes deeper xs c.loop-i.i)
-    (separator c.loop-i.i) (text c.slot-item.result) c.loop-i.out.items c.separate.new.out.items _ _
-    c.loop-i.invariant c.in_ok-separate.ensures.ok c.in_ok-append_slot.ensures.ok next
+    let known : map part_view c.parts_of-parts.result.now ≡ ps = c.parts_of-parts.ensures ∙ ap (parts classes) c.class_at-class.ensures in
+    let here : fixed_among ps c.loop-i.i ≡ false = ap (λ qs. fixed_among qs c.loop-i.i) (sym known) ∙ sym c.is_fixed_among.ensures ∙ c.if-is_fixed_among.false in
+    let more = next_free ps xs c.loop-i.i c.slot-item.result (omega arith) c.slot-item.is here in
+    let long : length (unfixed ps (take (c.loop-i.i + 1) xs)) ≡ length (unfixed ps (take c.loop-i.i xs)) + 1 =
+    ap length more ∙ length-append (unfixed ps (take c.loop-i.i xs)) (c.slot-item.result ∷ []) in
+    let next = one_more_slot classes deeper ps xs c.loop-i.i c.slot-item.result (omega arith) c.slot-item.is here in
+    let sep = c.in_ok-separate.ensures.ok ∙ ap (λ n. c.loop-i.out.items ++ separator n) c.loop-i.invariant.1 in (
+      one_more _ (name_of classes (class_in memory c.args.node) ++ 40 ∷ []) (slots_so_far classes deeper ps xs c.loop-i.i)
+          (separator (length (unfixed ps (take c.loop-i.i xs)))) (text c.slot-item.result) c.loop-i.out.items c.separate.new.out.items _ _
+          c.loop-i.invariant.0 sep c.in_ok-append_slot.ensures.ok next,
+      omega (arith, long, c.loop-i.invariant.1),
+      omega (arith, c.loop-i.invariant.2),
+    )
 
 pub append_tree-returns-clause-ok : goal.append_tree-returns-clause-ok
 append_tree-returns-clause-ok t c =
     let memory = memory_of c.args.slab.now in
     let classes = c.args.classes.now in
     let name = name_of classes (class_in memory c.args.node) in
-    let so_far = slots_so_far classes (shown_below memory (c.args.levels - 1)) c.slots_at-slot-items.result.now c.loop-i.i in
-    closed _ (name ++ 40 ∷ []) so_far c.loop-i.out.items _ (41 ∷ []) c.loop-i.invariant c.in_ok-push-2.ensures.items
+    let ps = parts classes (class_in memory c.args.node) in
+    let so_far = slots_so_far classes (shown_below memory (c.args.levels - 1)) ps c.slots_at-slot-items.result.now c.loop-i.i in
+    closed _ (name ++ 40 ∷ []) so_far c.loop-i.out.items _ (41 ∷ []) c.loop-i.invariant.0 c.in_ok-push-2.ensures.items
     ∙ ap (λ ys. c.args.out.now.items ++ ys) (append_assoc name (40 ∷ []) (so_far ++ 41 ∷ [])
     ∙ sym (text_above classes memory c.args.levels c.args.node c.slots_at-slot-items.result.now c.loop-i.i
     (omega (arith, c.if-levels-eq0.false)) c.loop-i-test.false c.slots_at-slot-items.ensures))
