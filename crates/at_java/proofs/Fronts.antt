@@ -35,16 +35,10 @@ unfolding laziness
 final_taken lazy row at rest r = ap (laziness lazy) r
 
 pub lazy_ends : (lazy : Option Place) (row : Row) → next_is (is_word (codes "lazy")) row ≡ false → next_is (is_word (codes "final")) row ≡ false
-    → next_is (is_word (codes "nta")) row ≡ false → laziness lazy row ≡ got lazy row
+    → laziness lazy row ≡ got lazy row
 unfolding laziness
-lazy_ends lazy [] l f n = refl
-lazy_ends lazy (t ∷ ts) l f n = cond_false _ _ _ l ∙ cond_false _ _ _ f ∙ cond_false _ _ _ n
-
-pub nta_left_out : (lazy : Option Place) (row : Row) → next_is (is_word (codes "lazy")) row ≡ false → next_is (is_word (codes "final")) row ≡ false
-    → next_is (is_word (codes "nta")) row ≡ true → laziness lazy row ≡ fails (here LeftOut row)
-unfolding laziness
-nta_left_out lazy [] l f n = absurd cc
-nta_left_out lazy (t ∷ ts) l f n = cond_false _ _ _ l ∙ cond_false _ _ _ f ∙ cond_true _ _ _ n
+lazy_ends lazy [] l f = refl
+lazy_ends lazy (t ∷ ts) l f = cond_false _ _ _ l ∙ cond_false _ _ _ f
 
 -- ---- modifiers
 

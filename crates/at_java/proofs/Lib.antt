@@ -6,7 +6,11 @@ mod Steps
 pub mod Nexts
 pub mod ItemLists
 pub mod ParamLists
+mod ElementLists
+mod Computed
+mod Integers
 pub mod AspectLists
+pub mod DeclarationLists
 pub mod Nestings
 pub mod Fronts
 pub mod Methods

@@ -94,15 +94,15 @@ map_fails (For (Here code)) rest f read e = ap (map_read f) e
 map_fails (For (At code at)) rest f read e = ap (map_read f) e
 map_fails Memory rest f read e = e
 
-one_in_front : {A : Type 0} (front : List A) (a : A) (read : Read (List A)) → in_front front (map_read (λ xs. a ∷ xs) read) ≡ in_front (front ++ a ∷ []) read
+pub one_in_front : {A : Type 0} (front : List A) (a : A) (read : Read (List A)) → in_front front (map_read (λ xs. a ∷ xs) read) ≡ in_front (front ++ a ∷ []) read
 one_in_front front a (got xs rest) = ap (λ l. got l rest) (sym (append_assoc front (a ∷ []) xs))
 one_in_front front a (fails f) = refl
 
-abbrev items_on : (Row → Read Expr) → ℕ → Expr → Row → Read (List Expr)
+abbrev items_on : {A : Type 0} → (Row → Read A) → ℕ → A → Row → Read (List A)
 items_on expression n e rest = map_read (λ es. e ∷ es) (more_items (λ next. items expression n next) rest)
 
 -- behind an item stands a comma
-pub one_item : (expression : Row → Read Expr) (n : ℕ) (front : List Expr) (e : Expr) (at : Place) (row rest next : Row) → (n ≡ 0 → ⊥) → expression row ≡ got e rest
+pub one_item : {A : Type 0} (expression : Row → Read A) (n : ℕ) (front : List A) (e : A) (at : Place) (row rest next : Row) → (n ≡ 0 → ⊥) → expression row ≡ got e rest
     → sign_next (codes ")") rest ≡ None → sign_here (codes ",") rest ≡ got at next
     → in_front front (items expression n row) ≡ in_front (front ++ e ∷ []) (items expression (n - 1) next)
 one_item expression zero front e at row rest next some read end comma = absurd (some refl)
@@ -114,20 +114,20 @@ one_item expression (suc n) front e at row rest next some read end comma =
     ∙ ap (λ k. in_front (front ++ e ∷ []) (items expression k next)) (sym (less n))
 
 -- behind the last item the parenthesis closes
-pub last_item : (expression : Row → Read Expr) (n : ℕ) (front : List Expr) (e : Expr) (at : Place) (row rest next : Row) → (n ≡ 0 → ⊥) → expression row ≡ got e rest
+pub last_item : {A : Type 0} (expression : Row → Read A) (n : ℕ) (front : List A) (e : A) (at : Place) (row rest next : Row) → (n ≡ 0 → ⊥) → expression row ≡ got e rest
     → sign_next (codes ")") rest ≡ Some (at, next) → in_front front (items expression n row) ≡ got (front ++ e ∷ []) next
 last_item expression zero front e at row rest next some read end = absurd (some refl)
 last_item expression (suc n) front e at row rest next some read end =
     ap (λ q. in_front front (then_read q (items_on expression n))) read
     ∙ ap (λ o. in_front front (map_read (λ es. e ∷ es) (if_next o (λ end rest. got [] rest) (then_read (sign_here (codes ",") rest) (λ at rest. items expression n rest))))) end
 
-pub item_fails : (x : Failure Breach) (expression : Row → Read Expr) (n : ℕ) (front : List Expr) (row next : Row) → (n ≡ 0 → ⊥) → Fails x next (expression row)
+pub item_fails : {A : Type 0} (x : Failure Breach) (expression : Row → Read A) (n : ℕ) (front : List A) (row next : Row) → (n ≡ 0 → ⊥) → Fails x next (expression row)
     → Fails x next (in_front front (items expression n row))
 item_fails x expression zero front row next some f = absurd (some refl)
 item_fails x expression (suc n) front row next some f =
     map_fails x next (λ more. front ++ more) (items expression (suc n) row) (then_fails x next (expression row) (items_on expression n) f)
 
-pub comma_fails : (x : Failure Breach) (expression : Row → Read Expr) (n : ℕ) (front : List Expr) (e : Expr) (row rest next : Row) → (n ≡ 0 → ⊥)
+pub comma_fails : {A : Type 0} (x : Failure Breach) (expression : Row → Read A) (n : ℕ) (front : List A) (e : A) (row rest next : Row) → (n ≡ 0 → ⊥)
     → expression row ≡ got e rest → sign_next (codes ")") rest ≡ None → Fails x next (sign_here (codes ",") rest) → Fails x next (in_front front (items expression n row))
 comma_fails x expression zero front e row rest next some read end f = absurd (some refl)
 comma_fails x expression (suc n) front e row rest next some read end f =
@@ -138,11 +138,11 @@ comma_fails x expression (suc n) front e row rest next some read end f =
     (ap (λ o. if_next o (λ end rest. got [] rest) (then_read (sign_here (codes ",") rest) (λ at rest. items expression n rest))) end)
     (then_fails x next (sign_here (codes ",") rest) (λ at rest. items expression n rest) f))))
 
-pub first_items : (expression : Row → Read Expr) (most n : ℕ) (front : List Expr) (row : Row) → most ≡ n → front ≡ []
+pub first_items : {A : Type 0} (expression : Row → Read A) (most n : ℕ) (front : List A) (row : Row) → most ≡ n → front ≡ []
     → items expression most row ≡ in_front front (items expression n row)
 first_items expression most n front row limit none =
     ap (λ k. items expression k row) limit ∙ sym (none_in_front (items expression n row)) ∙ ap (λ l. in_front l (items expression n row)) (sym none)
 
-pub too_many_items : (expression : Row → Read Expr) (n : ℕ) (front : List Expr) (row : Row) → n ≡ 0 → in_front front (items expression n row) ≡ fails (here Limit row)
+pub too_many_items : {A : Type 0} (expression : Row → Read A) (n : ℕ) (front : List A) (row : Row) → n ≡ 0 → in_front front (items expression n row) ≡ fails (here Limit row)
 too_many_items expression zero front row none = refl
 too_many_items expression (suc n) front row none = absurd cc

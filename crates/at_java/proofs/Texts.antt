@@ -8,11 +8,10 @@ use Rattle.at_text.specs.declared.scan.ScanFault.{ScanFault}
 use Rattle.at_text.specs.declared.scan.ScanFault.TheVariants as scan
 use Rattle.at_text.specs.declared.fault.Fault.{Fault}
 use Rattle.at_text.specs.declared.fault.Fault.TheVariants.{Refused, Memory}
-use Rattle.at_jrag.specs.Syntax.{Aspect}
 use Rattle.at_java.specs.declared.JavaCode.{JavaCode}
 use Rattle.at_java.specs.Read.{Read, got}
 use Rattle.at_java.specs.Aliases.{Alias, resolved_row}
-use Rattle.at_java.specs.Files.{aspects_in, aspects_of, uncut, IsFaultOf, Holds, IsFault}
+use Rattle.at_java.specs.Files.{Contents, contents_in, contents_of, uncut, IsFaultOf, Holds, IsFault}
 use Rattle.at_text.proofs.TextTokens.{one_row}
 
 -- what is read of tokens that were written over is their row as it is meant
@@ -22,20 +21,20 @@ read_as_meant names is means same = ap left is ∙ means ∙ ap (λ ts. resolved
 
 -- the row that was read is that of the text, with the names as they are read
 module _ (names : List Alias) (text : List ℕ) (ts row : Row) (has : HasTokens text ts) (is : row ≡ resolved_row names ts) where
-  pub held : (rest : Row) (aspects : List Aspect) → aspects_in row ≡ got aspects rest → rest ≡ [] → Holds names text aspects
-  held rest aspects found end = record { tokens = ts; cut = has; is = ap aspects_in (sym is) ∙ found ∙ ap (got aspects) end }
+  pub held : (rest : Row) (contents : Contents) → contents_in row ≡ got contents rest → rest ≡ [] → Holds names text contents
+  held rest contents found end = record { tokens = ts; cut = has; is = ap contents_in (sym is) ∙ found ∙ ap (got contents) end }
 
-  pub held_only : (us rest : Row) (aspects : List Aspect) → HasTokens text us → aspects_in row ≡ got aspects rest → rest ≡ []
-      → aspects_of names us ≡ got aspects []
-  held_only us rest aspects k found end =
-      ap (aspects_of names) (one_row text us ts k has) ∙ ap aspects_in (sym is) ∙ found ∙ ap (got aspects) end
+  pub held_only : (us rest : Row) (contents : Contents) → HasTokens text us → contents_in row ≡ got contents rest → rest ≡ []
+      → contents_of names us ≡ got contents []
+  held_only us rest contents k found end =
+      ap (contents_of names) (one_row text us ts k has) ∙ ap contents_in (sym is) ∙ found ∙ ap (got contents) end
 
-  pub fault_only : (us : Row) (e : Fault JavaCode) → HasTokens text us → IsFaultOf text (aspects_in row) e → IsFaultOf text (aspects_of names us) e
+  pub fault_only : (us : Row) (e : Fault JavaCode) → HasTokens text us → IsFaultOf text (contents_in row) e → IsFaultOf text (contents_of names us) e
   fault_only us e k f =
-      subst (λ (x : Row). IsFaultOf text (aspects_in x) e) (is ∙ ap (resolved_row names) (one_row text ts us has k)) f
+      subst (λ (x : Row). IsFaultOf text (contents_in x) e) (is ∙ ap (resolved_row names) (one_row text ts us has k)) f
 
-  pub fault_read : (e : Fault JavaCode) → IsFaultOf text (aspects_in row) e → IsFault names text e
-  fault_read (Refused code at) f = inr (ts, has, subst (λ (x : Row). IsFaultOf text (aspects_in x) (Refused code at)) is f)
+  pub fault_read : (e : Fault JavaCode) → IsFaultOf text (contents_in row) e → IsFault names text e
+  fault_read (Refused code at) f = inr (ts, has, subst (λ (x : Row). IsFaultOf text (contents_in x) (Refused code at)) is f)
   fault_read Memory f = f
 
 pub fault_uncut : (names : List Alias) (text : List ℕ) (f : ScanFault) (e : Fault JavaCode) → FaultsAt text f → e ≡ uncut text f

@@ -1,18 +1,20 @@
 -- Declarations: attributes, equations and methods (JastAdd2 reference manual, attributes; Java Language Specification 8.4).
-use Rattle.std.specs.Prelude.{[], ◌∷◌, Bool, true, false, cond, not, ◌&&◌, ◌||◌, Option, Some, None}
+use Rattle.std.specs.Prelude.{[], ◌∷◌, ◌++◌, Bool, true, false, cond, not, ◌&&◌, ◌||◌, Option, Some, None}
 use lib.Chars.{codes}
 use Rattle.at_text.specs.Symbols.{PlacedToken}
-use Rattle.at_text.specs.Rows.{Row, is_sign, is_word, is_name_token}
+use Rattle.at_text.specs.Rows.{Row, is_sign, is_word, is_name_token, next_is}
 use Rattle.at_text.specs.declared.place.Place.{Place}
+use Rattle.at_model.specs.Terms.{Term}
 use Rattle.at_jrag.specs.Syntax as syntax
 use Rattle.at_jrag.specs.Syntax.{Word, Kind, KindWord, Params, Body, Ending, Decl}
 use Rattle.at_jrag.specs.Table.{is_kind}
 use Rattle.at_jrag.specs.Heads.{is_getter, index}
-use Rattle.at_java.specs.Read.{Read, got, fails, here, at_place, then_read}
+use Rattle.at_java.specs.Read.{Read, got, fails, here, at_place, then_read, map_read}
 use Rattle.at_java.specs.Tokens.{sign_here, name}
 use Rattle.at_java.specs.Next.{after_word, after_sign, other_code, or_fails}
 use Rattle.at_java.specs.Written.{to_statements}
-use Rattle.at_java.specs.Kinds.{kind, params}
+use Rattle.at_java.specs.Kinds.{kind, params, goes_on}
+use Rattle.at_java.specs.Constants.{sign_of, word_of, term, max_terms}
 use Rattle.at_java.specs.Statements.{block, statement, max_nesting}
 use Rattle.at_java.specs.Expressions.{expression}
 use Rattle.at_java.specs.Rewriting as meaning
@@ -32,13 +34,12 @@ abbrev pub target : Row → Read Target
 target row = then_read (name row) (λ class rest. then_read (sign_here (codes ".") rest) (λ dot behind. then_read (name behind) (λ w paren.
     then_read (params w.text paren) (λ ps left. got (record { class = class; name = w; params = ps }) left))))
 
--- { "lazy" | "final" }, where `nta` behind them is left out: the place of the last `lazy`, or this
+-- { "lazy" | "final" }: the place of the last `lazy`, or this
 unfoldable pub laziness : Option Place → Row → Read (Option Place)
 laziness lazy [] = got lazy []
 laziness lazy (t ∷ ts) =
     cond (is_word (codes "lazy") t) (laziness (Some t.at) ts)
-    (cond (is_word (codes "final") t) (laziness lazy ts)
-    (cond (is_word (codes "nta") t) (fails (here LeftOut (t ∷ ts))) (got lazy (t ∷ ts))))
+    (cond (is_word (codes "final") t) (laziness lazy ts) (got lazy (t ∷ ts)))
 
 abbrev pub is_boolean : Kind → Bool
 is_boolean syntax.Int = false
@@ -61,16 +62,15 @@ abbrev pub circular : Kind → Row → Read (Option Bool)
 circular k row = after_word (codes "circular") row (λ at rest. cond (is_boolean k)
     (then_read (or_fails (at_place LeftOut at) (start rest)) (λ b left. got (Some b) left)) (fails (at_place LeftOut at))) (got None row)
 
--- a declared attribute, up to its ending
+-- a declared attribute, behind `lazy` and `final`, up to its ending
 pub record Head : Type 0 where
-  pub lazy : Option Place
   pub kind : KindWord
   pub target : Target
   pub start : Option Bool
 
 abbrev pub head : Row → Read Head
-head row = then_read (laziness None row) (λ lazy rest. then_read (kind rest) (λ k named. then_read (target named) (λ t behind.
-    then_read (circular k.kind behind) (λ s left. got (record { lazy = lazy; kind = k; target = t; start = s }) left))))
+head row = then_read (kind row) (λ k named. then_read (target named) (λ t behind.
+    then_read (circular k.kind behind) (λ s left. got (record { kind = k; target = t; start = s }) left)))
 
 -- ---- bodies
 
@@ -96,15 +96,108 @@ body row = after_sign (codes "=") row expression_body (then_read (sign_here (cod
 abbrev pub ending : Row → Read Ending
 ending row = after_sign (codes ";") row (λ at rest. got (syntax.Semicolon at) rest) (then_read (body row) (λ b left. got (syntax.With b) left))
 
+-- ---- constants
+
+-- a nonterminal attribute whose tree is written down, with the place of its `new`
+pub record Constant : Type 0 where
+  pub class : Word
+  pub name : Word
+  pub kind : Word
+  pub term : Term
+  pub at : Place
+
+-- a declaration, and the constant that it declares, if it does
+pub record Declared : Type 0 where
+  pub decl : Decl
+  pub constant : Option Constant
+
+-- one that declares none
+abbrev pub without : Read Decl → Read Declared
+without read = map_read (λ d. record { decl = d; constant = None }) read
+
+-- the kinds that are no classes
+abbrev pub is_basic : PlacedToken → Bool
+is_basic t = is_word (codes "int") t || (is_word (codes "boolean") t || is_word (codes "String") t)
+
+-- a class: another kind is left out
+abbrev pub class : Row → Read Word
+class row = cond (next_is is_basic row) (fails (here LeftOut row))
+    (then_read (name row) (λ w rest. cond (next_is goes_on rest) (fails (at_place LeftOut w.at)) (got w rest)))
+
+-- ")": parameters are left out
+abbrev pub no_params : Row → Read Place
+no_params row = after_sign (codes ")") row (λ end rest. got end rest) (fails (here (other_code row) row))
+
+-- what a constant is of, and the parenthesis behind its name
+pub record Outset : Type 0 where
+  pub kind : Word
+  pub class : Word
+  pub name : Word
+  pub end : Place
+
+-- class name "." name "(" ")"
+abbrev pub outset : Row → Read Outset
+outset row = then_read (class row) (λ k named. then_read (name named) (λ class dotted. then_read (sign_here (codes ".") dotted) (λ dot behind.
+    then_read (name behind) (λ w paren. then_read (sign_here (codes "(") paren) (λ start inner. then_read (no_params inner) (λ end left.
+    got (record { kind = k; class = class; name = w; end = end }) left))))))
+
+-- where the body begins and its `new` stands; and whether it is a block
+pub record Making : Type 0 where
+  pub at : Place
+  pub made_at : Place
+  pub is_block : Bool
+
+-- "return" "new", behind the `{` at this place
+abbrev pub making_block : (named at : Place) → Row → Read Making
+making_block named at row = then_read (word_of named (codes "return") row) (λ r inner. then_read (word_of named (codes "new") inner) (λ new left.
+    got (record { at = at; made_at = new; is_block = true }) left))
+
+-- "=" "new" | "{" "return" "new": another body is left out where the name stands
+abbrev pub making : (named : Place) → Row → Read Making
+making named row = after_sign (codes "=") row (λ at inner. then_read (word_of named (codes "new") inner) (λ new left.
+    got (record { at = at; made_at = new; is_block = false }) left))
+    (then_read (sign_of named (codes "{") row) (making_block named))
+
+-- ";" and in a block "}", before which another statement is left out
+abbrev pub made_end : Making → Row → Read Place
+made_end m row = then_read (sign_of m.made_at (codes ";") row) (λ end rest. cond m.is_block
+    (after_sign (codes "}") rest (λ brace left. got brace left) (fails (here (other_code rest) rest))) (got end rest))
+
+-- a node, behind its `new`
+abbrev pub made_term : Making → Row → Read Term
+made_term m row = then_read (term max_terms m.made_at row) (λ t rest. then_read (made_end m rest) (λ end left. got t left))
+
+-- what stands for it among the aspects: its value is that of the accessor of a component of its name
+abbrev pub accessing : Place → Outset → Making → Decl
+accessing at o m = record {
+  at = at;
+  form = syntax.Synthesized None (record { kind = syntax.Class o.kind.text; at = o.kind.at }) o.class o.name (record { items = []; end = o.end }) None
+      (syntax.With (record { at = m.at; form = syntax.Equation'; expr = syntax.Call m.made_at (codes "get" ++ o.name.text) syntax.no_exprs }));
+}
+
+abbrev pub made_constant : Outset → Place → Term → Constant
+made_constant o at t = record { class = o.class; name = o.name; kind = o.kind; term = t; at = at }
+
+-- { "lazy" | "final" } outset making made, behind `nta`, of the declaration at this place
+abbrev pub declared_constant : Place → Row → Read Declared
+declared_constant at row = then_read (laziness None row) (λ lazy rest. then_read (outset rest) (λ o behind. then_read (making o.name.at behind) (λ m inner.
+    then_read (made_term m inner) (λ t left. got (record { decl = accessing at o m; constant = Some (made_constant o m.made_at t) }) left))))
+
 -- ---- declarations, behind their keyword at this place
 
-abbrev pub synthesized : Place → Row → Read Decl
-synthesized at row = then_read (head row) (λ h rest. then_read (ending rest) (λ e left.
-    got (record { at = at; form = syntax.Synthesized h.lazy h.kind h.target.class h.target.name h.target.params h.start e }) left))
+-- one that isn't a constant, where `lazy` stands
+abbrev pub computed : Place → Option Place → Row → Read Decl
+computed at lazy row = then_read (head row) (λ h rest. then_read (ending rest) (λ e left.
+    got (record { at = at; form = syntax.Synthesized lazy h.kind h.target.class h.target.name h.target.params h.start e }) left))
+
+abbrev pub synthesized : Place → Row → Read Declared
+synthesized at row = then_read (laziness None row) (λ lazy rest.
+    after_word (codes "nta") rest (λ nta behind. declared_constant at behind) (without (computed at lazy rest)))
 
 abbrev pub inherited : Place → Row → Read Decl
-inherited at row = then_read (head row) (λ h rest. then_read (sign_here (codes ";") rest) (λ end left.
-    got (record { at = at; form = syntax.Inherited h.lazy h.kind h.target.class h.target.name h.target.params h.start }) left))
+inherited at row = then_read (laziness None row) (λ lazy rest. after_word (codes "nta") rest (λ nta left. fails (at_place LeftOut nta))
+    (then_read (head rest) (λ h behind. then_read (sign_here (codes ";") behind) (λ end left.
+    got (record { at = at; form = syntax.Inherited lazy h.kind h.target.class h.target.name h.target.params h.start }) left))))
 
 -- of an attribute of this target
 abbrev pub own_equation : Place → Target → Row → Read Decl
@@ -143,10 +236,13 @@ method row = then_read (kind row) (λ k rest. then_read (target rest) (λ t behi
 
 -- ---- one of them
 
--- behind the modifiers
-abbrev pub declared : Row → Read Decl
-declared row = after_word (codes "syn") row synthesized (after_word (codes "inh") row inherited (after_word (codes "eq") row equation
-    (cond (begins_method row) (method row) (fails (here (other_code row) row)))))
+-- all but synthesized attributes, behind the modifiers
+abbrev pub other_declared : Row → Read Decl
+other_declared row = after_word (codes "inh") row inherited (after_word (codes "eq") row equation
+    (cond (begins_method row) (method row) (fails (here (other_code row) row))))
+
+abbrev pub declared : Row → Read Declared
+declared row = after_word (codes "syn") row synthesized (without (other_declared row))
 
 -- each fault by the limits is one at this place
 abbrev pub limited : {A : Type 0} → Place → Read A → Read A
@@ -163,10 +259,10 @@ behind_modifiers [] = []
 behind_modifiers (t ∷ ts) = cond (is_modifier t) (behind_modifiers ts) (t ∷ ts)
 
 -- the limits of a declaration are met at its first token
-abbrev pub first_declared : Row → Read Decl
+abbrev pub first_declared : Row → Read Declared
 first_declared [] = fails (here Syntax [])
 first_declared (t ∷ ts) = limited t.at (declared (t ∷ ts))
 
 -- { "public" | "protected" | "private" | "final" } and a declaration
-unfoldable pub declaration : Row → Read Decl
+unfoldable pub declaration : Row → Read Declared
 declaration row = first_declared (behind_modifiers row)

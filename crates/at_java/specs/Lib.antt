@@ -11,11 +11,12 @@ pub mod OperatorView
 pub mod Kinds
 pub mod Statements
 pub mod Rewriting
+pub mod Constants
 pub mod Declarations
-pub mod Seen
 pub mod Aliases
 pub mod Noted
 pub mod Files
+pub mod Seen
 pub mod Naming
 pub mod Found
 pub mod Refusals

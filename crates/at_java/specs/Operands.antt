@@ -93,13 +93,13 @@ called [] = fails (here Syntax [])
 called (t ∷ ts) = cond (is_name_token t || begins_fold t) (got (record { text = t.text; at = t.at }) ts) (fails (here Syntax (t ∷ ts)))
 
 -- ")", or else "," and what goes on
-abbrev pub more_items : (Row → Read (List Expr)) → Row → Read (List Expr)
+abbrev pub more_items : {A : Type 0} → (Row → Read (List A)) → Row → Read (List A)
 more_items next row = if_next (sign_next (codes ")") row) (λ end rest. got [] rest) (then_read (sign_here (codes ",") row) (λ at rest. next rest))
 
--- expr { "," expr } ")", so many at most
-abbrev pub items : (Row → Read Expr) → ℕ → Row → Read (List Expr)
-items expression zero row = fails (here Limit row)
-items expression (suc n) row = then_read (expression row) (λ e rest. map_read (λ es. e ∷ es) (more_items (λ next. items expression n next) rest))
+-- item { "," item } ")", so many at most of what is read one by one
+abbrev pub items : {A : Type 0} → (Row → Read A) → ℕ → Row → Read (List A)
+items one zero row = fails (here Limit row)
+items one (suc n) row = then_read (one row) (λ a rest. map_read (λ as'. a ∷ as') (more_items (λ next. items one n next) rest))
 
 -- "(" [expr { "," expr }] ")"
 unfoldable pub arguments : Readers → Row → Read (List Expr)

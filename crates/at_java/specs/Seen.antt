@@ -1,11 +1,18 @@
 -- What the reader's parts of declarations stand for.
-use Rattle.std.specs.Prelude.{map}
-use Rattle.at_jrag.specs.Syntax.{Decl}
-use Rattle.at_jrag.specs.View.{word_view, kind_word_view, params_view, decl_view}
+use Rattle.std.specs.Prelude.{map, option_map}
+use Rattle.at_tree.specs.View.{term_view}
+use Rattle.at_jrag.specs.View.{word_view, kind_word_view, params_view, decl_view, aspect_view}
 use Rattle.at_java.specs.Written.{Statement}
 use Rattle.at_java.specs.View.{statement_view}
 use Rattle.at_java.specs.Items.{Closed}
-use Rattle.at_java.specs.Declarations.{Target, Head}
+use Rattle.at_java.specs.Declarations.{Target, Head, Constant, Declared, Outset, Making}
+use Rattle.at_java.specs.Files.{Declarations, Part, Contents}
+use Rattle.at_java.specs.declared.constants.Constant.{Constant as ConstantValue}
+use Rattle.at_java.specs.declared.constants.Contents.{Contents as ContentsValue}
+use Rattle.at_java.specs.declared.reader.constants.Declared.{Declared as DeclaredValue}
+use Rattle.at_java.specs.declared.reader.constants.Outset.{Outset as OutsetValue}
+use Rattle.at_java.specs.declared.reader.constants.Making.{Making as MakingValue}
+use Rattle.at_java.specs.declared.reader.files.Part.{Part as PartValue}
 use Rattle.at_java.specs.declared.reader.statements.Block.{Block as BlockValue}
 use Rattle.at_java.specs.declared.reader.headings.Target.{Target as TargetValue}
 use Rattle.at_java.specs.declared.reader.headings.Head.{Head as HeadValue}
@@ -18,7 +25,25 @@ abbrev pub target_view : TargetValue → Target
 target_view t = record { class = word_view t.class; name = word_view t.name; params = params_view t.params }
 
 abbrev pub head_view : HeadValue → Head
-head_view h = record { lazy = h.lazy; kind = kind_word_view h.kind; target = target_view h.target; start = h.start }
+head_view h = record { kind = kind_word_view h.kind; target = target_view h.target; start = h.start }
 
-abbrev pub declarations_view : DeclarationsValue → Closed Decl
-declarations_view d = record { items = map decl_view d.items.items; end = d.end }
+abbrev pub outset_view : OutsetValue → Outset
+outset_view o = record { kind = word_view o.kind; class = word_view o.class; name = word_view o.name; end = o.end }
+
+abbrev pub making_view : MakingValue → Making
+making_view m = record { at = m.at; made_at = m.made_at; is_block = m.is_block }
+
+abbrev pub constant_view : ConstantValue → Constant
+constant_view c = record { class = word_view c.class; name = word_view c.name; kind = word_view c.kind; term = term_view c.term; at = c.at }
+
+abbrev pub declared_view : DeclaredValue → Declared
+declared_view d = record { decl = decl_view d.decl; constant = option_map constant_view d.constant }
+
+abbrev pub declarations_view : DeclarationsValue → Declarations
+declarations_view d = record { decls = map decl_view d.decls.items; constants = map constant_view d.constants.items; end = d.end }
+
+abbrev pub part_view : PartValue → Part
+part_view p = record { aspect = aspect_view p.aspect; constants = map constant_view p.constants.items }
+
+abbrev pub contents_view : ContentsValue → Contents
+contents_view c = record { aspects = map aspect_view c.aspects.items; constants = map constant_view c.constants.items }

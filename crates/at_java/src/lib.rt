@@ -4,16 +4,17 @@
 //! **Its specs:** `Read` is what a reader takes of a row of tokens, and `Tokens`, `Next` and `Items` what several forms share;
 //! `Operands`, `Operators` and `Expressions`, `Kinds`, `Statements` and `Declarations` say of each form what is read, by recursive
 //! descent; `Written` is a body as it is written, and `Rewriting` the expression that it means, over `Naming`, which counts forms and
-//! puts expressions in the place of names; `Aliases` are names that stand for those of accessors, `Noted` these in a map; `Files` is
-//! the whole: the aspects of a text, or its fault. `View`, `OperatorView`, `Seen`, `Found`, `Searching` and `Rests` are what the
-//! program's values stand for, and `Refusals` says that a result of rewriting is what is meant, or its refusal.
+//! puts expressions in the place of names; `Constants` are trees that are written with `new`; `Aliases` are names that stand for those
+//! of accessors, `Noted` these in a map; `Files` is the whole: the aspects of a text and its constants, or its fault. `View`,
+//! `OperatorView`, `Seen`, `Found`, `Searching` and `Rests` are what the program's values stand for, and `Refusals` says that a result
+//! of rewriting is what is meant, or its refusal.
 //!
 //! **Where to begin:** `parse_java`, below, and `reader.rt`.
 //!
 //! **What it keeps true:** what is read is what the definition reads, and each fault is its fault, by its code and place.
 #![tactic(auto)]
 
-ghost use Rattle.std.specs.Prelude.{◌≡◌, ◌⊎◌, List, [], map, IfOk, IfErr, MatchResult};
+ghost use Rattle.std.specs.Prelude.{◌≡◌, ◌⊎◌, List, [], IfOk, IfErr, MatchResult};
 ghost use Rattle.at_text.specs.Symbols.{PlacedToken, HasTokens, next_place};
 ghost use Rattle.at_text.specs.Rows.{left};
 ghost use Rattle.at_text.specs.Faults as scanning;
@@ -21,13 +22,13 @@ ghost use Rattle.at_text.specs.declared.scan.ScanFault.{ScanFault};
 ghost use Rattle.at_text.specs.declared.place.Place.{Place};
 ghost use Rattle.at_text.specs.declared.fault.Failure.TheVariants.{For};
 ghost use Rattle.at_text.specs.declared.fault.Fault.TheVariants.{Refused, Memory};
-ghost use Rattle.at_jrag.specs.Syntax as syntax;
-ghost use Rattle.at_jrag.specs.View.{aspect_view};
 ghost use Rattle.at_java.specs.Read.{Read, got, Fails};
-ghost use Rattle.at_java.specs.Files.{aspects_of, uncut, IsUncutAt, IsFaultOf, Holds, IsFault};
+ghost use Rattle.at_java.specs.Seen.{contents_view};
+ghost use Rattle.at_java.specs.Files.{Contents as ContentsView, contents_of, uncut, IsUncutAt, IsFaultOf, Holds, IsFault};
 ghost use Rattle.at_java.specs.declared.JavaCode.TheVariants.{Syntax};
 
 mod aliases;
+mod constants;
 pub mod laws;
 mod reader;
 mod rewriting;
@@ -35,12 +36,12 @@ mod written;
 
 pub use aliases::Alias;
 use aliases::resolve;
-use at_jrag::Aspect;
 use at_text::cursor::Cursor;
 use at_text::fault::{Failure, Fault};
 use at_text::place::Place;
 use at_text::placed::place_all;
 use at_text::scan::{ScanFault, lexemes};
+pub use constants::{Constant, Contents};
 use reader::{Breach, Reader};
 pub use rewriting::copy_of;
 use std::alloc::Global;
@@ -91,7 +92,7 @@ fn place_next(text: &str, cursor: &Cursor<'_>) -> Place
 
 /// The fault of a text where its reader met this one.
 fn breached(text: &str, cursor: &Cursor<'_>, breach: Breach) -> JavaFault
-    ensures { (read : Read (List syntax.Aspect)) → Fails (For breach) (left cursor.now.rest.now) read → IsFaultOf text.now read result }
+    ensures { (read : Read ContentsView) → Fails (For breach) (left cursor.now.rest.now) read → IsFaultOf text.now read result }
 {
     match breach {
         Breach::Here(code) => Fault::Refused {
@@ -102,7 +103,7 @@ fn breached(text: &str, cursor: &Cursor<'_>, breach: Breach) -> JavaFault
     }
 }
 
-/// The aspects that the text holds, in order, where these names stand for others.
+/// The aspects that the text holds and the constants that they declare, in order, where these names stand for others.
 ///
 /// # Errors
 ///
@@ -114,15 +115,15 @@ pub fn parse_java<'a>(
     alloc: Global,
     text: &'a str,
     aliases: &'a [Alias],
-) -> Result<Vec<Aspect>, JavaFault>
-    ensures found { IfOk result (λ v. Holds aliases.now text.now (map aspect_view v.items)) }
+) -> Result<Contents, JavaFault>
+    ensures found { IfOk result (λ v. Holds aliases.now text.now (contents_view v)) }
     // A text that can't be cut into tokens is refused where that is met, whatever stands before it.
     ensures uncut { (fault : ScanFault) (at : Place) → IsUncutAt text.now at fault
         → MatchResult result (λ v. ⊥) (λ e. (e ≡ Memory) ⊎ (e ≡ Refused Syntax at)) }
     // What is answered for a text of tokens is what they spell, or the fault there, unless memory runs out.
     ensures only { (tokens : List PlacedToken) → HasTokens text.now tokens
-        → MatchResult result (λ v. aspects_of aliases.now tokens ≡ got (map aspect_view v.items) [])
-        (IsFaultOf text.now (aspects_of aliases.now tokens)) }
+        → MatchResult result (λ v. contents_of aliases.now tokens ≡ got (contents_view v) [])
+        (IsFaultOf text.now (contents_of aliases.now tokens)) }
     ensures fault { IfErr result (IsFault aliases.now text.now) }
 {
     let tokens = match lexemes(alloc, text) {
@@ -133,7 +134,7 @@ pub fn parse_java<'a>(
     resolve(alloc, &mut tokens, aliases)?;
     let mut reader = Reader::new(alloc, &tokens);
     match reader.file() {
-        Ok(aspects) => Ok(aspects),
+        Ok(contents) => Ok(contents),
         Err(Failure::For(breach)) => Err(breached(text, &reader.cursor, breach)),
         Err(Failure::Memory) => Err(Fault::Memory),
     }

@@ -7,6 +7,7 @@ ghost use Rattle.at_java.specs.Read.{got, Fails};
 ghost use Rattle.at_java.specs.Tokens.{name, sign_here};
 ghost use Rattle.at_jrag.specs.View.{word_view};
 
+mod constants;
 mod declarations;
 mod expressions;
 mod files;
@@ -17,6 +18,7 @@ mod literals;
 mod operands;
 mod operators;
 mod statements;
+mod terms;
 
 use crate::JavaCode;
 use at_jrag::Word;

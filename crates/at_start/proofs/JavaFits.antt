@@ -21,9 +21,9 @@ use Rattle.at_java.specs.Expressions.{expression}
 use Rattle.at_java.specs.Statements as statements
 use Rattle.at_java.specs.Statements.{returned, condition, otherwise, conditional, element, loop, block}
 use Rattle.at_java.specs.Rewriting.{Meaning, Means, Open, Refused, rewritten}
-use Rattle.at_java.specs.Declarations.{Target, target, laziness, is_boolean, start, circular, Head, head, meant, block_body, body, ending, synthesized, inherited, own_equation, child_equation, equation, begins_method, method, declared, limited, first_declared, behind_modifiers, declaration}
+use Rattle.at_java.specs.Declarations.{Target, target, laziness, is_boolean, start, circular, Head, head, meant, block_body, body, ending, Declared, outset, making, made_term, declared_constant, without, computed, synthesized, inherited, own_equation, child_equation, equation, begins_method, method, other_declared, declared, limited, first_declared, behind_modifiers, declaration}
 use Rattle.at_java.specs.Aliases.{Alias, resolved_row}
-use Rattle.at_java.specs.Files.{named_aspect, aspect, aspects, imports, aspects_in, most_aspects, most_declarations}
+use Rattle.at_java.specs.Files.{Part, Contents, Declarations, sorted, declarations, named_aspect, aspect, aspects, imports, contents_in, most_aspects, most_declarations}
 use Rattle.at_java.specs.declared.JavaCode.TheVariants.{Syntax, LeftOut, Limit, NoValue}
 use Rattle.at_typing.proofs.Literals.{AreInts, AreIntsAmong, AreIntsIn}
 use Rattle.at_typing.specs.Declaring.{body_at, body_in}
@@ -38,7 +38,7 @@ use Rattle.at_start.specs.NullCalls.{literal_for, literal_of}
 use Rattle.at_start.specs.declared.language.Language.TheVariants.{JastAdd}
 use Rattle.at_start.proofs.ApartInts.{apart_ints}
 use Rattle.at_start.proofs.SpreadForms.{spread_have}
-use Rattle.at_start.proofs.JavaGiven.{Gives, gives_then, gives_behind, gives_either, gives_word, gives_sign}
+use Rattle.at_start.proofs.JavaGiven.{Gives, gives_then, gives_behind, gives_map, gives_either, gives_word, gives_sign}
 use Rattle.at_start.proofs.JavaNumbers.{expression_ints}
 use Rattle.at_start.proofs.JavaMeanings.{HasInts, HaveInts, MeansInts, rewritten_ints}
 
@@ -159,10 +159,9 @@ HeadFits h = StartFits h.kind.kind h.start
 
 head_fits : (row : Row) → Gives HeadFits (head row)
 head_fits row =
-    gives_behind HeadFits (laziness None row) _ (λ lazy rest.
-    gives_behind HeadFits (kind rest) _ (λ k named.
+    gives_behind HeadFits (kind row) _ (λ k named.
     gives_behind HeadFits (target named) _ (λ t behind.
-    gives_then (StartFits k.kind) HeadFits (circular k.kind behind) _ (circular_fits k.kind behind) (λ s left fits. fits))))
+    gives_then (StartFits k.kind) HeadFits (circular k.kind behind) _ (circular_fits k.kind behind) (λ s left fits. fits)))
 
 -- ---- declarations
 
@@ -182,15 +181,37 @@ is_boolean_form word start fits k b same at =
 no_kind : (start : Option Bool) (k : KindWord) (b : Bool) → None ≡ Some k → start ≡ Some b → k.kind ≡ syntax.Bool'
 no_kind start k b same at = absurd (none-some k same)
 
-synthesized_fits : (at : Place) (row : Row) → Gives DeclFits (synthesized at row)
-synthesized_fits at row =
+-- and so it does with the constant that it declares, if it does
+abbrev BothFit : Declared → Type 0
+BothFit d = DeclFits d.decl
+
+without_fits : (read : Read Decl) → Gives DeclFits read → Gives BothFit (without read)
+without_fits read fits = gives_map DeclFits BothFit _ read fits (λ d is. is)
+
+-- what stands for a constant is a call without arguments
+constant_fits : (at : Place) (row : Row) → Gives BothFit (declared_constant at row)
+constant_fits at row =
+    gives_behind BothFit (laziness None row) _ (λ lazy rest.
+    gives_behind BothFit (outset rest) _ (λ o behind.
+    gives_behind BothFit (making o.name.at behind) _ (λ m inner.
+    gives_behind BothFit (made_term m inner) _ (λ t left. (tt, is_boolean_form _ None (λ c none. absurd (none-some c none)))))))
+
+computed_fits : (at : Place) (lazy : Option Place) (row : Row) → Gives DeclFits (computed at lazy row)
+computed_fits at lazy row =
     gives_then HeadFits DeclFits (head row) _ (head_fits row) (λ h rest fits.
     gives_then EndingInts DeclFits (ending rest) _ (ending_ints rest) (λ e left is. (is, is_boolean_form h.kind h.start fits)))
 
+synthesized_fits : (at : Place) (row : Row) → Gives BothFit (synthesized at row)
+synthesized_fits at row =
+    gives_behind BothFit (laziness None row) _ (λ lazy rest.
+    gives_word BothFit (codes "nta") rest _ _ (λ nta behind. constant_fits at behind) (without_fits (computed at lazy rest) (computed_fits at lazy rest)))
+
 inherited_fits : (at : Place) (row : Row) → Gives DeclFits (inherited at row)
 inherited_fits at row =
-    gives_then HeadFits DeclFits (head row) _ (head_fits row) (λ h rest fits.
-    gives_behind DeclFits (sign_here (codes ";") rest) _ (λ end left. (tt, is_boolean_form h.kind h.start fits)))
+    gives_behind DeclFits (laziness None row) _ (λ lazy rest.
+    gives_word DeclFits (codes "nta") rest _ _ (λ nta left. tt)
+    (gives_then HeadFits DeclFits (head rest) _ (head_fits rest) (λ h behind fits.
+    gives_behind DeclFits (sign_here (codes ";") behind) _ (λ end left. (tt, is_boolean_form h.kind h.start fits)))))
 
 own_fits : (at : Place) (t : Target) (row : Row) → Gives DeclFits (own_equation at t row)
 own_fits at t row = gives_then BodyInts DeclFits (body row) _ (body_ints row) (λ b left is. (is, no_kind None))
@@ -215,12 +236,14 @@ method_fits row =
     gives_then BodyInts DeclFits (block_body at inner) _ (block_ints at inner)
     (λ b left is. (is, is_boolean_form k None (λ c none. absurd (none-some c none)))))))
 
-declared_fits : (row : Row) → Gives DeclFits (declared row)
-declared_fits row =
-    gives_word DeclFits (codes "syn") row _ _ synthesized_fits
-    (gives_word DeclFits (codes "inh") row _ _ inherited_fits
+other_fits : (row : Row) → Gives DeclFits (other_declared row)
+other_fits row =
+    gives_word DeclFits (codes "inh") row _ _ inherited_fits
     (gives_word DeclFits (codes "eq") row _ _ equation_fits
-    (gives_either DeclFits (begins_method row) _ _ (λ _. method_fits row) tt)))
+    (gives_either DeclFits (begins_method row) _ _ (λ _. method_fits row) tt))
+
+declared_fits : (row : Row) → Gives BothFit (declared row)
+declared_fits row = gives_word BothFit (codes "syn") row _ _ synthesized_fits (without_fits (other_declared row) (other_fits row))
 
 limited_fits : {A : Type 0} (P : A → Type 0) (at : Place) (read : Read A) → Gives P read → Gives P (limited at read)
 limited_fits P at (got a rest) is = is
@@ -233,11 +256,11 @@ limited_fits P at (fails (at_place LeftOut there)) is = tt
 limited_fits P at (fails (at_place Limit there)) is = tt
 limited_fits P at (fails (at_place NoValue there)) is = tt
 
-first_fits : (row : Row) → Gives DeclFits (first_declared row)
+first_fits : (row : Row) → Gives BothFit (first_declared row)
 first_fits [] = tt
-first_fits (t ∷ ts) = limited_fits DeclFits t.at (declared (t ∷ ts)) (declared_fits (t ∷ ts))
+first_fits (t ∷ ts) = limited_fits BothFit t.at (declared (t ∷ ts)) (declared_fits (t ∷ ts))
 
-declaration_fits : (row : Row) → Gives DeclFits (declaration row)
+declaration_fits : (row : Row) → Gives BothFit (declaration row)
 unfolding declaration
 declaration_fits row = first_fits (behind_modifiers row)
 
@@ -249,25 +272,36 @@ AspectFits a = AllByRecursion DeclFits a.decls
 abbrev AllFit : List Aspect → Type 0
 AllFit = AllByRecursion AspectFits
 
-named_fits : (row : Row) → Gives AspectFits (named_aspect row)
-named_fits row =
-    gives_behind AspectFits (name row) _ (λ w rest.
-    gives_behind AspectFits (sign_here (codes "{") rest) _ (λ at inner.
-    gives_then (λ (c : Closed Decl). AllByRecursion DeclFits c.items) AspectFits (items_until declaration most_declarations inner) _
-    (items_each DeclFits declaration declaration_fits most_declarations inner) (λ ds left are. are)))
+abbrev SortedFit : Declarations → Type 0
+SortedFit ds = AllByRecursion DeclFits ds.decls
 
-aspects_fit : (n : ℕ) (row : Row) → Gives AllFit (aspects n row)
+abbrev PartFits : Part → Type 0
+PartFits p = AspectFits p.aspect
+
+abbrev ContentsFit : Contents → Type 0
+ContentsFit c = AllFit c.aspects
+
+named_fits : (row : Row) → Gives PartFits (named_aspect row)
+named_fits row =
+    gives_behind PartFits (name row) _ (λ w rest.
+    gives_behind PartFits (sign_here (codes "{") rest) _ (λ at inner.
+    gives_then SortedFit PartFits (declarations inner) _
+    (gives_map (λ (c : Closed Declared). AllByRecursion BothFit c.items) SortedFit sorted (items_until declaration most_declarations inner)
+    (items_each BothFit declaration declaration_fits most_declarations inner) (λ c are. all_map DeclFits (λ (d : Declared). d.decl) c.items are))
+    (λ ds left are. are)))
+
+aspects_fit : (n : ℕ) (row : Row) → Gives ContentsFit (aspects n row)
 unfolding aspects
 aspects_fit n [] = tt
 aspects_fit zero (t ∷ ts) = tt
 aspects_fit (suc n) (t ∷ ts) =
-    gives_then AspectFits AllFit (aspect (t ∷ ts)) _
-    (gives_word AspectFits (codes "aspect") (t ∷ ts) _ _ (λ at rest. named_fits rest) tt) (λ a rest is.
-    gives_then AllFit AllFit (aspects n rest) _ (aspects_fit n rest) (λ more left all. (is, all)))
+    gives_then PartFits ContentsFit (aspect (t ∷ ts)) _
+    (gives_word PartFits (codes "aspect") (t ∷ ts) _ _ (λ at rest. named_fits rest) tt) (λ p rest is.
+    gives_then ContentsFit ContentsFit (aspects n rest) _ (aspects_fit n rest) (λ more left all. (is, all)))
 
-read_fits : (row : Row) (as' : List Aspect) (rest : Row) → aspects_in row ≡ got as' rest → AllFit as'
-read_fits row as' rest read =
-    subst (Gives AllFit) read (gives_behind AllFit (imports false row) _ (λ u left. aspects_fit most_aspects left))
+read_fits : (row : Row) (contents : Contents) (rest : Row) → contents_in row ≡ got contents rest → ContentsFit contents
+read_fits row contents rest read =
+    subst (Gives ContentsFit) read (gives_behind ContentsFit (imports false row) _ (λ u left. aspects_fit most_aspects left))
 
 -- ---- files
 
@@ -389,7 +423,7 @@ module _ (names : List Alias) where
   hold_fit [] (a ∷ as') hold = absurd hold
   hold_fit (f ∷ fs) [] hold = absurd hold
   hold_fit (f ∷ fs) (a ∷ as') hold =
-      (read_fits (resolved_row names hold.0.written.tokens) a [] hold.0.written.is, hold_fit fs as' hold.1)
+      (read_fits (resolved_row names hold.0.written.1.tokens) _ [] hold.0.written.1.is, hold_fit fs as' hold.1)
 
   module _ (classes : Classes) (files : List (List ℕ)) (aspects : List (List Aspect)) (hold : AllHold JastAdd names files aspects) where
     read_fit : AllByRecursion LocatedFits (located 1 (read_in JastAdd classes aspects))

@@ -21,7 +21,7 @@ use Rattle.at_typing.specs.Building.{rules_of}
 use Rattle.at_typing.specs.Located.{located}
 use Rattle.at_start.specs.GrammarFiles.{Declares, GivesClasses, declared}
 use Rattle.at_java.specs.Aliases.{Alias}
-use Rattle.at_java.specs.Files.{aspects_of}
+use Rattle.at_java.specs.Files.{Contents, contents_of}
 use Rattle.at_java.specs.Read.{got}
 use Rattle.at_start.specs.Lists.{aliases_in}
 use Rattle.at_start.specs.AspectFiles.{AllHold, GivesRules, IsWritten, arguments_in}
@@ -48,8 +48,8 @@ named_apart bytes cs h = subst AreNamedApart (sym h.built) (classes_apart h.decl
 
 -- ---- the aspects
 
-got_once : (as' bs : List Aspect) (rest : Row) → got as' rest ≡ got bs rest → as' ≡ bs
-got_once as' bs rest e = cc
+got_once : (x y : Contents) (rest : Row) → got x rest ≡ got y rest → x ≡ y
+got_once x y rest e = cc
 
 written_once : (language : Language) (names : List Alias) (text : List ℕ) (as' bs : List Aspect) → IsWritten language names text as'
     → IsWritten language names text bs → as' ≡ bs
@@ -57,8 +57,8 @@ written_once (Profile forms) names text as' bs h k =
     let rows = one_row text h.tokens k.tokens h.cut k.cut in
     one_file forms as' bs k.tokens (subst (λ (row : Row). File forms as' row []) rows h.spells) k.spells
 written_once JastAdd names text as' bs h k =
-    let rows = one_row text h.tokens k.tokens h.cut k.cut in
-    got_once as' bs [] (sym h.is ∙ ap (aspects_of names) rows ∙ k.is)
+    let rows = one_row text h.1.tokens k.1.tokens h.1.cut k.1.cut in
+    ap (λ c. c.aspects) (got_once _ _ [] (sym h.1.is ∙ ap (contents_of names) rows ∙ k.1.is))
 
 all_held_once : (language : Language) (names : List Alias) (files : List (List ℕ)) (as' bs : List (List Aspect))
     → AllHold language names files as' → AllHold language names files bs → as' ≡ bs

@@ -12,6 +12,7 @@ use Rattle.at_jrag.specs.declared.Forms.{Forms}
 use Rattle.at_jrag.specs.declared.JragCode.{JragCode}
 use Rattle.at_jrag.specs.declared.JragCode.TheVariants as jrag
 use Rattle.at_java.specs.Aliases.{Alias}
+use Rattle.at_java.specs.Declarations.{Constant}
 use Rattle.at_java.specs.Files as java_files
 use Rattle.at_java.specs.declared.JavaCode.{JavaCode}
 use Rattle.at_java.specs.declared.JavaCode.TheVariants as java
@@ -43,10 +44,10 @@ pub record Spells (forms : Forms) (text : List ℕ) (aspects : List Aspect) : Ty
   pub spells : File forms aspects tokens []
   pub within : IsWithin aspects
 
--- the aspects are written in the text, in that language, where names stand for others
+-- the aspects are written in the text, in that language, where names stand for others; of the constants that they declare nothing is said
 abbrev pub IsWritten : Language → List Alias → (text : List ℕ) → List Aspect → Type 0
 IsWritten (Profile forms) names text aspects = Spells forms text aspects
-IsWritten JastAdd names text aspects = java_files.Holds names text aspects
+IsWritten JastAdd names text aspects = (constants : List Constant) × java_files.Holds names text (record { aspects = aspects; constants = constants })
 
 -- whether circular attributes are read in the language
 abbrev pub reads_circular : Language → Bool

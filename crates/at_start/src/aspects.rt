@@ -106,14 +106,14 @@ fn read_profile(alloc: Global, text: &str, forms: Forms) -> Result<Vec<Aspect>, 
     }
 }
 
-/// The aspects of a text as users of JastAdd write them, where names stand for others.
+/// The aspects of a text as users of JastAdd write them, where names stand for others. Its constants are dropped here.
 fn read_java(alloc: Global, text: &str, names: &[Alias]) -> Result<Vec<Aspect>, Fault<Code>>
     requires { IsText max_file text.now }
     ensures hold { IfOk result (λ v. Holds JastAdd names.now text.now (map aspect_view v.items)) }
     ensures refused { IfErr result (IsReadingFaultOf JastAdd names.now text.now) }
 {
     match parse_java(alloc, text, names) {
-        Ok(aspects) => Ok(aspects),
+        Ok(contents) => Ok(contents.into_aspects()),
         Err(fault) => Err(fault.map_code(java_code)),
     }
 }

@@ -1,19 +1,20 @@
 //! Declarations: attributes, equations and methods.
 
-ghost use Rattle.std.specs.Prelude.{◌≡◌, ◌∷◌, ◌&&◌, ◌<◌, length, IfOk, IfErr, MatchBool, true, false, option_map};
+ghost use Rattle.std.specs.Prelude.{◌≡◌, ◌∷◌, ◌&&◌, ◌<◌, length, IfOk, IfErr, MatchBool, None, true, false, option_map};
 ghost use lib.Chars.{codes};
 ghost use Rattle.at_text.specs.Symbols.{placed};
 ghost use Rattle.at_text.specs.Rows.{Row, left, sign, is_sign, next_is};
 ghost use Rattle.at_jrag.specs.Table.{is_kind};
 ghost use Rattle.at_text.specs.declared.place.Place.{Place};
-ghost use Rattle.at_jrag.specs.Syntax.{Decl as DeclView};
+ghost use Rattle.at_java.specs.Declarations.{Declared as DeclaredView};
 ghost use Rattle.at_jrag.specs.View.{params_view, body_view, ending_view, decl_view, word_view, param_view};
 ghost use Rattle.at_jrag.specs.Heads.{is_getter, index};
 ghost use Rattle.at_java.specs.Read.{Read, got, Fails};
-ghost use Rattle.at_java.specs.Seen.{target_view};
-ghost use Rattle.at_java.specs.Declarations.{block_body, expression_body, body, ending, synthesized, inherited, own_equation, child_equation};
-ghost use Rattle.at_java.specs.Declarations.{equation, heads_method, begins_method, method, declared, limited, is_modifier, behind_modifiers, first_declared, declaration};
+ghost use Rattle.at_java.specs.Seen.{target_view, declared_view};
+ghost use Rattle.at_java.specs.Declarations.{block_body, expression_body, body, ending, synthesized, computed, inherited, own_equation, child_equation};
+ghost use Rattle.at_java.specs.Declarations.{equation, heads_method, begins_method, method, other_declared, declared, limited, is_modifier, behind_modifiers, first_declared, declaration};
 
+use super::constants::Declared;
 use super::headings::Target;
 use super::statements::MAX_NESTING;
 use super::{Breach, ReadFault, Reader};
@@ -98,7 +99,7 @@ fn is_modifier(token: &Placed<'_>) -> bool
 
 /// The fault of a declaration whose first token has this place: each by the limits is one there.
 fn limited(at: Place, fault: ReadFault) -> ReadFault
-    ensures { (read : Read DeclView) (rest : Row) → Fails fault rest read → Fails result rest (limited at read) }
+    ensures { (read : Read DeclaredView) (rest : Row) → Fails fault rest read → Fails result rest (limited at read) }
 {
     match fault {
         Failure::For(Breach::Here(JavaCode::Limit)) => ReadFault::For(Breach::At(
@@ -109,6 +110,16 @@ fn limited(at: Place, fault: ReadFault) -> ReadFault
             ReadFault::For(Breach::At(JavaCode::Limit, at))
         }
         other => other,
+    }
+}
+
+/// A declaration that declares no constant.
+fn with_none(decl: Decl) -> Declared
+    ensures { declared_view result ≡ record { decl = decl_view decl; constant = None } }
+{
+    Declared {
+        decl,
+        constant: None,
     }
 }
 
@@ -165,14 +176,26 @@ impl<'a> Reader<'a> {
     }
 
     /// A synthesized attribute, behind the `syn` at this place.
-    fn synthesized(&mut self, at: Place) -> Result<Decl, ReadFault>
-        ensures found { IfOk result (λ d. synthesized at (left self.old.cursor.rest.now) ≡ got (decl_view d) (left self.new.cursor.rest.now)) }
+    fn synthesized(&mut self, at: Place) -> Result<Declared, ReadFault>
+        ensures found { IfOk result (λ d. synthesized at (left self.old.cursor.rest.now) ≡ got (declared_view d) (left self.new.cursor.rest.now)) }
         ensures fault { IfErr result (λ e. Fails e (left self.new.cursor.rest.now) (synthesized at (left self.old.cursor.rest.now))) }
+    {
+        let lazy = self.laziness();
+        if let Some(_) = self.cursor.takes_word("nta") {
+            return self.declared_constant(at);
+        }
+        Ok(with_none(self.computed(at, lazy)?))
+    }
+
+    /// One that isn't a constant, behind `syn` and where `lazy` stands.
+    fn computed(&mut self, at: Place, lazy: Option<Place>) -> Result<Decl, ReadFault>
+        ensures found { IfOk result (λ d. computed at lazy (left self.old.cursor.rest.now) ≡ got (decl_view d) (left self.new.cursor.rest.now)) }
+        ensures fault { IfErr result (λ e. Fails e (left self.new.cursor.rest.now) (computed at lazy (left self.old.cursor.rest.now))) }
     {
         let head = self.head()?;
         let ending = self.ending()?;
         let form = DeclForm::Synthesized {
-            lazy: head.lazy,
+            lazy,
             kind: head.kind,
             class: head.target.class,
             name: head.target.name,
@@ -188,10 +211,14 @@ impl<'a> Reader<'a> {
         ensures found { IfOk result (λ d. inherited at (left self.old.cursor.rest.now) ≡ got (decl_view d) (left self.new.cursor.rest.now)) }
         ensures fault { IfErr result (λ e. Fails e (left self.new.cursor.rest.now) (inherited at (left self.old.cursor.rest.now))) }
     {
+        let lazy = self.laziness();
+        if let Some(nta) = self.cursor.takes_word("nta") {
+            return Err(ReadFault::For(Breach::At(JavaCode::LeftOut, nta)));
+        }
         let head = self.head()?;
         self.expects(";")?;
         let form = DeclForm::Inherited {
-            lazy: head.lazy,
+            lazy,
             kind: head.kind,
             class: head.target.class,
             name: head.target.name,
@@ -296,14 +323,11 @@ impl<'a> Reader<'a> {
         Ok(Decl { at, form })
     }
 
-    /// A declaration behind its modifiers.
-    fn declared(&mut self) -> Result<Decl, ReadFault>
-        ensures found { IfOk result (λ d. declared (left self.old.cursor.rest.now) ≡ got (decl_view d) (left self.new.cursor.rest.now)) }
-        ensures fault { IfErr result (λ e. Fails e (left self.new.cursor.rest.now) (declared (left self.old.cursor.rest.now))) }
+    /// A declaration behind its modifiers, but of a synthesized attribute.
+    fn other_declared(&mut self) -> Result<Decl, ReadFault>
+        ensures found { IfOk result (λ d. other_declared (left self.old.cursor.rest.now) ≡ got (decl_view d) (left self.new.cursor.rest.now)) }
+        ensures fault { IfErr result (λ e. Fails e (left self.new.cursor.rest.now) (other_declared (left self.old.cursor.rest.now))) }
     {
-        if let Some(at) = self.cursor.takes_word("syn") {
-            return self.synthesized(at);
-        }
         if let Some(at) = self.cursor.takes_word("inh") {
             return self.inherited(at);
         }
@@ -314,6 +338,17 @@ impl<'a> Reader<'a> {
             return self.method();
         }
         Err(ReadFault::For(Breach::Here(self.other_code())))
+    }
+
+    /// A declaration behind its modifiers.
+    fn declared(&mut self) -> Result<Declared, ReadFault>
+        ensures found { IfOk result (λ d. declared (left self.old.cursor.rest.now) ≡ got (declared_view d) (left self.new.cursor.rest.now)) }
+        ensures fault { IfErr result (λ e. Fails e (left self.new.cursor.rest.now) (declared (left self.old.cursor.rest.now))) }
+    {
+        if let Some(at) = self.cursor.takes_word("syn") {
+            return self.synthesized(at);
+        }
+        Ok(with_none(self.other_declared()?))
     }
 
     /// Steps over a modifier, if one is next.
@@ -340,8 +375,8 @@ impl<'a> Reader<'a> {
     }
 
     /// A declaration whose modifiers are read.
-    fn first_declared(&mut self) -> Result<Decl, ReadFault>
-        ensures found { IfOk result (λ d. first_declared (left self.old.cursor.rest.now) ≡ got (decl_view d) (left self.new.cursor.rest.now)) }
+    fn first_declared(&mut self) -> Result<Declared, ReadFault>
+        ensures found { IfOk result (λ d. first_declared (left self.old.cursor.rest.now) ≡ got (declared_view d) (left self.new.cursor.rest.now)) }
         ensures fault { IfErr result (λ e. Fails e (left self.new.cursor.rest.now) (first_declared (left self.old.cursor.rest.now))) }
     {
         let Some(first) = self.cursor.peek() else {
@@ -349,14 +384,14 @@ impl<'a> Reader<'a> {
         };
         let at = first.at;
         match self.declared() {
-            Ok(decl) => Ok(decl),
+            Ok(declared) => Ok(declared),
             Err(fault) => Err(limited(at, fault)),
         }
     }
 
     /// A declaration.
-    pub fn declaration(&mut self) -> Result<Decl, ReadFault>
-        ensures found { IfOk result (λ d. declaration (left self.old.cursor.rest.now) ≡ got (decl_view d) (left self.new.cursor.rest.now)) }
+    pub fn declaration(&mut self) -> Result<Declared, ReadFault>
+        ensures found { IfOk result (λ d. declaration (left self.old.cursor.rest.now) ≡ got (declared_view d) (left self.new.cursor.rest.now)) }
         ensures fault { IfErr result (λ e. Fails e (left self.new.cursor.rest.now) (declaration (left self.old.cursor.rest.now))) }
     {
         self.skips_modifiers();

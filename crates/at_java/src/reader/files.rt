@@ -1,20 +1,22 @@
 //! Aspects, and files of them.
 
-ghost use Rattle.std.specs.Prelude.{◌≡◌, ◌<◌, length, [], map, cond, false, IfOk, IfErr, MatchOption};
+ghost use Rattle.std.specs.Prelude.{◌≡◌, ◌<◌, ◌++◌, ◌∷◌, length, [], map, cond, false, IfOk, IfErr, OnOk, MatchOption};
+ghost use Rattle.std.specs.List.{filter_map};
 ghost use Rattle.at_text.specs.Rows.{left};
-ghost use Rattle.at_jrag.specs.View.{aspect_view};
+ghost use Rattle.at_jrag.specs.View.{decl_view, word_view};
 ghost use Rattle.at_java.specs.Read.{got, fails, here, Fails};
 ghost use Rattle.at_java.specs.declared.JavaCode.TheVariants as code;
-ghost use Rattle.at_java.specs.Seen.{declarations_view};
-ghost use Rattle.at_java.specs.Items.{items_until};
-ghost use Rattle.at_java.specs.Declarations.{declaration};
-ghost use Rattle.at_java.specs.Files.{most_declarations, named_aspect, aspect, most_aspects, aspects, imports, aspects_in};
+ghost use Rattle.at_java.specs.Seen.{constant_view, declared_view, declarations_view, part_view, contents_view};
+ghost use Rattle.at_java.specs.Files.{declarations, named_aspect, aspect, most_aspects, aspects, imports, contents_in, with_part};
 
+use super::constants::Declared;
 use super::{Breach, ReadFault, Reader};
 use crate::JavaCode;
-use at_jrag::{Aspect, Decl};
+use crate::constants::{Constant, Contents};
+use at_jrag::{Aspect, Decl, Word};
 use at_text::cursor::{is_sign, is_word};
 use at_text::place::Place;
+use std::alloc::AllocError;
 
 /// How many declarations an aspect may have.
 const MOST_DECLARATIONS: usize = 65536;
@@ -22,66 +24,141 @@ const MOST_DECLARATIONS: usize = 65536;
 /// How many aspects a file may have.
 const MOST_ASPECTS: usize = 65536;
 
-/// Declarations in front of a closing brace, and its place.
+/// Declarations in front of a closing brace, the constants that they declare, and its place.
 pub struct Declarations {
-    pub items: Vec<Decl>,
+    pub decls: Vec<Decl>,
+    pub constants: Vec<Constant>,
     pub end: Place,
 }
 
 /// One call, where each exit that lets it go would else have one for each field.
 impl Drop for Declarations {
     fn drop(self) {
-        let Declarations { items: _, end: _ } = self;
+        let Declarations {
+            decls: _,
+            constants: _,
+            end: _,
+        } = self;
     }
 }
 
 impl Declarations {
-    /// The declarations alone.
-    fn into_items(self) -> Vec<Decl>
-        ensures { result ≡ self.items }
+    /// Takes one more.
+    fn takes(&mut self, declared: Declared) -> Result<(), AllocError>
+        ensures decls { OnOk result (map decl_view self.new.decls.items ≡ map decl_view self.old.decls.items ++ (declared_view declared).decl ∷ []) }
+        ensures constants { OnOk result (map constant_view self.new.constants.items
+            ≡ map constant_view self.old.constants.items ++ filter_map (λ d. d.constant) (declared_view declared ∷ [])) }
     {
-        let Declarations { items, end: _ } = self;
-        items
+        let Declared { decl, constant } = declared;
+        self.decls.push(decl)?;
+        let Some(constant) = constant else {
+            return Ok(());
+        };
+        self.constants.push(constant)?;
+        Ok(())
     }
+
+    /// The aspect of that name.
+    fn into_part(self, name: Word) -> Part
+        ensures { part_view result
+            ≡ record { aspect = record { name = word_view name; decls = map decl_view self.decls.items }; constants = map constant_view self.constants.items } }
+    {
+        let Declarations {
+            decls,
+            constants,
+            end: _,
+        } = self;
+        Part {
+            aspect: Aspect { name, decls },
+            constants,
+        }
+    }
+}
+
+/// An aspect, and the constants that it declares.
+pub struct Part {
+    pub aspect: Aspect,
+    pub constants: Vec<Constant>,
+}
+
+/// One call, where each exit that lets it go would else have one for each field.
+impl Drop for Part {
+    fn drop(self) {
+        let Part {
+            aspect: _,
+            constants: _,
+        } = self;
+    }
+}
+
+impl Part {
+    /// The aspect and the constants.
+    fn into_parts(self) -> (Aspect, Vec<Constant>)
+        ensures { (result.0 ≡ self.aspect) × (result.1 ≡ self.constants) }
+    {
+        let Part { aspect, constants } = self;
+        (aspect, constants)
+    }
+}
+
+/// Adds the constants.
+fn append(all: &mut Vec<Constant>, more: Vec<Constant>) -> Result<(), AllocError>
+    ensures { OnOk result (all.new.items ≡ all.old.items ++ more.items) }
+{
+    for constant in more {
+        all.push(constant)?;
+    }
+    Ok(())
+}
+
+/// Takes one more aspect, with its constants.
+fn takes(all: &mut Contents, part: Part) -> Result<(), AllocError>
+    ensures { OnOk result (contents_view all.new ≡ with_part (contents_view all.old) (part_view part)) }
+{
+    let (aspect, constants) = part.into_parts();
+    all.aspects.push(aspect)?;
+    append(&mut all.constants, constants)
 }
 
 impl<'a> Reader<'a> {
     /// Declarations up to the closing brace, at most 65,536.
     fn declarations(&mut self) -> Result<Declarations, ReadFault>
-        ensures found { IfOk result (λ d. items_until declaration most_declarations (left self.old.cursor.rest.now)
-            ≡ got (declarations_view d) (left self.new.cursor.rest.now)) }
-        ensures fault { IfErr result (λ e. Fails e (left self.new.cursor.rest.now)
-            (items_until declaration most_declarations (left self.old.cursor.rest.now))) }
+        ensures found { IfOk result (λ d. declarations (left self.old.cursor.rest.now) ≡ got (declarations_view d) (left self.new.cursor.rest.now)) }
+        ensures fault { IfErr result (λ e. Fails e (left self.new.cursor.rest.now) (declarations (left self.old.cursor.rest.now))) }
     {
-        let mut items = Vec::new(self.alloc);
+        let mut all = Declarations {
+            decls: Vec::new(self.alloc),
+            constants: Vec::new(self.alloc),
+            end: Place::START,
+        };
         let mut room = MOST_DECLARATIONS;
         loop {
             if let Some(end) = self.cursor.takes_sign("}") {
-                return Ok(Declarations { items, end });
+                all.end = end;
+                return Ok(all);
             }
             if room == 0 {
                 return Err(ReadFault::For(Breach::Here(JavaCode::Limit)));
             }
             let item = self.declaration()?;
-            items.push(item)?;
+            all.takes(item)?;
             room -= 1;
         }
     }
 
     /// `name "{" { declaration } "}"`
-    fn named_aspect(&mut self) -> Result<Aspect, ReadFault>
-        ensures found { IfOk result (λ a. named_aspect (left self.old.cursor.rest.now) ≡ got (aspect_view a) (left self.new.cursor.rest.now)) }
+    fn named_aspect(&mut self) -> Result<Part, ReadFault>
+        ensures found { IfOk result (λ p. named_aspect (left self.old.cursor.rest.now) ≡ got (part_view p) (left self.new.cursor.rest.now)) }
         ensures fault { IfErr result (λ e. Fails e (left self.new.cursor.rest.now) (named_aspect (left self.old.cursor.rest.now))) }
     {
         let name = self.name()?;
         self.expects("{")?;
-        let decls = self.declarations()?.into_items();
-        Ok(Aspect { name, decls })
+        Ok(self.declarations()?.into_part(name))
     }
 
     /// `"aspect"`, and that.
-    fn aspect(&mut self) -> Result<Aspect, ReadFault>
-        ensures found { IfOk result (λ a. aspect (left self.old.cursor.rest.now) ≡ got (aspect_view a) (left self.new.cursor.rest.now)) }
+    fn aspect(&mut self) -> Result<Part, ReadFault>
+        ensures found { IfOk result (λ p. aspect (left self.old.cursor.rest.now) ≡ got (part_view p) (left self.new.cursor.rest.now)) }
         ensures fault { IfErr result (λ e. Fails e (left self.new.cursor.rest.now) (aspect (left self.old.cursor.rest.now))) }
     {
         if self.cursor.takes_word("aspect").is_none() {
@@ -91,23 +168,26 @@ impl<'a> Reader<'a> {
     }
 
     /// Aspects up to the end, at most 65,536.
-    fn aspects(&mut self) -> Result<Vec<Aspect>, ReadFault>
+    fn aspects(&mut self) -> Result<Contents, ReadFault>
         ensures found { IfOk result (λ v. aspects most_aspects (left self.old.cursor.rest.now)
-            ≡ got (map aspect_view v.items) (left self.new.cursor.rest.now)) }
+            ≡ got (contents_view v) (left self.new.cursor.rest.now)) }
         ensures fault { IfErr result (λ e. Fails e (left self.new.cursor.rest.now) (aspects most_aspects (left self.old.cursor.rest.now))) }
         ensures end { IfOk result (λ v. left self.new.cursor.rest.now ≡ []) }
     {
-        let mut aspects = Vec::new(self.alloc);
+        let mut all = Contents {
+            aspects: Vec::new(self.alloc),
+            constants: Vec::new(self.alloc),
+        };
         let mut room = MOST_ASPECTS;
         loop {
             if self.cursor.count_left() == 0 {
-                return Ok(aspects);
+                return Ok(all);
             }
             if room == 0 {
                 return Err(ReadFault::For(Breach::Here(JavaCode::Limit)));
             }
-            let aspect = self.aspect()?;
-            aspects.push(aspect)?;
+            let part = self.aspect()?;
+            takes(&mut all, part)?;
             room -= 1;
         }
     }
@@ -149,10 +229,10 @@ impl<'a> Reader<'a> {
         Ok(())
     }
 
-    /// The aspects of a file.
-    pub fn file(&mut self) -> Result<Vec<Aspect>, ReadFault>
-        ensures found { IfOk result (λ v. aspects_in (left self.old.cursor.rest.now) ≡ got (map aspect_view v.items) (left self.new.cursor.rest.now)) }
-        ensures fault { IfErr result (λ e. Fails e (left self.new.cursor.rest.now) (aspects_in (left self.old.cursor.rest.now))) }
+    /// What a file holds.
+    pub fn file(&mut self) -> Result<Contents, ReadFault>
+        ensures found { IfOk result (λ v. contents_in (left self.old.cursor.rest.now) ≡ got (contents_view v) (left self.new.cursor.rest.now)) }
+        ensures fault { IfErr result (λ e. Fails e (left self.new.cursor.rest.now) (contents_in (left self.old.cursor.rest.now))) }
         ensures end { IfOk result (λ v. left self.new.cursor.rest.now ≡ []) }
     {
         self.imports()?;

@@ -24,10 +24,9 @@ pub struct Target {
     pub params: Params,
 }
 
-/// A declared attribute, up to its ending.
+/// A declared attribute, behind `lazy` and `final`, up to its ending.
 #[derive(Drop)]
 pub struct Head {
-    pub lazy: Option<Place>,
     pub kind: KindWord,
     pub target: Target,
     pub start: Option<bool>,
@@ -77,19 +76,15 @@ impl<'a> Reader<'a> {
         }
     }
 
-    /// `{ "lazy" | "final" }`, where `nta` behind them is left out.
-    fn laziness(&mut self) -> Result<Option<Place>, ReadFault>
-        ensures found { IfOk result (λ o. laziness None (left self.old.cursor.rest.now) ≡ got o (left self.new.cursor.rest.now)) }
-        ensures fault { IfErr result (λ e. Fails e (left self.new.cursor.rest.now) (laziness None (left self.old.cursor.rest.now))) }
+    /// `{ "lazy" | "final" }`: the place of the last `lazy`.
+    pub fn laziness(&mut self) -> Option<Place>
+        ensures { laziness None (left self.old.cursor.rest.now) ≡ got result (left self.new.cursor.rest.now) }
     {
         let mut lazy = None;
         while let Some(next) = self.takes_lazy(lazy) {
             lazy = next;
         }
-        if self.cursor.is_before_word("nta") {
-            return Err(ReadFault::For(Breach::Here(JavaCode::LeftOut)));
-        }
-        Ok(lazy)
+        lazy
     }
 
     /// `"true" | "false"`
@@ -143,17 +138,15 @@ impl<'a> Reader<'a> {
         Ok(Some(self.start_of(at)?))
     }
 
-    /// A declared attribute, up to its ending.
+    /// A declared attribute, behind `lazy` and `final`, up to its ending.
     pub fn head(&mut self) -> Result<Head, ReadFault>
         ensures found { IfOk result (λ h. head (left self.old.cursor.rest.now) ≡ got (head_view h) (left self.new.cursor.rest.now)) }
         ensures fault { IfErr result (λ e. Fails e (left self.new.cursor.rest.now) (head (left self.old.cursor.rest.now))) }
     {
-        let lazy = self.laziness()?;
         let kind = self.kind()?;
         let target = self.target()?;
         let start = self.circular(&kind)?;
         Ok(Head {
-            lazy,
             kind,
             target,
             start,

@@ -57,7 +57,7 @@ impl<'a> Reader<'a> {
     }
 
     /// Whether the kind goes on that was read last: with arguments, as an array, or from its package.
-    fn goes_on(&self) -> bool
+    pub fn goes_on(&self) -> bool
         ensures { result ≡ next_is goes_on (left self.now.cursor.rest.now) }
     {
         self.cursor.is_before_sign("<")

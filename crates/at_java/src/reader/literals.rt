@@ -10,6 +10,9 @@ ghost use Rattle.at_jrag.specs.Read.{IsNumber, greatest, signed, opens_cast};
 ghost use Rattle.at_jrag.specs.Table.{is_decimal_within, is_number_within, is_quotation, begins_fold};
 ghost use Rattle.at_jrag.specs.View.{expr_view, form_view, fold_view, word_view};
 ghost use Rattle.at_java.specs.Read.{got, Fails};
+ghost use Rattle.at_model.specs.Trees.{Int};
+ghost use Rattle.at_tree.specs.Token.{token_view};
+ghost use Rattle.at_java.specs.Constants.{integer, quotation, begins_operand, operand_code, ends_argument};
 ghost use Rattle.at_java.specs.Operands.{number, text, unquoted, constant, constant_next, called, opens_fold, fold_form, fold_next, sign_next, is_left_out};
 
 use super::forms::leaf;
@@ -23,6 +26,7 @@ use at_text::place::Place;
 use at_text::placed::Placed;
 use at_text::quoted::{QuoteFault, read_text};
 use at_text::token::TokenKind;
+use at_tree::token::TokVal;
 use std::alloc::Global;
 
 /// The number that the digits spell, with a minus before them or without.
@@ -38,6 +42,13 @@ fn number_of(digits: &str, is_negative: bool) -> Option<i32>
         Err(_) if is_negative && value == 2147483648 => Some(i32::MIN),
         Err(_) => None,
     }
+}
+
+/// A number as a token's value.
+fn whole(value: i32) -> TokVal
+    ensures { token_view result ≡ Int value }
+{
+    TokVal::Int(value)
 }
 
 /// Whether the token is a number.
@@ -151,6 +162,16 @@ fn is_left_out(token: &Placed<'_>) -> bool
     is_word(token, "new") || is_word(token, "super") || is_word(token, "switch")
 }
 
+/// Whether an operand begins with the token.
+fn begins_operand(token: &Placed<'_>) -> bool
+    ensures { result ≡ begins_operand (placed token.now) }
+{
+    token.kind != TokenKind::Sign
+        || is_sign(token, "-")
+        || is_sign(token, "!")
+        || is_sign(token, "(")
+}
+
 /// Whether the token makes a cast of the parentheses with a name that stand before it.
 fn follows_cast(token: &Placed<'_>) -> bool
     ensures { result ≡ follows_cast (placed token.now) }
@@ -214,6 +235,41 @@ impl<'a> Reader<'a> {
             Ok(value) => {
                 self.cursor.rest = rest;
                 Ok(leaf(token.at, Form::Text(value)))
+            }
+            Err(QuoteFault::Form) => Err(ReadFault::For(Breach::Here(JavaCode::Syntax))),
+            Err(QuoteFault::Memory) => Err(ReadFault::Memory),
+        }
+    }
+
+    /// Digits as a token's value, with a `-` before them or not.
+    #[tactic(auto, unfolding(crate::specs::Constants::integer))]
+    pub fn integer(&mut self, is_negative: bool) -> Result<TokVal, ReadFault>
+        ensures found { IfOk result (λ v. integer is_negative (left self.old.cursor.rest.now) ≡ got (token_view v) (left self.new.cursor.rest.now)) }
+        ensures fault { IfErr result (λ e. Fails e (left self.new.cursor.rest.now) (integer is_negative (left self.old.cursor.rest.now))) }
+    {
+        let [token, rest @ ..] = self.cursor.rest else {
+            return Err(ReadFault::For(Breach::Here(JavaCode::Syntax)));
+        };
+        let Some(value) = number_in(token, is_negative) else {
+            return Err(ReadFault::For(Breach::Here(JavaCode::Syntax)));
+        };
+        self.cursor.rest = rest;
+        Ok(whole(value))
+    }
+
+    /// A text between quotes as a token's value.
+    #[tactic(auto, unfolding(crate::specs::Constants::quotation))]
+    pub fn quotation(&mut self) -> Result<TokVal, ReadFault>
+        ensures found { IfOk result (λ v. quotation (left self.old.cursor.rest.now) ≡ got (token_view v) (left self.new.cursor.rest.now)) }
+        ensures fault { IfErr result (λ e. Fails e (left self.new.cursor.rest.now) (quotation (left self.old.cursor.rest.now))) }
+    {
+        let [token, rest @ ..] = self.cursor.rest else {
+            return Err(ReadFault::For(Breach::Here(JavaCode::Syntax)));
+        };
+        match text_in(self.alloc, token) {
+            Ok(value) => {
+                self.cursor.rest = rest;
+                Ok(TokVal::of_text(self.alloc, value))
             }
             Err(QuoteFault::Form) => Err(ReadFault::For(Breach::Here(JavaCode::Syntax))),
             Err(QuoteFault::Memory) => Err(ReadFault::Memory),
@@ -290,6 +346,33 @@ impl<'a> Reader<'a> {
         match self.cursor.rest {
             [token, ..] => is_number(token),
             [] => false,
+        }
+    }
+
+    /// Whether a text between quotes is next.
+    pub fn is_before_text(&self) -> bool
+        ensures { result ≡ next_is is_text (left self.now.cursor.rest.now) }
+    {
+        match self.cursor.rest {
+            [token, ..] => is_text(token),
+            [] => false,
+        }
+    }
+
+    /// Whether what ends an argument is next.
+    pub fn ends_argument(&self) -> bool
+        ensures { result ≡ next_is ends_argument (left self.now.cursor.rest.now) }
+    {
+        self.cursor.is_before_sign(",") || self.cursor.is_before_sign(")")
+    }
+
+    /// The code where nothing stands that is read here: another operand is left out.
+    pub fn operand_code(&self) -> JavaCode
+        ensures { result ≡ operand_code (left self.now.cursor.rest.now) }
+    {
+        match self.cursor.rest {
+            [token, ..] if begins_operand(token) => JavaCode::LeftOut,
+            _ => JavaCode::Syntax,
         }
     }
 

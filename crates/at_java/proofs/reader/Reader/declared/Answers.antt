@@ -1,0 +1,9 @@
+use Rattle.std.proofs.Common.{ap}
+use Rattle.at_text.specs.Rows.{left}
+use Rattle.at_java.proofs.Computed.{other_read}
+use Rattle.at_java.proofs.reader.Reader.declared.Goals as goal
+
+pub returns-clause-found : goal.returns-clause-found
+returns-clause-found c =
+    let same = ap (λ r. left r.rest.now) c.in_default.ensures.0 in
+    other_read _ _ _ _ _ c.in_default.ensures.1 same c.in_ok-other_declared.ensures.found c.with_none.ensures
