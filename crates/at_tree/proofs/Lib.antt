@@ -17,6 +17,7 @@ pub mod TermPassing
 pub mod TermMachine
 pub mod TextLaws
 pub mod TreeLoops
+pub mod Unfixed
 pub mod TreeTexts
 pub mod Shaping
 pub mod Made

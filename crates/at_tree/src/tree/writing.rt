@@ -1,15 +1,17 @@
 ghost use Rattle.std.specs.Prelude.{◌≡◌, [], ◌∷◌, ◌++◌, OnOk, OnErr, map};
-ghost use Rattle.at_model.specs.Classes.{name_of};
+ghost use Rattle.at_model.specs.Classes.{name_of, parts};
 ghost use Rattle.at_model.specs.Terms.{tree_text, cell_text, cell_of, token_text};
 ghost use Rattle.at_model.specs.Trees.{Many, to_trees};
 ghost use Rattle.at_tree.specs.Appending.{Appends};
 ghost use Rattle.at_class.specs.Token.{token_view};
 ghost use Rattle.at_class.specs.TreeView.{tree_view, cell_view};
+ghost use Rattle.at_class.specs.View.{part_view};
+ghost use Rattle.at_tree.specs.Fixed.{is_fixed_at};
 ghost use Rattle.at_tree.specs.Separated.{separator};
 
 use super::{Cell, Tree};
 use at_class::token::TokVal;
-use at_class::{ClassId, ClassTable};
+use at_class::{ClassId, ClassTable, Part};
 use at_text::decimal::write_int;
 use at_text::quoted::write_quoted;
 use std::alloc::AllocError;
@@ -35,6 +37,26 @@ fn name_or_none(classes: &ClassTable, class: ClassId) -> &str
         return "";
     }
     classes.name_of(class)
+}
+
+/// The components of the class, none where its number is none of the table's.
+pub fn parts_or_none(classes: &ClassTable, class: ClassId) -> &[Part]
+    ensures { map part_view result.now ≡ parts classes.now class }
+{
+    if class.index() >= classes.len() {
+        return &[];
+    }
+    classes.parts(class)
+}
+
+/// Whether the component at that position is there and fixed: of such a one nothing is written.
+pub fn is_fixed(parts: &[Part], i: usize) -> bool
+    ensures { result ≡ is_fixed_at (map part_view parts.now) i }
+{
+    match parts.get(i) {
+        None => false,
+        Some(part) => part.fixed.is_some(),
+    }
 }
 
 /// Appends a comma before each element but the first. Where memory is wanting, nothing is.
@@ -75,9 +97,15 @@ fn append_tree(classes: &ClassTable, tree: &Tree, out: &mut Vec<u8>) -> Result<(
     ensures { Appends (tree_text classes.now (tree_view tree.now)) result out.old.items out.new.items }
 {
     open(classes, tree.class, out)?;
+    let parts = parts_or_none(classes, tree.class);
+    let mut written = 0;
     for (i, cell) in tree.cells.iter().enumerate() {
-        separate(i, out)?;
+        if is_fixed(parts, i) {
+            continue;
+        }
+        separate(written, out)?;
         append_cell(classes, cell, out)?;
+        written += 1;
     }
     Ok(out.push(b')')?)
 }
