@@ -1,17 +1,18 @@
 ghost use Rattle.std.specs.Prelude.{◌≡◌, IfOk, IfErr, OnOk, Some, map, true};
 ghost use Rattle.at_model.specs.Classes.{AreSound};
 ghost use Rattle.at_model.specs.Trees.{to_trees};
-ghost use Rattle.at_class.specs.View.{shape_view};
+ghost use Rattle.at_model.specs.Trees.{to_cells as to_tree_cells};
+ghost use Rattle.at_class.specs.View.{part_view, shape_view};
 ghost use Rattle.at_class.specs.TreeView.{tree_view};
 ghost use Rattle.at_class.specs.TreeView.{cell_view as tree_cell_view};
-ghost use Rattle.at_tree.specs.View.{term_view, cell_view, to_terms};
+ghost use Rattle.at_tree.specs.View.{term_view, cell_view, to_cells, to_terms};
 ghost use Rattle.at_model.specs.Shaping.{names_classes, names_concrete_class, cell_names_classes, terms_name_classes, shaped, cell_shaped, terms_shaped};
-ghost use Rattle.at_tree.specs.Shape.{IsShaped, IsMisshaped, IsNoneAtFit};
+ghost use Rattle.at_tree.specs.Shape.{IsShaped, IsMisshaped, IsNoneAtFit, fixed_shaped, parts_shaped};
 
-use super::conforming::is_of_kind;
+use super::conforming::{cell_fits, is_of_kind};
 use super::{Cell, Tree};
 use crate::term::{Term, TermCell};
-use at_class::{ClassId, ClassTable, PartShape};
+use at_class::{ClassId, ClassTable, Part, PartShape};
 use std::alloc::{AllocError, AllocFailed, Global};
 
 /// Why a term is no tree under a class.
@@ -143,16 +144,55 @@ fn shape_tree(
     if !classes.fits(class, under) {
         return Err(ShapeFault::Fit);
     }
-    let parts = classes.parts(class);
-    let written = term.cells.as_slice();
-    if parts.len() != written.len() {
+    let cells = shape_cells(alloc, classes, &term.cells, classes.parts(class))?;
+    Ok(Tree { class, cells })
+}
+
+/// A copy of what is fixed in a component, where it is of the shape.
+fn plant(
+    alloc: Global,
+    classes: &ClassTable,
+    fixed: &Cell,
+    shape: PartShape,
+) -> Result<Cell, ShapeFault>
+    ensures found { IfOk result (λ c. fixed_shaped classes.now (tree_cell_view fixed.now) (shape_view shape) ≡ Some (tree_cell_view c)) }
+    ensures refused { IfErr result (IsNoneAtFit (fixed_shaped classes.now (tree_cell_view fixed.now) (shape_view shape))) }
+{
+    if !cell_fits(classes, fixed, shape) {
         return Err(ShapeFault::Fit);
     }
-    let mut cells = Vec::with_capacity(alloc, written.len())?;
-    for (i, cell) in written.iter().enumerate() {
-        cells.push(shape_cell(alloc, classes, cell, parts[i].shape)?)?;
+    Ok(fixed.copied(alloc)?)
+}
+
+/// What the components hold: what is fixed in them, and in the others the cells that are written.
+#[cycle(shape)]
+fn shape_cells(
+    alloc: Global,
+    classes: &ClassTable,
+    written: &[TermCell],
+    parts: &[Part],
+) -> Result<Vec<Cell>, ShapeFault>
+    ensures found { IfOk result
+        (λ v. parts_shaped classes.now (to_cells (map cell_view written.now)) (map part_view parts.now) ≡ Some (to_tree_cells (map tree_cell_view v.items))) }
+    ensures refused { IfErr result (IsNoneAtFit (parts_shaped classes.now (to_cells (map cell_view written.now)) (map part_view parts.now))) }
+{
+    let mut cells = Vec::with_capacity(alloc, parts.len())?;
+    let mut taken = 0;
+    for part in parts {
+        if let Some(fixed) = &part.fixed {
+            cells.push(plant(alloc, classes, fixed, part.shape)?)?;
+            continue;
+        }
+        if taken >= written.len() {
+            return Err(ShapeFault::Fit);
+        }
+        cells.push(shape_cell(alloc, classes, &written[taken], part.shape)?)?;
+        taken += 1;
     }
-    Ok(Tree { class, cells })
+    if taken < written.len() {
+        return Err(ShapeFault::Fit);
+    }
+    Ok(cells)
 }
 
 #[cycle(shape)]

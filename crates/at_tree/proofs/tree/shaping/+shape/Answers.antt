@@ -7,9 +7,10 @@ use Rattle.at_model.specs.Classes.{class_of_name, Maybe}
 use Rattle.at_model.specs.Trees.{Node, Filled}
 use Rattle.at_model.specs.Shaping.{cell_shaped, shaped}
 use Rattle.at_class.specs.TreeView.{tree_view, cell_view}
-use Rattle.at_tree.specs.View.{term_view, cell_view as term_cell_view}
+use Rattle.at_tree.specs.Shape.{parts_shaped}
+use Rattle.at_tree.specs.View.{term_view, to_cells, cell_view as term_cell_view}
 use Rattle.at_tree.proofs.Made.{made_tree, made_filled, term_one}
-use Rattle.at_tree.proofs.Shaping.{cells_from, cells_from-more, cells_from-none, cells_from-end, cells_from-lengths, trees_from, trees_from-more, trees_from-end, shaped-whole, onto_cells, onto_trees, unfit_when}
+use Rattle.at_tree.proofs.Shaping.{parts_from, fixed_from-more, fixed_from-none, written_from-more, written_from-none, parts_from-short, parts_from-long, parts_from-end, trees_from, trees_from-more, trees_from-end, shaped-whole, onto_cells, onto_trees, unfit_when}
 use Rattle.at_tree.proofs.tree.shaping.+shape.Goals as goal
 
 pub shape_cell-returns-in_ok-shape_tree-in-One-Maybe-clause-found : goal.shape_cell-returns-in_ok-shape_tree-in-One-Maybe-clause-found
@@ -31,35 +32,78 @@ pub shape_list-returns-clause-found : goal.shape_list-returns-clause-found
 shape_list-returns-clause-found t c =
     trees_from-end c.args.classes.now c.args.terms.now c.args.under c.loop-term.term-index (map tree_view c.loop-term.trees.items) _ c.loop-term-test.false c.loop-term.invariant
 
-pub shape_tree-returns-then-parts-written-clause-refused : goal.shape_tree-returns-then-parts-written-clause-refused
-shape_tree-returns-then-parts-written-clause-refused t c =
-    let whole = shaped-whole c.args.classes.now c.args.term.now c.args.under c.in-Some.class c.as_slice-written.result.now c.parts-parts.result.now c.as_slice-written.ensures.value (ap (class_of_name c.args.classes.now) (sym c.as_str.ensures.value) ∙ sym c.id_of.ensures.found ∙ c.in-Some.is) c.parts-parts.ensures (sym c.fits.ensures.fits ∙ c.if-not-fits.false) in
-    whole ∙ ap (option_map (Node c.in-Some.class)) (cells_from-lengths c.args.classes.now c.as_slice-written.result.now c.parts-parts.result.now c.if-parts-written.true)
-
-pub shape_tree-returns-in_err-shape_cell-clause-refused : goal.shape_tree-returns-in_err-shape_cell-clause-refused
-shape_tree-returns-in_err-shape_cell-clause-refused t c =
+pub shape_tree-returns-in_err-cells-clause-refused : goal.shape_tree-returns-in_err-cells-clause-refused
+shape_tree-returns-in_err-cells-clause-refused t c =
     let classes = c.args.classes.now in
-    let whole = shaped-whole c.args.classes.now c.args.term.now c.args.under c.in-Some.class c.as_slice-written.result.now c.parts-parts.result.now c.as_slice-written.ensures.value (ap (class_of_name c.args.classes.now) (sym c.as_str.ensures.value) ∙ sym c.id_of.ensures.found ∙ c.in-Some.is) c.parts-parts.ensures (sym c.fits.ensures.fits ∙ c.if-not-fits.false) in
-    let p = err_from_is_err_and c.from_residual-in_err-shape_cell.result c.from_residual-in_err-shape_cell.ensures.1 in
-    rw (p.1, p.2) (unfit_when _ (shaped classes (term_view c.args.term.now) c.args.under) _
-    (λ none. whole ∙ ap (option_map (Node c.in-Some.class))
-    (cells_from-none classes c.as_slice-written.result.now c.parts-parts.result.now c.loop-i.i c.index-written-i.result c.index-parts-i.result (map cell_view c.loop-i.cells.items) _
-    (omega arith) (omega (arith, c.if-parts-written.false)) c.index-written-i.is c.index-parts-i.is
-    (ap (λ q. cell_shaped classes (term_cell_view c.index-written-i.result) (part_view q).shape) c.index-parts-i.is ∙ none) c.loop-i.invariant))
-    c.in_err-shape_cell.ensures.refused)
-
-pub shape_tree-loop-i-preserved : goal.shape_tree-loop-i-preserved
-shape_tree-loop-i-preserved t c =
-    let shape = ap (λ q. cell_shaped c.args.classes.now (term_cell_view c.index-written-i.result) (part_view q).shape) c.index-parts-i.is ∙ c.in_ok-shape_cell.ensures.found in
-    cells_from-more c.args.classes.now c.as_slice-written.result.now c.parts-parts.result.now c.loop-i.i c.index-written-i.result c.index-parts-i.result (map cell_view c.loop-i.cells.items) (cell_view c.in_ok-shape_cell.field-0) _
-    (omega arith) (omega (arith, c.if-parts-written.false)) c.index-written-i.is c.index-parts-i.is shape c.loop-i.invariant
-    ∙ ap (λ us. option_map (onto_cells us) (cells_from c.args.classes.now c.as_slice-written.result.now c.parts-parts.result.now (c.loop-i.i + 1)))
-    (sym (ap (map cell_view) c.in_ok-push.ensures.items ∙ map-append cell_view c.loop-i.cells.items (c.in_ok-shape_cell.field-0 ∷ [])))
+    let named = ap (class_of_name classes) (sym c.as_str.ensures.value) ∙ sym c.id_of.ensures.found ∙ c.in-Some.is in
+    let whole = shaped-whole classes c.args.term.now c.args.under c.in-Some.class c.deref.result.now c.parts.result.now c.deref.ensures.value named c.parts.ensures (sym c.fits.ensures.fits ∙ c.if-not-fits.false) in
+    let p = err_from_is_err_and c.from_residual.result c.from_residual.ensures.1 in
+    rw (p.1, p.2) (unfit_when _ (shaped classes (term_view c.args.term.now) c.args.under) _ (λ none. whole ∙ ap (option_map (Node c.in-Some.class)) none) c.in_err-cells.ensures.refused)
 
 pub shape_tree-returns-clause-found : goal.shape_tree-returns-clause-found
 shape_tree-returns-clause-found t c =
-    let whole = shaped-whole c.args.classes.now c.args.term.now c.args.under c.in-Some.class c.as_slice-written.result.now c.parts-parts.result.now c.as_slice-written.ensures.value (ap (class_of_name c.args.classes.now) (sym c.as_str.ensures.value) ∙ sym c.id_of.ensures.found ∙ c.in-Some.is) c.parts-parts.ensures (sym c.fits.ensures.fits ∙ c.if-not-fits.false) in
-    let past : length c.parts-parts.result.now ≤ c.loop-i.i = omega (arith, c.if-parts-written.false) in
-    whole
-    ∙ ap (option_map (Node c.in-Some.class)) (cells_from-end c.args.classes.now c.as_slice-written.result.now c.parts-parts.result.now c.loop-i.i (map cell_view c.loop-i.cells.items) _ c.loop-i-test.false past c.loop-i.invariant)
-    ∙ ap Some (sym (made_tree c.in-Some.class c.loop-i.cells))
+    let classes = c.args.classes.now in
+    let named = ap (class_of_name classes) (sym c.as_str.ensures.value) ∙ sym c.id_of.ensures.found ∙ c.in-Some.is in
+    let whole = shaped-whole classes c.args.term.now c.args.under c.in-Some.class c.deref.result.now c.parts.result.now c.deref.ensures.value named c.parts.ensures (sym c.fits.ensures.fits ∙ c.if-not-fits.false) in
+    whole ∙ ap (option_map (Node c.in-Some.class)) c.in_ok-cells.ensures.found ∙ ap Some (sym (made_tree c.in-Some.class c.in_ok-cells.cells))
+
+pub shape_cells-loop-part-preserved-in-Some : goal.shape_cells-loop-part-preserved-in-Some
+shape_cells-loop-part-preserved-in-Some t c =
+    let classes = c.args.classes.now in
+    let xs = c.args.written.now in
+    let ps = c.args.parts.now in
+    let k = c.loop-part.taken in
+    let i = c.loop-part.part-index in
+    let done = map cell_view c.loop-part.cells.items in
+    let pushed = ap (map cell_view) c.in_ok-push.ensures.items ∙ map-append cell_view c.loop-part.cells.items (c.in_ok-plant.field-0 ∷ []) in (
+      fixed_from-more classes xs ps k i c.part-item.result (cell_view c.in-Some.fixed) done (cell_view c.in_ok-plant.field-0) _ (omega arith) c.part-item.is (ap (option_map cell_view) c.in-Some.is)
+          c.in_ok-plant.ensures.found c.loop-part.invariant.0
+          ∙ ap (λ us. option_map (onto_cells us) (parts_from classes xs ps k (i + 1))) (sym pushed),
+      omega (arith, c.loop-part.invariant.1),
+    )
+
+pub shape_cells-loop-part-preserved : goal.shape_cells-loop-part-preserved
+shape_cells-loop-part-preserved t c =
+    let classes = c.args.classes.now in
+    let xs = c.args.written.now in
+    let ps = c.args.parts.now in
+    let k = c.loop-part.taken in
+    let i = c.loop-part.part-index in
+    let done = map cell_view c.loop-part.cells.items in
+    let pushed = ap (map cell_view) c.in_ok-push-2.ensures.items ∙ map-append cell_view c.loop-part.cells.items (c.in_ok-shape_cell.field-0 ∷ []) in (
+      written_from-more classes xs ps k i c.index-written-taken.result c.part-item.result done (cell_view c.in_ok-shape_cell.field-0) _ c.if-taken-written.false (omega arith) c.index-written-taken.is c.part-item.is
+          (ap (option_map cell_view) c.in_default.is) c.in_ok-shape_cell.ensures.found c.loop-part.invariant.0
+          ∙ ap (λ us. option_map (onto_cells us) (parts_from classes xs ps (k + 1) (i + 1))) (sym pushed),
+      omega (arith, c.loop-part.invariant.1),
+    )
+
+pub shape_cells-returns-then-taken-written-2-clause-refused : goal.shape_cells-returns-then-taken-written-2-clause-refused
+shape_cells-returns-then-taken-written-2-clause-refused t c =
+    parts_from-long c.args.classes.now c.args.written.now c.args.parts.now c.loop-part.taken c.loop-part.part-index (map cell_view c.loop-part.cells.items) _ c.if-taken-written-2.true c.loop-part-test.false c.loop-part.invariant.0
+
+pub shape_cells-returns-clause-found : goal.shape_cells-returns-clause-found
+shape_cells-returns-clause-found t c =
+    parts_from-end c.args.classes.now c.args.written.now c.args.parts.now c.loop-part.taken c.loop-part.part-index (map cell_view c.loop-part.cells.items) _ c.if-taken-written-2.false c.loop-part-test.false c.loop-part.invariant.0
+
+pub shape_cells-returns-in_err-plant-clause-refused : goal.shape_cells-returns-in_err-plant-clause-refused
+shape_cells-returns-in_err-plant-clause-refused t c =
+    let classes = c.args.classes.now in
+    let p = err_from_is_err_and c.from_residual-in_err-plant.result c.from_residual-in_err-plant.ensures.1 in
+    rw (p.1, p.2) (unfit_when _ (parts_shaped classes (to_cells (map term_cell_view c.args.written.now)) (map part_view c.args.parts.now)) _
+    (λ none. fixed_from-none classes c.args.written.now c.args.parts.now c.loop-part.taken c.loop-part.part-index c.part-item.result (cell_view c.in-Some.fixed) (map cell_view c.loop-part.cells.items) _
+    (omega arith) c.part-item.is (ap (option_map cell_view) c.in-Some.is) none c.loop-part.invariant.0)
+    c.in_err-plant.ensures.refused)
+
+pub shape_cells-returns-then-taken-written-clause-refused : goal.shape_cells-returns-then-taken-written-clause-refused
+shape_cells-returns-then-taken-written-clause-refused t c =
+    parts_from-short c.args.classes.now c.args.written.now c.args.parts.now c.loop-part.taken c.loop-part.part-index c.part-item.result (map cell_view c.loop-part.cells.items) _
+    c.if-taken-written.true (omega arith) c.part-item.is (ap (option_map cell_view) c.in_default.is) c.loop-part.invariant.0
+
+pub shape_cells-returns-in_err-shape_cell-clause-refused : goal.shape_cells-returns-in_err-shape_cell-clause-refused
+shape_cells-returns-in_err-shape_cell-clause-refused t c =
+    let classes = c.args.classes.now in
+    let p = err_from_is_err_and c.from_residual-in_err-shape_cell.result c.from_residual-in_err-shape_cell.ensures.1 in
+    rw (p.1, p.2) (unfit_when _ (parts_shaped classes (to_cells (map term_cell_view c.args.written.now)) (map part_view c.args.parts.now)) _
+    (λ none. written_from-none classes c.args.written.now c.args.parts.now c.loop-part.taken c.loop-part.part-index c.index-written-taken.result c.part-item.result (map cell_view c.loop-part.cells.items) _
+    c.if-taken-written.false (omega arith) c.index-written-taken.is c.part-item.is (ap (option_map cell_view) c.in_default.is) none c.loop-part.invariant.0)
+    c.in_err-shape_cell.ensures.refused)
