@@ -16,6 +16,7 @@ pub mod PathSteps
 pub mod PlainNames
 pub mod Laws
 pub mod Separated
+pub mod Fixed
 pub mod Appending
 pub mod Fronts
 pub mod TermFronts

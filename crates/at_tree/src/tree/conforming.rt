@@ -1,12 +1,13 @@
 ghost use Rattle.std.specs.Prelude.{◌≡◌, map};
 ghost use Rattle.at_model.specs.Trees.{conforms, cell_conforms, trees_conform, is_of_kind, to_trees};
-ghost use Rattle.at_class.specs.View.{shape_view, token_kind_view};
+ghost use Rattle.at_class.specs.View.{part_view, shape_view, token_kind_view};
 ghost use Rattle.at_class.specs.Token.{token_view};
 ghost use Rattle.at_class.specs.TreeView.{tree_view, cell_view};
+ghost use Rattle.at_tree.specs.Fixed.{stands};
 
 use super::{Cell, Tree};
 use at_class::token::TokVal;
-use at_class::{ClassId, ClassTable, PartShape, TokenKind};
+use at_class::{ClassId, ClassTable, Part, PartShape, TokenKind};
 
 /// Whether the value is of the kind.
 pub fn is_of_kind(value: &TokVal, kind: TokenKind) -> bool
@@ -20,8 +21,18 @@ pub fn is_of_kind(value: &TokVal, kind: TokenKind) -> bool
     }
 }
 
+/// Whether what is fixed in the component stands in the cell, if anything is.
+fn stands(part: &Part, cell: &Cell) -> bool
+    ensures { result ≡ stands (part_view part.now) (cell_view cell.now) }
+{
+    match &part.fixed {
+        None => true,
+        Some(fixed) => fixed.is_same(cell),
+    }
+}
+
 /// Whether the tree may stand where that class is asked: its class fits, its cells are one for each component, each of its shape
-/// and kind, and so on down. False of a class number that is none of the table's.
+/// and kind, and so on down, and in fixed components stands what is fixed. False of a class number that is none of the table's.
 #[cycle(fits)]
 pub fn fits(classes: &ClassTable, tree: &Tree, under: ClassId) -> bool
     ensures { result ≡ conforms classes.now (tree_view tree.now) under }
@@ -35,15 +46,20 @@ pub fn fits(classes: &ClassTable, tree: &Tree, under: ClassId) -> bool
         return false;
     }
     for (i, cell) in cells.iter().enumerate() {
-        if !cell_fits(classes, cell, parts[i].shape) {
+        let part = &parts[i];
+        if !cell_fits(classes, cell, part.shape) {
+            return false;
+        }
+        if !stands(part, cell) {
             return false;
         }
     }
     true
 }
 
+/// Whether the cell is of the shape, and so on down.
 #[cycle(fits)]
-fn cell_fits(classes: &ClassTable, cell: &Cell, shape: PartShape) -> bool
+pub(super) fn cell_fits(classes: &ClassTable, cell: &Cell, shape: PartShape) -> bool
     ensures { result ≡ cell_conforms classes.now (cell_view cell.now) (shape_view shape) }
 {
     match (cell, shape) {
