@@ -1,12 +1,14 @@
 -- What is left of a list, one for each component, where those of fixed components are left out.
 use Rattle.std.proofs.Common.{◌≡◌, ℕ, ◌+◌, ◌<◌, ◌≤◌, suc, Bool, true, false, if◌then◌else◌, List, [], ◌∷◌, ◌++◌, length, take, get_or, map, refl, ap, sym, ◌∙◌, subst, arith, add-one, length-take-le}
 use Rattle.std.specs.List.{slice_get, flat_map}
-use Rattle.std.specs.Prelude.{reverse, option_and_then, zero, Option, Some, None}
+use Rattle.std.specs.Prelude.{reverse, option_and_then, option_map, zero, Option, Some, None}
 use Rattle.std.proofs.Math.Seq.{take-suc}
 use Rattle.std.proofs.lemmas.List.{map-append, length-map}
-use Rattle.std.proofs.lemmas.Option.{slice_get_past}
+use Rattle.std.proofs.lemmas.Option.{slice_get_past, slice_get_read, slice_get-map}
 use Rattle.at_model.specs.Classes.{Classes, Class, Component, is_fixed, parts, chain, chain_within, own_of}
 use Rattle.at_model.specs.Terms.{Cells, no_cells, cell, cell_text, cell_texts, written}
+use Rattle.at_class.specs.View.{part_view}
+use Rattle.at_class.specs.declared.part.Part.{Part}
 use Rattle.at_tree.specs.Fixed.{is_fixed_at}
 
 abbrev pub unfixed : {A : Type 0} → List Component → List A → List A
@@ -44,6 +46,10 @@ written_texts (p ∷ ps) (cell c cs) = by_fixed (is_fixed p) (written_texts ps c
         → cell_texts (if b then written ps cs else cell c (written ps cs)) ≡ (if b then unfixed ps (cell_texts cs) else cell_text c ∷ unfixed ps (cell_texts cs))
     by_fixed true more = more
     by_fixed false more = ap (λ ys. cell_text c ∷ ys) more
+
+-- the component at that position, as a list shows it
+pub component_at : (ps : List Part) (i : ℕ) (p : Part) → i < length ps → p ≡ get_or ps i p → slice_get (map part_view ps) i ≡ Some (part_view p)
+component_at ps i p less is = slice_get-map part_view ps i ∙ ap (option_map part_view) (slice_get_read ps (length ps) i p refl less is)
 
 -- the first so many -------------------------------------------------------------------------------------------------
 

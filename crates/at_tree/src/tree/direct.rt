@@ -1,7 +1,7 @@
 //! A tree in one pass over its text, with no term in between.
-ghost use Rattle.std.specs.Prelude.{◌≡◌, ◌++◌, IfOk, OnOk, map};
+ghost use Rattle.std.specs.Prelude.{◌≡◌, ◌++◌, IfOk, OnOk, map, true};
 ghost use Rattle.at_model.specs.Classes.{AreSound, Many, Maybe};
-ghost use Rattle.at_model.specs.Trees.{to_cells, to_trees};
+ghost use Rattle.at_model.specs.Trees.{cell_conforms, to_cells, to_trees};
 ghost use Rattle.at_model.specs.Trees as tree;
 ghost use Rattle.at_class.specs.View.{part_view, shape_view};
 ghost use Rattle.at_class.specs.TreeView.{tree_view, cell_view};
@@ -9,6 +9,7 @@ ghost use Rattle.at_tree.specs.Separated.{separator};
 ghost use Rattle.at_tree.specs.ReadTrees.{IsReadAs};
 ghost use Rattle.at_tree.specs.Fronts.{IsTreeFront, IsCellFront, AreCellsFront};
 
+use super::conforming::cell_fits;
 use super::front::{Front, take, take_class, take_value, takes};
 use super::{Cell, Tree};
 use crate::fault::{Misfit, Untaken};
@@ -56,7 +57,23 @@ pub(super) fn take_tree(
     Ok(Tree { class, cells })
 }
 
-/// Takes a cell for each component, and the parenthesis behind them.
+/// A copy of what is fixed in a component, where it is of the shape.
+fn plant(
+    alloc: Global,
+    classes: &ClassTable,
+    fixed: &Cell,
+    shape: PartShape,
+) -> Result<Cell, Untaken>
+    ensures fits { IfOk result (λ c. cell_conforms classes.now (cell_view c) (shape_view shape) ≡ true) }
+    ensures same { IfOk result (λ c. cell_view c ≡ cell_view fixed.now) }
+{
+    if !cell_fits(classes, fixed, shape) {
+        return Err(Untaken::For(Misfit::Form));
+    }
+    Ok(fixed.copied(alloc)?)
+}
+
+/// Takes a cell for each component that isn't fixed, and the parenthesis behind them. In the others stands what is fixed there.
 #[cycle(take)]
 fn take_cells(
     alloc: Global,
@@ -69,10 +86,16 @@ fn take_cells(
         (λ cells. AreCellsFront classes.now front.old.rest.now front.new.rest.now (map part_view parts.now) levels (to_cells (map cell_view cells.items))) }
 {
     let mut cells = Vec::with_capacity(alloc, parts.len())?;
-    for (i, part) in parts.iter().enumerate() {
-        take_separator(front, i)?;
+    let mut taken = 0;
+    for part in parts {
+        if let Some(fixed) = &part.fixed {
+            cells.push(plant(alloc, classes, fixed, part.shape)?)?;
+            continue;
+        }
+        take_separator(front, taken)?;
         let cell = take_cell(alloc, classes, front, part.shape, levels)?;
         cells.push(cell)?;
+        taken += 1;
     }
     take(front, ')')?;
     Ok(cells)

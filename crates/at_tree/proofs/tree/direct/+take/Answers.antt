@@ -1,4 +1,5 @@
 use Rattle.std.proofs.Common.{◌+◌, ◌∙◌, [], ◌∷◌, ◌++◌, ap, sym, arith, map, refl, subst}
+use Rattle.std.specs.Option.{option_map}
 use Rattle.std.proofs.lemmas.List.{map-append}
 use Rattle.at_class.specs.View.{part_view}
 use Rattle.at_model.specs.Classes.{Many, Maybe}
@@ -7,7 +8,7 @@ use Rattle.at_model.specs.Trees.{Cell, to_cells, to_trees}
 use Rattle.at_class.specs.TreeView.{tree_view, cell_view}
 use Rattle.at_tree.specs.Fronts.{IsCellFront}
 use Rattle.at_tree.proofs.Made.{made_tree, made_empty, made_filled}
-use Rattle.at_tree.proofs.FrontsLemmas.{tree_front, HasCells, HasTrees, has_none, one_cell_more, all_cells, empty_list, first_tree, one_tree_more, whole_list, shorter}
+use Rattle.at_tree.proofs.FrontsLemmas.{tree_front, HasCells, HasTrees, has_none, one_fixed_more, one_cell_more, all_cells, empty_list, first_tree, one_tree_more, whole_list, shorter}
 use Rattle.at_tree.proofs.tree.direct.+take.Goals as goal
 
 pub take_tree-returns-clause-front : goal.take_tree-returns-clause-front
@@ -16,21 +17,31 @@ take_tree-returns-clause-front t c =
     (to_cells (map cell_view c.in_ok-cells.cells.items)) _ (omega (arith, c.if-levels-eq0.false)) c.in_ok-class.ensures.named c.in_ok-class.ensures.fits c.in_ok-class.ensures.taken c.parts.ensures c.in_ok-cells.ensures
     (made_tree c.in_ok-class.class c.in_ok-cells.cells)
 
-pub take_cells-loop-i-init : goal.take_cells-loop-i-init
-take_cells-loop-i-init t c = has_none c.args.classes.now c.args.front.now.rest.now (map part_view c.args.parts.now) c.args.levels _ (ap (map cell_view) c.in_ok-cells.ensures.items)
+pub take_cells-loop-part-init : goal.take_cells-loop-part-init
+take_cells-loop-part-init t c = has_none c.args.classes.now c.args.front.now.rest.now (map part_view c.args.parts.now) c.args.levels _ (ap (map cell_view) c.in_ok-cells.ensures.items)
 
-pub take_cells-loop-i-preserved : goal.take_cells-loop-i-preserved
-take_cells-loop-i-preserved t c =
+pub take_cells-loop-part-preserved-in-Some : goal.take_cells-loop-part-preserved-in-Some
+take_cells-loop-part-preserved-in-Some t c =
     let classes = c.args.classes.now in
     let ps = map part_view c.args.parts.now in
-    let pushed = ap (map cell_view) {y = c.loop-i.cells.items ++ c.in_ok-cell.cell ∷ []} c.in_ok-push.ensures.items ∙ map-append cell_view c.loop-i.cells.items (c.in_ok-cell.cell ∷ []) in
-    subst (HasCells classes c.args.front.now.rest.now c.take_cell.new.front.rest.now ps c.args.levels (c.loop-i.i + 1)) (sym pushed)
-    (one_cell_more classes c.args.front.now.rest.now c.loop-i.front.rest.now c.take_separator.new.front.rest.now c.take_cell.new.front.rest.now c.args.parts.now c.args.levels c.loop-i.i (map cell_view c.loop-i.cells.items)
-    c.index-parts-i.result (cell_view c.in_ok-cell.cell) (omega arith) c.index-parts-i.is c.loop-i.invariant c.in_ok-take_separator.ensures c.in_ok-cell.ensures)
+    let pushed = ap (map cell_view) c.in_ok-push.ensures.items ∙ map-append cell_view c.loop-part.cells.items (c.in_ok-plant.field-0 ∷ []) in
+    subst (HasCells classes c.args.front.now.rest.now c.loop-part.front.rest.now ps c.args.levels (c.loop-part.part-index + 1) c.loop-part.taken) (sym pushed)
+    (one_fixed_more classes c.args.front.now.rest.now c.loop-part.front.rest.now c.args.parts.now c.args.levels c.loop-part.part-index c.loop-part.taken (map cell_view c.loop-part.cells.items)
+    c.part-item.result (cell_view c.in-Some.fixed) (cell_view c.in_ok-plant.field-0) (omega arith) c.part-item.is (ap (option_map cell_view) c.in-Some.is) c.loop-part.invariant c.in_ok-plant.ensures.fits c.in_ok-plant.ensures.same)
+
+pub take_cells-loop-part-preserved : goal.take_cells-loop-part-preserved
+take_cells-loop-part-preserved t c =
+    let classes = c.args.classes.now in
+    let ps = map part_view c.args.parts.now in
+    let pushed = ap (map cell_view) {y = c.loop-part.cells.items ++ c.in_ok-cell.cell ∷ []} c.in_ok-push-2.ensures.items ∙ map-append cell_view c.loop-part.cells.items (c.in_ok-cell.cell ∷ []) in
+    subst (HasCells classes c.args.front.now.rest.now c.take_cell.new.front.rest.now ps c.args.levels (c.loop-part.part-index + 1) (c.loop-part.taken + 1)) (sym pushed)
+    (one_cell_more classes c.args.front.now.rest.now c.loop-part.front.rest.now c.take_separator.new.front.rest.now c.take_cell.new.front.rest.now c.args.parts.now c.args.levels c.loop-part.part-index c.loop-part.taken
+    (map cell_view c.loop-part.cells.items) c.part-item.result (cell_view c.in_ok-cell.cell) (omega arith) c.part-item.is (ap (option_map cell_view) c.in_default.is) c.loop-part.invariant c.in_ok-take_separator.ensures c.in_ok-cell.ensures)
 
 pub take_cells-returns : goal.take_cells-returns
 take_cells-returns t c =
-    all_cells c.args.classes.now c.args.front.now.rest.now c.loop-i.front.rest.now c.take.new.front.rest.now c.args.parts.now c.args.levels c.loop-i.i (map cell_view c.loop-i.cells.items) c.loop-i-test.false c.loop-i.invariant c.in_ok-take.ensures
+    all_cells c.args.classes.now c.args.front.now.rest.now c.loop-part.front.rest.now c.take.new.front.rest.now c.args.parts.now c.args.levels c.loop-part.part-index c.loop-part.taken (map cell_view c.loop-part.cells.items)
+    c.loop-part-test.false c.loop-part.invariant c.in_ok-take.ensures
 
 pub take_optional-returns-then-takes : goal.take_optional-returns-then-takes
 take_optional-returns-then-takes t c =

@@ -19,8 +19,8 @@ decreases-take_cell l = 5 * l.levels + 3
 abbrev pub decreases-take_cells : goal.decreases-take_cells
 decreases-take_cells l = 5 * l.levels + 4
 
-abbrev pub invariant-take_cells-loop-i : goal.invariant-take_cells-loop-i
-invariant-take_cells-loop-i l = HasCells l.classes l.fn.front.rest.now l.front.rest.now (map part_view l.parts) l.levels l.i (map cell_view l.cells.items)
+abbrev pub invariant-take_cells-loop-part : goal.invariant-take_cells-loop-part
+invariant-take_cells-loop-part l = HasCells l.classes l.fn.front.rest.now l.front.rest.now (map part_view l.parts) l.levels l.part-index l.taken (map cell_view l.cells.items)
 
 abbrev pub invariant-take_list-loop-alloc : goal.invariant-take_list-loop-alloc
 invariant-take_list-loop-alloc l = HasTrees l.classes l.fn.front.rest.now l.front.rest.now l.under l.levels (map tree_view l.trees.items)
