@@ -95,7 +95,8 @@ conform-push classes (x ∷ xs) [] c p h k = absurd (cc)
 conform-push classes (x ∷ xs) (q ∷ qs) c p h k = let both = and_both (cell_conforms classes x q.shape) (cells_conform classes (to_cells xs) qs) h in and_true _ _ both.0 (conform-push classes xs qs c p both.1 k)
 
 -- with one more cell: the one behind these is fixed, or isn't
-written-same : (classes : Classes) (ps : List Component) (cs : List Cell) (c : Cell) → is_fixed_at ps (length cs) ≡ true → written ps (cells_of classes (to_cells (cs ++ c ∷ []))) ≡ written ps (cells_of classes (to_cells cs))
+written-same : (classes : Classes) (ps : List Component) (cs : List Cell) (c : Cell) → is_fixed_at ps (length cs) ≡ true
+    → written ps (cells_of classes (to_cells (cs ++ c ∷ []))) ≡ written ps (cells_of classes (to_cells cs))
 written-same classes [] cs c e = absurd cc
 written-same classes (p ∷ ps) [] c e = ap (λ b. if b then written ps no_terms_cells else term_cell (cell_of classes c) (written ps no_terms_cells)) e ∙ nothing_written ps
 written-same classes (p ∷ ps) (x ∷ xs) c e = ap (λ ys. if is_fixed p then ys else term_cell (cell_of classes x) ys) (written-same classes ps xs c e)
@@ -108,7 +109,8 @@ texts-more classes ps cs c free =
     ∙ unfixed-more ps (cell_texts so_far) (cell_text (cell_of classes c)) (ap (is_fixed_at ps) (texts-length classes cs) ∙ free)
     ∙ ap (λ ys. ys ++ cell_text (cell_of classes c) ∷ []) (sym (written_texts ps so_far))
 
-within-push : (classes : Classes) (levels : ℕ) (ps : List Component) (cs : List Cell) (c : Cell) → AreCellsWithin levels (written ps (cells_of classes (to_cells cs))) → IsCellWithin levels (cell_of classes c)
+within-push : (classes : Classes) (levels : ℕ) (ps : List Component) (cs : List Cell) (c : Cell) → AreCellsWithin levels (written ps (cells_of classes (to_cells cs)))
+    → IsCellWithin levels (cell_of classes c)
     → AreCellsWithin levels (written ps (cells_of classes (to_cells (cs ++ c ∷ []))))
 within-push classes levels [] [] c h k = (k, tt)
 within-push classes levels [] (x ∷ xs) c h k = (h.0, within-push classes levels [] xs c h.1 k)
@@ -125,7 +127,8 @@ within-push classes levels (p ∷ ps) (x ∷ xs) c h k = by_fixed (is_fixed p) (
     by_fixed true more below = more below
     by_fixed false more below = (below.0, more below.1)
 
-stand-push : (ps : List Component) (cs : List Cell) (c : Cell) (p : Component) → slice_get ps (length cs) ≡ Some p → stands p c ≡ true → fixed_stand ps (to_cells cs) ≡ true → fixed_stand ps (to_cells (cs ++ c ∷ [])) ≡ true
+stand-push : (ps : List Component) (cs : List Cell) (c : Cell) (p : Component) → slice_get ps (length cs) ≡ Some p → stands p c ≡ true → fixed_stand ps (to_cells cs) ≡ true
+    → fixed_stand ps (to_cells (cs ++ c ∷ [])) ≡ true
 stand-push [] cs c p is here e = absurd cc
 stand-push (q ∷ qs) [] c p is here e = and_true _ _ (ap (λ (r : Component). stands r c) (same_Some q p is) ∙ here) (nothing_stands qs)
 stand-push (q ∷ qs) (x ∷ xs) c p is here e = let (first, rest) = and_both (stands q x) (fixed_stand qs (to_cells xs)) e in and_true _ _ first (stand-push qs xs c p is here rest)
@@ -141,8 +144,10 @@ one_component_more ps i p less is =
     take-map part_view (i + 1) ps ∙ map_more part_view ps i p less ∙ ap (λ q. map part_view (take i ps) ++ part_view q ∷ []) (sym is) ∙ ap (λ qs. qs ++ part_view p ∷ []) (sym (take-map part_view i ps))
 
 -- one more, which is fixed
-pub one_fixed_more : (classes : Classes) (text rest : List ℕ) (ps : List Part) (levels i n : ℕ) (cs : List Cell) (p : Part) (d c : Cell) → i < length ps → p ≡ get_or ps i p → (part_view p).fixed ≡ Some d
-    → HasCells classes text rest (map part_view ps) levels i n cs → cell_conforms classes c (shape_view p.shape) ≡ true → c ≡ d → HasCells classes text rest (map part_view ps) levels (i + 1) n (cs ++ c ∷ [])
+pub one_fixed_more : (classes : Classes) (text rest : List ℕ) (ps : List Part) (levels i n : ℕ) (cs : List Cell) (p : Part) (d c : Cell) → i < length ps → p ≡ get_or ps i p
+    → (part_view p).fixed ≡ Some d
+    → HasCells classes text rest (map part_view ps) levels i n cs → cell_conforms classes c (shape_view p.shape) ≡ true → c ≡ d
+    → HasCells classes text rest (map part_view ps) levels (i + 1) n (cs ++ c ∷ [])
 one_fixed_more classes text rest ps levels i n cs p d c less is fixed so_far conform same =
     let qs = map part_view ps in
     let at' : slice_get qs (length cs) ≡ Some (part_view p) = ap (slice_get qs) so_far.count ∙ component_at ps i p less is in
@@ -159,8 +164,10 @@ one_fixed_more classes text rest ps levels i n cs p d c less is fixed so_far con
     }
 
 -- one more, which is written
-pub one_cell_more : (classes : Classes) (text old mid new : List ℕ) (ps : List Part) (levels i n : ℕ) (cs : List Cell) (p : Part) (c : Cell) → i < length ps → p ≡ get_or ps i p → (part_view p).fixed ≡ None
-    → HasCells classes text old (map part_view ps) levels i n cs → old ≡ separator n ++ mid → IsCellFront classes mid new (shape_view p.shape) levels c → HasCells classes text new (map part_view ps) levels (i + 1) (n + 1) (cs ++ c ∷ [])
+pub one_cell_more : (classes : Classes) (text old mid new : List ℕ) (ps : List Part) (levels i n : ℕ) (cs : List Cell) (p : Part) (c : Cell) → i < length ps → p ≡ get_or ps i p
+    → (part_view p).fixed ≡ None
+    → HasCells classes text old (map part_view ps) levels i n cs → old ≡ separator n ++ mid → IsCellFront classes mid new (shape_view p.shape) levels c
+    → HasCells classes text new (map part_view ps) levels (i + 1) (n + 1) (cs ++ c ∷ [])
 one_cell_more classes text old mid new ps levels i n cs p c less is free so_far comma one =
     let qs = map part_view ps in
     let at' : slice_get qs (length cs) ≡ Some (part_view p) = ap (slice_get qs) so_far.count ∙ component_at ps i p less is in
@@ -177,7 +184,8 @@ one_cell_more classes text old mid new ps levels i n cs p c less is free so_far 
       within = within-push classes levels qs cs c so_far.within one.2;
     }
 
-pub all_cells : (classes : Classes) (text old new : List ℕ) (ps : List Part) (levels i n : ℕ) (cs : List Cell) → length ps ≤ i → HasCells classes text old (map part_view ps) levels i n cs → old ≡ 41 ∷ new → AreCellsFront classes text new (map part_view ps) levels (to_cells cs)
+pub all_cells : (classes : Classes) (text old new : List ℕ) (ps : List Part) (levels i n : ℕ) (cs : List Cell) → length ps ≤ i → HasCells classes text old (map part_view ps) levels i n cs
+    → old ≡ 41 ∷ new → AreCellsFront classes text new (map part_view ps) levels (to_cells cs)
 all_cells classes text old new ps levels i n cs most so_far ends =
     let all : take i (map part_view ps) ≡ map part_view ps = take_all i (map part_view ps) (omega (arith, length-map ps part_view, most)) in (
       so_far.texts ∙ ap (λ ys. with_commas (cell_texts (written (map part_view ps) (cells_of classes (to_cells cs)))) ++ ys) ends,

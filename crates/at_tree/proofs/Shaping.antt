@@ -126,8 +126,10 @@ fixed_led : (classes : Classes) (d : Cell) (p : Component) (y : Cell) → fixed_
 fixed_led classes d p y e = let (fit, same) = if_some (cell_conforms classes d p.shape) (Some d) y e in (fit, same_Some d y same)
 
 -- one more that is fixed
-pub fixed_from-more : (classes : Classes) (xs : List CellValue) (ps : List Part) (k i : ℕ) (p : Part) (d : Cell) (done : List Cell) (y : Cell) (all : Option Cells) → i < length ps → p ≡ get_or ps i p → (part_view p).fixed ≡ Some d
-    → fixed_shaped classes d (part_view p).shape ≡ Some y → all ≡ option_map (onto_cells done) (parts_from classes xs ps k i) → all ≡ option_map (onto_cells (done ++ y ∷ [])) (parts_from classes xs ps k (i + 1))
+pub fixed_from-more : (classes : Classes) (xs : List CellValue) (ps : List Part) (k i : ℕ) (p : Part) (d : Cell) (done : List Cell) (y : Cell) (all : Option Cells) → i < length ps
+    → p ≡ get_or ps i p → (part_view p).fixed ≡ Some d
+    → fixed_shaped classes d (part_view p).shape ≡ Some y → all ≡ option_map (onto_cells done) (parts_from classes xs ps k i)
+    → all ≡ option_map (onto_cells (done ++ y ∷ [])) (parts_from classes xs ps k (i + 1))
 fixed_from-more classes xs ps k i p d done y all less is fixed shape so_far =
     let cs = to_cells (map cell_view (drop k xs)) in
     let (fit, same) = fixed_led classes d (part_view p) y shape in
@@ -136,7 +138,8 @@ fixed_from-more classes xs ps k i p d done y all less is fixed shape so_far =
     ∙ both_cells done y (parts_from classes xs ps k (i + 1))
 
 -- what is fixed doesn't fit
-pub fixed_from-none : (classes : Classes) (xs : List CellValue) (ps : List Part) (k i : ℕ) (p : Part) (d : Cell) (done : List Cell) (all : Option Cells) → i < length ps → p ≡ get_or ps i p → (part_view p).fixed ≡ Some d
+pub fixed_from-none : (classes : Classes) (xs : List CellValue) (ps : List Part) (k i : ℕ) (p : Part) (d : Cell) (done : List Cell) (all : Option Cells) → i < length ps → p ≡ get_or ps i p
+    → (part_view p).fixed ≡ Some d
     → fixed_shaped classes d (part_view p).shape ≡ None → all ≡ option_map (onto_cells done) (parts_from classes xs ps k i) → all ≡ None
 fixed_from-none classes xs ps k i p d done all less is fixed shape so_far =
     let cs = to_cells (map cell_view (drop k xs)) in
@@ -147,7 +150,8 @@ fixed_from-none classes xs ps k i p d done all less is fixed shape so_far =
     misfit true e = absurd cc
     misfit false e = refl
 
-next_written : (classes : Classes) (xs : List CellValue) (ps : List Part) (k i : ℕ) (x : CellValue) (p : Part) → k < length xs → i < length ps → x ≡ get_or xs k x → p ≡ get_or ps i p → (part_view p).fixed ≡ None
+next_written : (classes : Classes) (xs : List CellValue) (ps : List Part) (k i : ℕ) (x : CellValue) (p : Part) → k < length xs → i < length ps → x ≡ get_or xs k x → p ≡ get_or ps i p
+    → (part_view p).fixed ≡ None
     → parts_from classes xs ps k i ≡ option_and_then (λ z. option_map (cell z) (parts_from classes xs ps (k + 1) (i + 1))) (cell_shaped classes (cell_view x) (part_view p).shape)
 next_written classes xs ps k i x p less there is same free =
     ap (λ qs. parts_shaped classes (to_cells (map cell_view (drop k xs))) (map part_view qs)) (here ps i p there same)
@@ -155,20 +159,24 @@ next_written classes xs ps k i x p less there is same free =
     ∙ with_written classes (cell_view x) (to_cells (map cell_view (drop (k + 1) xs))) (part_view p) (map part_view (drop (i + 1) ps)) free
 
 -- one more that is written
-pub written_from-more : (classes : Classes) (xs : List CellValue) (ps : List Part) (k i : ℕ) (x : CellValue) (p : Part) (done : List Cell) (y : Cell) (all : Option Cells) → k < length xs → i < length ps → x ≡ get_or xs k x → p ≡ get_or ps i p
-    → (part_view p).fixed ≡ None → cell_shaped classes (cell_view x) (part_view p).shape ≡ Some y → all ≡ option_map (onto_cells done) (parts_from classes xs ps k i) → all ≡ option_map (onto_cells (done ++ y ∷ [])) (parts_from classes xs ps (k + 1) (i + 1))
+pub written_from-more : (classes : Classes) (xs : List CellValue) (ps : List Part) (k i : ℕ) (x : CellValue) (p : Part) (done : List Cell) (y : Cell) (all : Option Cells) → k < length xs
+    → i < length ps → x ≡ get_or xs k x → p ≡ get_or ps i p
+    → (part_view p).fixed ≡ None → cell_shaped classes (cell_view x) (part_view p).shape ≡ Some y → all ≡ option_map (onto_cells done) (parts_from classes xs ps k i)
+    → all ≡ option_map (onto_cells (done ++ y ∷ [])) (parts_from classes xs ps (k + 1) (i + 1))
 written_from-more classes xs ps k i x p done y all less there is same free shape so_far =
     so_far ∙ ap (option_map (onto_cells done)) (next_written classes xs ps k i x p less there is same free ∙ ap (option_and_then (λ z. option_map (cell z) (parts_from classes xs ps (k + 1) (i + 1)))) shape)
     ∙ both_cells done y (parts_from classes xs ps (k + 1) (i + 1))
 
 -- one doesn't fit
-pub written_from-none : (classes : Classes) (xs : List CellValue) (ps : List Part) (k i : ℕ) (x : CellValue) (p : Part) (done : List Cell) (all : Option Cells) → k < length xs → i < length ps → x ≡ get_or xs k x → p ≡ get_or ps i p
+pub written_from-none : (classes : Classes) (xs : List CellValue) (ps : List Part) (k i : ℕ) (x : CellValue) (p : Part) (done : List Cell) (all : Option Cells) → k < length xs → i < length ps
+    → x ≡ get_or xs k x → p ≡ get_or ps i p
     → (part_view p).fixed ≡ None → cell_shaped classes (cell_view x) (part_view p).shape ≡ None → all ≡ option_map (onto_cells done) (parts_from classes xs ps k i) → all ≡ None
 written_from-none classes xs ps k i x p done all less there is same free shape so_far =
     so_far ∙ ap (option_map (onto_cells done)) (next_written classes xs ps k i x p less there is same free ∙ ap (option_and_then (λ z. option_map (cell z) (parts_from classes xs ps (k + 1) (i + 1)))) shape)
 
 -- one isn't written
-pub parts_from-short : (classes : Classes) (xs : List CellValue) (ps : List Part) (k i : ℕ) (p : Part) (done : List Cell) (all : Option Cells) → length xs ≤ k → i < length ps → p ≡ get_or ps i p → (part_view p).fixed ≡ None
+pub parts_from-short : (classes : Classes) (xs : List CellValue) (ps : List Part) (k i : ℕ) (p : Part) (done : List Cell) (all : Option Cells) → length xs ≤ k → i < length ps
+    → p ≡ get_or ps i p → (part_view p).fixed ≡ None
     → all ≡ option_map (onto_cells done) (parts_from classes xs ps k i) → all ≡ None
 parts_from-short classes xs ps k i p done all past there same free so_far =
     so_far ∙ ap (option_map (onto_cells done)) (
@@ -178,7 +186,8 @@ parts_from-short classes xs ps k i p done all past there same free so_far =
     )
 
 -- too many are written
-pub parts_from-long : (classes : Classes) (xs : List CellValue) (ps : List Part) (k i : ℕ) (done : List Cell) (all : Option Cells) → k < length xs → length ps ≤ i → all ≡ option_map (onto_cells done) (parts_from classes xs ps k i) → all ≡ None
+pub parts_from-long : (classes : Classes) (xs : List CellValue) (ps : List Part) (k i : ℕ) (done : List Cell) (all : Option Cells) → k < length xs → length ps ≤ i
+    → all ≡ option_map (onto_cells done) (parts_from classes xs ps k i) → all ≡ None
 parts_from-long classes xs ps k i done all less past so_far =
     so_far ∙ ap (λ qs. option_map (onto_cells done) (parts_shaped classes (to_cells (map cell_view (drop k xs))) (map part_view qs))) (drop_all i ps past) ∙ left_over (drop k xs) (omega (arith, less, length-drop k xs))
   where
@@ -186,7 +195,8 @@ parts_from-long classes xs ps k i done all less past so_far =
     left_over [] some = absurd (omega (arith, some))
     left_over (y ∷ ys) some = refl
 
-pub parts_from-end : (classes : Classes) (xs : List CellValue) (ps : List Part) (k i : ℕ) (done : List Cell) (all : Option Cells) → length xs ≤ k → length ps ≤ i → all ≡ option_map (onto_cells done) (parts_from classes xs ps k i) → all ≡ Some (to_tree_cells done)
+pub parts_from-end : (classes : Classes) (xs : List CellValue) (ps : List Part) (k i : ℕ) (done : List Cell) (all : Option Cells) → length xs ≤ k → length ps ≤ i
+    → all ≡ option_map (onto_cells done) (parts_from classes xs ps k i) → all ≡ Some (to_tree_cells done)
 parts_from-end classes xs ps k i done all most past so_far =
     so_far ∙ rw (drop_all k xs most, drop_all i ps past) (ap Some (onto_cells-none done))
 

@@ -63,11 +63,13 @@ one_further f xs i x less is =
 so_many : {A B : Type 0} (f : A → B) (xs : List A) (i : ℕ) → i < length xs → length (map f (take i xs)) ≡ i
 so_many f xs i less = simp length-map (length-take-le i xs (omega (arith, less)))
 
-pub first_unfixed-same : {A B : Type 0} (ps : List Component) (f : A → B) (xs : List A) (i : ℕ) (x : A) → i < length xs → x ≡ get_or xs i x → is_fixed_at ps i ≡ true → first_unfixed ps f xs (i + 1) ≡ first_unfixed ps f xs i
+pub first_unfixed-same : {A B : Type 0} (ps : List Component) (f : A → B) (xs : List A) (i : ℕ) (x : A) → i < length xs → x ≡ get_or xs i x → is_fixed_at ps i ≡ true
+    → first_unfixed ps f xs (i + 1) ≡ first_unfixed ps f xs i
 first_unfixed-same ps f xs i x less is fixed =
     ap (unfixed ps) (one_further f xs i x less is) ∙ unfixed-same ps (map f (take i xs)) (f x) (ap (is_fixed_at ps) (so_many f xs i less) ∙ fixed)
 
-pub first_unfixed-more : {A B : Type 0} (ps : List Component) (f : A → B) (xs : List A) (i : ℕ) (x : A) → i < length xs → x ≡ get_or xs i x → is_fixed_at ps i ≡ false → first_unfixed ps f xs (i + 1) ≡ first_unfixed ps f xs i ++ f x ∷ []
+pub first_unfixed-more : {A B : Type 0} (ps : List Component) (f : A → B) (xs : List A) (i : ℕ) (x : A) → i < length xs → x ≡ get_or xs i x → is_fixed_at ps i ≡ false
+    → first_unfixed ps f xs (i + 1) ≡ first_unfixed ps f xs i ++ f x ∷ []
 first_unfixed-more ps f xs i x less is free =
     ap (unfixed ps) (one_further f xs i x less is) ∙ unfixed-more ps (map f (take i xs)) (f x) (ap (is_fixed_at ps) (so_many f xs i less) ∙ free)
 

@@ -27,7 +27,8 @@ take_cells-loop-part-preserved-in-Some t c =
     let pushed = ap (map cell_view) c.in_ok-push.ensures.items ∙ map-append cell_view c.loop-part.cells.items (c.in_ok-plant.field-0 ∷ []) in
     subst (HasCells classes c.args.front.now.rest.now c.loop-part.front.rest.now ps c.args.levels (c.loop-part.part-index + 1) c.loop-part.taken) (sym pushed)
     (one_fixed_more classes c.args.front.now.rest.now c.loop-part.front.rest.now c.args.parts.now c.args.levels c.loop-part.part-index c.loop-part.taken (map cell_view c.loop-part.cells.items)
-    c.part-item.result (cell_view c.in-Some.fixed) (cell_view c.in_ok-plant.field-0) (omega arith) c.part-item.is (ap (option_map cell_view) c.in-Some.is) c.loop-part.invariant c.in_ok-plant.ensures.fits c.in_ok-plant.ensures.same)
+    c.part-item.result (cell_view c.in-Some.fixed) (cell_view c.in_ok-plant.field-0) (omega arith) c.part-item.is (ap (option_map cell_view) c.in-Some.is)
+    c.loop-part.invariant c.in_ok-plant.ensures.fits c.in_ok-plant.ensures.same)
 
 pub take_cells-loop-part-preserved : goal.take_cells-loop-part-preserved
 take_cells-loop-part-preserved t c =
@@ -36,12 +37,13 @@ take_cells-loop-part-preserved t c =
     let pushed = ap (map cell_view) {y = c.loop-part.cells.items ++ c.in_ok-cell.cell ∷ []} c.in_ok-push-2.ensures.items ∙ map-append cell_view c.loop-part.cells.items (c.in_ok-cell.cell ∷ []) in
     subst (HasCells classes c.args.front.now.rest.now c.take_cell.new.front.rest.now ps c.args.levels (c.loop-part.part-index + 1) (c.loop-part.taken + 1)) (sym pushed)
     (one_cell_more classes c.args.front.now.rest.now c.loop-part.front.rest.now c.take_separator.new.front.rest.now c.take_cell.new.front.rest.now c.args.parts.now c.args.levels c.loop-part.part-index c.loop-part.taken
-    (map cell_view c.loop-part.cells.items) c.part-item.result (cell_view c.in_ok-cell.cell) (omega arith) c.part-item.is (ap (option_map cell_view) c.in_default.is) c.loop-part.invariant c.in_ok-take_separator.ensures c.in_ok-cell.ensures)
+    (map cell_view c.loop-part.cells.items) c.part-item.result (cell_view c.in_ok-cell.cell) (omega arith) c.part-item.is (ap (option_map cell_view) c.in_default.is)
+    c.loop-part.invariant c.in_ok-take_separator.ensures c.in_ok-cell.ensures)
 
 pub take_cells-returns : goal.take_cells-returns
 take_cells-returns t c =
-    all_cells c.args.classes.now c.args.front.now.rest.now c.loop-part.front.rest.now c.take.new.front.rest.now c.args.parts.now c.args.levels c.loop-part.part-index c.loop-part.taken (map cell_view c.loop-part.cells.items)
-    c.loop-part-test.false c.loop-part.invariant c.in_ok-take.ensures
+    all_cells c.args.classes.now c.args.front.now.rest.now c.loop-part.front.rest.now c.take.new.front.rest.now c.args.parts.now c.args.levels c.loop-part.part-index c.loop-part.taken
+    (map cell_view c.loop-part.cells.items) c.loop-part-test.false c.loop-part.invariant c.in_ok-take.ensures
 
 pub take_optional-returns-then-takes : goal.take_optional-returns-then-takes
 take_optional-returns-then-takes t c =

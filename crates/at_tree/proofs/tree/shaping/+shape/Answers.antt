@@ -79,11 +79,13 @@ shape_cells-loop-part-preserved t c =
 
 pub shape_cells-returns-then-taken-written-2-clause-refused : goal.shape_cells-returns-then-taken-written-2-clause-refused
 shape_cells-returns-then-taken-written-2-clause-refused t c =
-    parts_from-long c.args.classes.now c.args.written.now c.args.parts.now c.loop-part.taken c.loop-part.part-index (map cell_view c.loop-part.cells.items) _ c.if-taken-written-2.true c.loop-part-test.false c.loop-part.invariant.0
+    parts_from-long c.args.classes.now c.args.written.now c.args.parts.now c.loop-part.taken c.loop-part.part-index (map cell_view c.loop-part.cells.items) _
+    c.if-taken-written-2.true c.loop-part-test.false c.loop-part.invariant.0
 
 pub shape_cells-returns-clause-found : goal.shape_cells-returns-clause-found
 shape_cells-returns-clause-found t c =
-    parts_from-end c.args.classes.now c.args.written.now c.args.parts.now c.loop-part.taken c.loop-part.part-index (map cell_view c.loop-part.cells.items) _ c.if-taken-written-2.false c.loop-part-test.false c.loop-part.invariant.0
+    parts_from-end c.args.classes.now c.args.written.now c.args.parts.now c.loop-part.taken c.loop-part.part-index (map cell_view c.loop-part.cells.items) _
+    c.if-taken-written-2.false c.loop-part-test.false c.loop-part.invariant.0
 
 pub shape_cells-returns-in_err-plant-clause-refused : goal.shape_cells-returns-in_err-plant-clause-refused
 shape_cells-returns-in_err-plant-clause-refused t c =

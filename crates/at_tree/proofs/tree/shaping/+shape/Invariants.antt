@@ -9,7 +9,8 @@ use Rattle.at_tree.proofs.tree.shaping.+shape.Given as goal
 
 abbrev pub invariant-shape_cells-loop-part : goal.invariant-shape_cells-loop-part
 invariant-shape_cells-loop-part l =
-    (parts_shaped l.classes (to_cells (map term_cell_view l.written)) (map part_view l.parts) ≡ option_map (onto_cells (map cell_view l.cells.items)) (parts_from l.classes l.written l.parts l.taken l.part-index))
+    (parts_shaped l.classes (to_cells (map term_cell_view l.written)) (map part_view l.parts)
+    ≡ option_map (onto_cells (map cell_view l.cells.items)) (parts_from l.classes l.written l.parts l.taken l.part-index))
     × (l.taken ≤ l.part-index)
 
 abbrev pub invariant-shape_list-loop-term : goal.invariant-shape_list-loop-term

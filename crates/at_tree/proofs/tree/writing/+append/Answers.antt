@@ -36,7 +36,9 @@ pub append_tree-returns-in_err-append_cell : goal.append_tree-returns-in_err-app
 append_tree-returns-in_err-append_cell t c =
     let p = err_from_is_err_and c.from_residual-in_err-append_cell.result c.from_residual-in_err-append_cell.ensures.1 in
     let ps = map part_view c.parts_or_none-parts.result.now in
-    rw p.1 (record { ok = tt; err = stays _ _ _ _ (one_sep _ (name_of c.args.classes.now c.args.tree.now.class ++ 40 ∷ []) (cells_so_far c.args.classes.now ps c.deref-cell-items.result.now c.loop-i.i) _ _ _ c.loop-i.invariant.0 c.in_ok-separate.ensures.ok) c.in_err-append_cell.ensures.err })
+    let name = name_of c.args.classes.now c.args.tree.now.class in
+    let before = one_sep _ (name ++ 40 ∷ []) (cells_so_far c.args.classes.now ps c.deref-cell-items.result.now c.loop-i.i) _ _ _ c.loop-i.invariant.0 c.in_ok-separate.ensures.ok in
+    rw p.1 (record { ok = tt; err = stays _ _ _ _ before c.in_err-append_cell.ensures.err })
 
 pub append_tree-loop-i-preserved : goal.append_tree-loop-i-preserved
 append_tree-loop-i-preserved t c =
