@@ -111,7 +111,7 @@ def counts_of(crate: str) -> Counts:
         contracts[it.function] += len(it.said)
     specs = [(file, file.read_text(encoding="utf-8").splitlines()) for file in sorted((folder / "specs").glob("*.antt"))]
     # what is imported is one line, whatever it names
-    long_lines = [f"{file}:{n}" for file, lines in specs for n, it in enumerate(lines, 1) if len(it) > LINE and not it.startswith("use ")]
+    long_lines = [f"{file}:{n}" for file, lines in specs for n, it in enumerate(lines, 1) if len(it) > LINE and not it.startswith(("use ", "pub use "))]
     long_clauses = [it.place for it in clauses if max(map(len, it.lines)) > LINE]
     long_contracts = [f"{name} ({length:,})" for name, length in contracts.items() if length > CONTRACT]
     functions = [it for file in sorted((folder / "src").rglob("*.rt")) for it in long_functions(file)]

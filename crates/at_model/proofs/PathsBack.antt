@@ -6,7 +6,7 @@ use Rattle.at_model.specs.Classes as class
 use Rattle.at_model.specs.Trees.{Tree, Cell, Node as branch, One, Many, Empty, Filled, Holds, class_of, from_cells, children, conforms, cell_conforms}
 use Rattle.at_model.specs.Paths.{Path, Step, Node, children_at, tree_at, place_in, step_in, node_at, index_in, step_of, path_of, ArePartsApart}
 use Rattle.at_model.proofs.Options.{led}
-use Rattle.at_model.proofs.ConformingParts.{conforming_parts}
+use Rattle.at_model.proofs.of_texts.ConformingParts.{conforming_parts}
 use Rattle.at_model.proofs.Complete.{cell_there, child_conforms}
 
 -- a child's index is written so that it is found again

@@ -3,7 +3,9 @@ pub mod Words
 pub mod QuotedTexts
 pub mod OneTerm
 pub mod OneLine
+pub mod ConformingParts
 pub mod Planting
+pub mod SameTrees
 pub mod Shaped
 pub mod PlainLines
 pub mod Unread

@@ -28,8 +28,11 @@ constant_classes =
     class (codes "Type") None [] ∷ []
 
 -- a program of one use, as it is written, and as it stands with its constants
+abbrev pub name_term : Term
+name_term = term.Node (codes "Use") (term.cell (term.Holds (Text (codes "a"))) term.no_cells)
+
 abbrev pub use_term : Term
-use_term = term.Node (codes "Program") (term.cell (term.Many (term.term (term.Node (codes "Use") (term.cell (term.Holds (Text (codes "a"))) term.no_cells)) term.no_terms)) term.no_cells)
+use_term = term.Node (codes "Program") (term.cell (term.Many (term.term name_term term.no_terms)) term.no_cells)
 
 abbrev pub use_with : Tree → Tree
 use_with type = node.Node 1 (to_cells (Holds (Text (codes "a")) ∷ node.One type ∷ []))

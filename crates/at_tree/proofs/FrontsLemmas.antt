@@ -13,9 +13,9 @@ use Rattle.at_model.specs.Terms.{IsTermWithin, AreCellsWithin, IsCellWithin, Are
 use Rattle.at_model.specs.Terms.{no_cells as no_terms_cells, cell as term_cell}
 use Rattle.at_model.specs.SyntaxTrees.{cell_eq}
 use Rattle.at_model.specs.Trees.{Tree, Node, Cells, Cell, Many, no_cells, to_cells, to_trees, conforms, cells_conform, cell_conforms, trees_conform, fixed_stand}
-use Rattle.at_model.proofs.ConformingParts.{conforming_whole}
+use Rattle.at_model.proofs.of_texts.ConformingParts.{conforming_whole}
 use Rattle.at_model.proofs.Options.{both as and_both, and_true}
-use Rattle.at_model.proofs.SameTrees.{cell_eq-refl}
+use Rattle.at_model.proofs.of_texts.SameTrees.{cell_eq-refl}
 use Rattle.at_model.proofs.of_texts.Shaped.{same_bytes}
 use Rattle.at_class.specs.View.{part_view, shape_view}
 use Rattle.at_class.specs.declared.part.Part.{Part}

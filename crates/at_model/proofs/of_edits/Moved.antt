@@ -16,7 +16,7 @@ use Rattle.at_model.specs.Edits.{Drop, Insert, Move, shape_at, plain_class, list
 use Rattle.at_model.specs.Touches.{touches, shifts, node_of, is_up, is_slot, is_index, is_slot_around, is_index_around, is_drawer}
 use Rattle.at_model.proofs.Options.{both, and_true, led, mapped, neither, not_off, or_off}
 use Rattle.at_model.proofs.Nodes.{step_eq-refl, node_eq-refl, node_eq-sound}
-use Rattle.at_model.proofs.ConformingParts.{conforming_parts}
+use Rattle.at_model.proofs.of_texts.ConformingParts.{conforming_parts}
 use Rattle.at_model.proofs.Complete.{conforms_at, cells_there}
 use Rattle.at_model.proofs.of_edits.Conforming.{part_changed, loose_above, one_more, one_less, seen, wanted, lives}
 use Rattle.at_model.proofs.WayUp.{snoc, parent_of-snoc}

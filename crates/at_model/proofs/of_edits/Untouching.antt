@@ -17,7 +17,7 @@ use Rattle.at_model.specs.Touches.{touches, shifts, is_slot, is_index, is_slot_a
 use Rattle.at_model.proofs.Options.{both}
 use Rattle.at_model.proofs.Nodes.{node_eq-sound}
 use Rattle.at_model.proofs.Complete.{conforms_at, cell_there}
-use Rattle.at_model.proofs.ConformingParts.{conforming_parts}
+use Rattle.at_model.proofs.of_texts.ConformingParts.{conforming_parts}
 use Rattle.at_model.proofs.of_edits.Conforming.{set_in_parent}
 use Rattle.at_model.proofs.WayUp.{parent_of-snoc}
 use Rattle.at_model.proofs.of_edits.Moving.{Way, KeepsParts}

@@ -19,8 +19,8 @@ use Rattle.at_model.specs.Machine.{State, Verdict, Step, Handles, obeys, waits, 
 use Rattle.at_model.specs.Effects.{IsEditOf, set, put, drop, insert as inserted, token, move}
 use Rattle.at_model.specs.Enduring.{AreTokens, CellsAreTokens, CellIsTokens, TreesAreTokens}
 use Rattle.at_model.proofs.Options.{both, led}
-use Rattle.at_model.proofs.ConformingParts.{conforming_parts}
-use Rattle.at_model.proofs.SameTrees.{cell_eq-sound}
+use Rattle.at_model.proofs.of_texts.ConformingParts.{conforming_parts}
+use Rattle.at_model.proofs.of_texts.SameTrees.{cell_eq-sound}
 use Rattle.at_model.proofs.PathsWritten.{parts_sound}
 use Rattle.at_model.proofs.of_edits.Conforming.{accepted as is_accepted}
 use Rattle.at_model.proofs.of_machines.Machines.{waited}

@@ -7,7 +7,7 @@ use Rattle.at_model.specs.Terms.{written, cells_of, cell_of}
 use Rattle.at_model.specs.Terms as term
 use Rattle.at_model.specs.Shaping.{fixed_fit, planted}
 use Rattle.at_model.proofs.Options.{both, and_true}
-use Rattle.at_model.proofs.SameTrees.{cell_eq-sound, cell_eq-refl}
+use Rattle.at_model.proofs.of_texts.SameTrees.{cell_eq-sound, cell_eq-refl}
 
 -- the cells of the components that aren't fixed
 abbrev pub loose : List Component → Cells → Cells

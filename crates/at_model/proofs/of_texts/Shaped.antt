@@ -12,7 +12,7 @@ use Rattle.at_model.specs.Trees as tree
 use Rattle.at_model.specs.Terms.{Term, Cells, Cell, Terms, Node, no_cells, cell, One, Many, Empty, Holds, no_terms, term, written, term_of, cells_of, cell_of, terms_of}
 use Rattle.at_model.specs.Shaping.{fixed_fit, planted, shaped, cells_shaped, cell_shaped, terms_shaped, names_classes, cells_name_classes, cell_names_classes, terms_name_classes}
 use Rattle.at_model.proofs.Options.{both, and_true, led, mapped, if_some, if_true}
-use Rattle.at_model.proofs.ConformingParts.{conforming_parts, conforming_whole}
+use Rattle.at_model.proofs.of_texts.ConformingParts.{conforming_parts, conforming_whole}
 use Rattle.at_model.proofs.of_texts.Planting.{loose, planted_conform, planted_written, fixed_conform, loose_planted}
 
 no_class : Class

@@ -13,7 +13,7 @@ use Rattle.at_model.specs.Terms as term
 use Rattle.at_model.specs.Edits.{is_within_limits, max_nodes, tokens_short}
 use Rattle.at_model.specs.Enduring.{AreTokens, CellsAreTokens, CellIsTokens, TreesAreTokens}
 use Rattle.at_model.proofs.Options.{both}
-use Rattle.at_model.proofs.ConformingParts.{conforming_parts}
+use Rattle.at_model.proofs.of_texts.ConformingParts.{conforming_parts}
 
 element : {A : Type 0} (P : A → Type 0) (xs : List A) (i : ℕ) (a : A) → AllByRecursion P xs → slice_get xs i ≡ Some a → P a
 element P [] i a h e = absurd cc

@@ -11,7 +11,7 @@ use Rattle.at_model.specs.Paths.{Node, tree_at, cell_at, children_at, parent_of}
 use Rattle.at_model.specs.Run.{Tok, Slot, Up, Idx}
 use Rattle.at_model.specs.Bodies.{value_of}
 use Rattle.at_model.specs.Meaning.{content, is_marked, child_nodes, chosen_nodes, token_in}
-use Rattle.at_model.proofs.ConformingParts.{conforming_parts}
+use Rattle.at_model.proofs.of_texts.ConformingParts.{conforming_parts}
 use Rattle.at_model.proofs.Complete.{child_conforms, conforms_at, fits_there}
 use Rattle.at_model.proofs.WithinTree.{tree_at-snoc}
 use Rattle.at_model.proofs.WayUp.{snoc, parent_of-snoc, parent_there}

@@ -11,7 +11,7 @@ use Rattle.at_model.specs.Trees as trees
 use Rattle.at_model.specs.Paths.{Node, tree_at, cell_at, children_at, parent_of}
 use Rattle.at_model.specs.Edits.{Set, Put, Drop, Insert, Token, shape_at, plain_class, list_class, optional_class, token_kind, has_component, is_in_range, is_plain, is_removable, children_of, with_cell, with_node, without_child, left_by, tokens_short, is_short}
 use Rattle.at_model.proofs.Complete.{conforms_at}
-use Rattle.at_model.proofs.ConformingParts.{conforming_parts}
+use Rattle.at_model.proofs.of_texts.ConformingParts.{conforming_parts}
 use Rattle.at_model.proofs.Options.{both}
 use Rattle.at_model.proofs.of_edits.Surviving.{parent_is}
 use Rattle.at_model.proofs.of_edits.Untouching.{shape_there, list_cell, plain_cell, selected, not_false}
