@@ -87,8 +87,7 @@ fn step_index(shape: PartShape, index: usize) -> Option<u32>
     }
 }
 
-/// The component at that position.
-pub(crate) fn part_in(parts: &[Part], part: usize) -> Option<&Part>
+fn part_in(parts: &[Part], part: usize) -> Option<&Part>
     ensures { option_map part_view (option_copied result) ≡ slice_get (map part_view parts.now) part }
 {
     parts.get(part)
@@ -104,16 +103,6 @@ pub(crate) fn part_of(classes: &ClassTable, class: ClassId, part: usize) -> Opti
         return None;
     }
     part_in(classes.parts(class), part)
-}
-
-/// The components of a class; none where there is no such class.
-pub(crate) fn parts_of(classes: &ClassTable, class: ClassId) -> &[Part]
-    ensures { map part_view result.now ≡ parts classes.now class }
-{
-    if class.index() >= classes.len() {
-        return &[];
-    }
-    classes.parts(class)
 }
 
 /// The step by a component to a position.

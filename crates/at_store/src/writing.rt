@@ -1,18 +1,15 @@
 //! The text of the tree below a node, written as the nodes are gone over; what is fixed is left out.
-ghost use Rattle.std.specs.Prelude.{◌≡◌, ◌++◌, OnErr, OnOk, is_some, length, map, option_and_then, take};
-ghost use Rattle.std.specs.List.{slice_get};
+ghost use Rattle.std.specs.Prelude.{◌≡◌, ◌++◌, OnErr, OnOk, length, map, take};
 ghost use Rattle.at_model.specs.Terms.{cell_of, cell_text, tree_text};
 ghost use Rattle.at_model.specs.Trees.{Many, to_trees};
-ghost use Rattle.at_class.specs.View.{part_view};
 ghost use Rattle.at_store.specs.Grown.{grown_cell, shown_below};
 ghost use Rattle.at_store.specs.Memory.{Kids, Optional};
 ghost use Rattle.at_store.specs.View.{form_view, kept_view, memory_of};
 
 use crate::entry::{Entry, Form, Slot, class_at, slots_at};
 use crate::node::Node;
-use crate::walks::{part_in, parts_of};
-use at_class::{ClassTable, Part};
-use at_tree::tree::writing::{append_value, open, separate};
+use at_class::ClassTable;
+use at_tree::tree::writing::{append_value, is_fixed, open, parts_or_none, separate};
 use slab::Slab;
 use std::alloc::AllocError;
 
@@ -35,16 +32,6 @@ pub(crate) fn write_tree(
     written
 }
 
-/// Whether the component at that position is fixed.
-fn is_fixed_among(parts: &[Part], position: usize) -> bool
-    ensures { result ≡ is_some (option_and_then (λ p. p.fixed) (slice_get (map part_view parts.now) position)) }
-{
-    match part_in(parts, position) {
-        Some(part) => part.fixed.is_some(),
-        None => false,
-    }
-}
-
 /// Appends the text. Where memory is wanting, it may have appended a part of it.
 #[cycle(append)]
 fn append_tree(
@@ -62,10 +49,10 @@ fn append_tree(
     if levels == 0 {
         return Ok(out.push(b')')?);
     }
-    let parts = parts_of(classes, class);
+    let parts = parts_or_none(classes, class);
     let mut count = 0;
     for (i, slot) in slots_at(slab, node).iter().enumerate() {
-        if is_fixed_among(parts, i) {
+        if is_fixed(parts, i) {
             continue;
         }
         separate(count, out)?;

@@ -1,16 +1,15 @@
-use Rattle.std.proofs.Common.{◌≡◌, ◌++◌, ◌+◌, ◌-◌, [], ◌∷◌, ◌∙◌, true, false, ap, sym, arith, append_assoc, append-nil, length, map, take}
-use Rattle.std.proofs.lemmas.List.{length-append}
+use Rattle.std.proofs.Common.{◌++◌, ◌+◌, ◌-◌, [], ◌∷◌, ◌∙◌, ap, sym, arith, append_assoc, append-nil, length, map}
 use Rattle.std.proofs.lemmas.Result.{err_from_is_err_and}
 use Rattle.at_model.specs.Classes.{name_of, parts}
 use Rattle.at_model.specs.Terms.{tree_text, with_commas}
 use Rattle.at_class.specs.View.{part_view}
 use Rattle.at_tree.specs.Separated.{separator}
-use Rattle.at_tree.proofs.TreeTexts.{commas-more, stays, one_more, one_sep, closed}
+use Rattle.at_tree.proofs.TreeTexts.{commas-more, stays, one_more, one_longer, one_sep, one_text_more, closed}
+use Rattle.at_tree.proofs.Unfixed.{first_unfixed-more, first_unfixed-same, unfixed-none}
 use Rattle.at_store.specs.Grown.{shown_below}
 use Rattle.at_store.specs.Memory.{class_in}
 use Rattle.at_store.specs.View.{memory_of}
-use Rattle.at_store.proofs.TextsBelow.{list_text, no_slot, number_text, numbers_so_far, one_more_slot, slot_text, slots_so_far, text_above, text_at_no_level}
-use Rattle.at_store.proofs.Unfixed.{fixed_among, next_fixed, next_free, unfixed, unfixed_none}
+use Rattle.at_store.proofs.TextsBelow.{list_text, number_text, numbers_so_far, slot_text, slots_so_far, text_above, text_at_no_level, written_so_far}
 use Rattle.at_store.proofs.writing.+append.Goals as goal
 
 pub append_list-returns-in_err-separate-clause-err : goal.append_list-returns-in_err-separate-clause-err
@@ -51,14 +50,12 @@ append_tree-returns-then-levels-eq0-clause-ok t c =
 
 pub append_tree-loop-i-init : goal.append_tree-loop-i-init
 append_tree-loop-i-init t c =
-    let memory = memory_of c.args.slab.now in
     let classes = c.args.classes.now in
-    let ps = parts classes (class_in memory c.args.node) in
-    let name = name_of classes (class_in memory c.args.node) in
-    let none = no_slot classes (shown_below memory (c.args.levels - 1)) ps c.slots_at-slot-items.result.now in (
+    let name = name_of classes (class_in (memory_of c.args.slab.now) c.args.node) in
+    let none = unfixed-none (map part_view c.parts_or_none-parts.result.now) in (
       c.in_ok-open.ensures.ok ∙ ap (λ k. c.args.out.now.items ++ (name_of classes k ++ 40 ∷ [])) c.class_at-class.ensures
-          ∙ ap (λ ys. c.args.out.now.items ++ ys) (sym (append-nil (name ++ 40 ∷ [])) ∙ ap (λ ys. (name ++ 40 ∷ []) ++ ys) (sym none)),
-      sym (ap length (unfixed_none ps)),
+          ∙ ap (λ ys. c.args.out.now.items ++ ys) (sym (append-nil (name ++ 40 ∷ [])) ∙ ap (λ ts. (name ++ 40 ∷ []) ++ with_commas ts) (sym none)),
+      sym (ap length none),
       omega arith,
     )
 
@@ -72,24 +69,22 @@ append_tree-returns-in_err-append_slot-clause-err t c =
     let p = err_from_is_err_and c.from_residual-in_err-append_slot.result c.from_residual-in_err-append_slot.ensures.1 in
     let memory = memory_of c.args.slab.now in
     let classes = c.args.classes.now in
-    let ps = parts classes (class_in memory c.args.node) in
+    let ps = map part_view c.parts_or_none-parts.result.now in
     rw p.1 (stays _ _ _ _ (one_sep _ (name_of classes (class_in memory c.args.node) ++ 40 ∷ [])
     (slots_so_far classes (shown_below memory (c.args.levels - 1)) ps c.slots_at-slot-items.result.now c.loop-i.i)
     _ _ _ c.loop-i.invariant.0 c.in_ok-separate.ensures.ok) c.in_err-append_slot.ensures.err)
 
-pub append_tree-loop-i-preserved-then-is_fixed_among : goal.append_tree-loop-i-preserved-then-is_fixed_among
-append_tree-loop-i-preserved-then-is_fixed_among t c =
+pub append_tree-loop-i-preserved-then-is_fixed : goal.append_tree-loop-i-preserved-then-is_fixed
+append_tree-loop-i-preserved-then-is_fixed t c =
     let memory = memory_of c.args.slab.now in
     let classes = c.args.classes.now in
-    let ps = parts classes (class_in memory c.args.node) in
     let name = name_of classes (class_in memory c.args.node) in
-    let deeper = shown_below memory (c.args.levels - 1) in
-    let xs = c.slots_at-slot-items.result.now in
-    let known : map part_view c.parts_of-parts.result.now ≡ ps = c.parts_of-parts.ensures ∙ ap (parts classes) c.class_at-class.ensures in
-    let here : fixed_among ps c.loop-i.i ≡ true = ap (λ qs. fixed_among qs c.loop-i.i) (sym known) ∙ sym c.is_fixed_among.ensures ∙ c.if-is_fixed_among.true in
-    let same = next_fixed ps xs c.loop-i.i c.slot-item.result (omega arith) c.slot-item.is here in (
-      c.loop-i.invariant.0 ∙ ap (λ ys. c.args.out.now.items ++ ((name ++ 40 ∷ []) ++ with_commas (map (slot_text classes deeper) ys))) (sym same),
-      c.loop-i.invariant.1 ∙ ap length (sym same),
+    let text = slot_text classes (shown_below memory (c.args.levels - 1)) in
+    let fixed = sym c.is_fixed.ensures ∙ c.if-is_fixed.true in
+    let same = sym (first_unfixed-same (map part_view c.parts_or_none-parts.result.now) text c.slots_at-slot-items.result.now
+    c.loop-i.i c.slot-item.result (omega arith) c.slot-item.is fixed) in (
+      c.loop-i.invariant.0 ∙ ap (λ ts. c.args.out.now.items ++ ((name ++ 40 ∷ []) ++ with_commas ts)) same,
+      c.loop-i.invariant.1 ∙ ap length same,
       omega (arith, c.loop-i.invariant.2),
     )
 
@@ -97,21 +92,18 @@ pub append_tree-loop-i-preserved : goal.append_tree-loop-i-preserved
 append_tree-loop-i-preserved t c =
     let memory = memory_of c.args.slab.now in
     let classes = c.args.classes.now in
-    let ps = parts classes (class_in memory c.args.node) in
     let deeper = shown_below memory (c.args.levels - 1) in
-    let text = slot_text classes deeper in
+    let ps = map part_view c.parts_or_none-parts.result.now in
     let xs = c.slots_at-slot-items.result.now in
-    let known : map part_view c.parts_of-parts.result.now ≡ ps = c.parts_of-parts.ensures ∙ ap (parts classes) c.class_at-class.ensures in
-    let here : fixed_among ps c.loop-i.i ≡ false = ap (λ qs. fixed_among qs c.loop-i.i) (sym known) ∙ sym c.is_fixed_among.ensures ∙ c.if-is_fixed_among.false in
-    let more = next_free ps xs c.loop-i.i c.slot-item.result (omega arith) c.slot-item.is here in
-    let long : length (unfixed ps (take (c.loop-i.i + 1) xs)) ≡ length (unfixed ps (take c.loop-i.i xs)) + 1 =
-    ap length more ∙ length-append (unfixed ps (take c.loop-i.i xs)) (c.slot-item.result ∷ []) in
-    let next = one_more_slot classes deeper ps xs c.loop-i.i c.slot-item.result (omega arith) c.slot-item.is here in
-    let sep = c.in_ok-separate.ensures.ok ∙ ap (λ n. c.loop-i.out.items ++ separator n) c.loop-i.invariant.1 in (
-      one_more _ (name_of classes (class_in memory c.args.node) ++ 40 ∷ []) (slots_so_far classes deeper ps xs c.loop-i.i)
-          (separator (length (unfixed ps (take c.loop-i.i xs)))) (text c.slot-item.result) c.loop-i.out.items c.separate.new.out.items _ _
-          c.loop-i.invariant.0 sep c.in_ok-append_slot.ensures.ok next,
-      omega (arith, long, c.loop-i.invariant.1),
+    let text = slot_text classes deeper c.slot-item.result in
+    let free = sym c.is_fixed.ensures ∙ c.if-is_fixed.false in
+    let so_far = written_so_far classes deeper ps xs c.loop-i.i in
+    let then_so_far = written_so_far classes deeper ps xs (c.loop-i.i + 1) in
+    let more = first_unfixed-more ps (slot_text classes deeper) xs c.loop-i.i c.slot-item.result (omega arith) c.slot-item.is free in
+    let next = one_text_more so_far then_so_far text c.loop-i.count c.loop-i.invariant.1 more in (
+      one_more _ (name_of classes (class_in memory c.args.node) ++ 40 ∷ []) (with_commas so_far) (separator c.loop-i.count) text c.loop-i.out.items c.separate.new.out.items _ _
+          c.loop-i.invariant.0 c.in_ok-separate.ensures.ok c.in_ok-append_slot.ensures.ok next,
+      one_longer so_far then_so_far text c.loop-i.count c.loop-i.invariant.1 more,
       omega (arith, c.loop-i.invariant.2),
     )
 
@@ -120,9 +112,10 @@ append_tree-returns-clause-ok t c =
     let memory = memory_of c.args.slab.now in
     let classes = c.args.classes.now in
     let name = name_of classes (class_in memory c.args.node) in
-    let ps = parts classes (class_in memory c.args.node) in
+    let ps = map part_view c.parts_or_none-parts.result.now in
     let so_far = slots_so_far classes (shown_below memory (c.args.levels - 1)) ps c.slots_at-slot-items.result.now c.loop-i.i in
     closed _ (name ++ 40 ∷ []) so_far c.loop-i.out.items _ (41 ∷ []) c.loop-i.invariant.0 c.in_ok-push-2.ensures.items
     ∙ ap (λ ys. c.args.out.now.items ++ ys) (append_assoc name (40 ∷ []) (so_far ++ 41 ∷ [])
-    ∙ sym (text_above classes memory c.args.levels c.args.node c.slots_at-slot-items.result.now c.loop-i.i
-    (omega (arith, c.if-levels-eq0.false)) c.loop-i-test.false c.slots_at-slot-items.ensures))
+    ∙ sym (text_above classes memory c.args.levels c.args.node c.slots_at-slot-items.result.now ps c.loop-i.i
+    (omega (arith, c.if-levels-eq0.false)) c.loop-i-test.false c.slots_at-slot-items.ensures
+    (c.parts_or_none-parts.ensures ∙ ap (parts classes) c.class_at-class.ensures)))
