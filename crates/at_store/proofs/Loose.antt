@@ -7,7 +7,7 @@ use Rattle.at_model.specs.Terms.{max_depth}
 use Rattle.at_model.specs.Trees.{Tree, class_of}
 use Rattle.at_model.specs.Paths.{Node, tree_at, children_at}
 use Rattle.at_model.specs.Edits.{is_fixed_part, is_planted, is_planted_in, is_loose}
-use Rattle.at_model.proofs.Options.{or_false}
+use Rattle.at_model.proofs.Options.{or_false, or_off}
 use Rattle.at_store.specs.Memory.{Info, Keeps, class_in, index_in, up_in}
 use Rattle.at_store.specs.Numbers.{path_in, relabel}
 use Rattle.at_store.specs.Told.{fixed_told, planted_told, planted_in_told, loose_told}
@@ -50,6 +50,33 @@ planted_above classes memory (suc most) k p h e =
     let g : suc most - 1 ≡ most = omega arith in
     ap (planted_by (λ p. fixed_told classes (memory p.0) p.1 || planted_told classes memory most p.0)) e
     ∙ ap (λ z. fixed_told classes (memory p.0) p.1 || planted_told classes memory z p.0) (sym g)
+
+-- where no component of a class is fixed nothing is
+module _ (classes : Classes) (memory : ℕ → Option Info) (none : (c part : ℕ) → is_fixed_part classes c part ≡ false) where
+  none_fixed : (o : Option Info) (part : ℕ) → fixed_told classes o part ≡ false
+  none_fixed None part = refl
+  none_fixed (Some i) part = none i.class part
+
+  none_planted : (most k : ℕ) → planted_told classes memory most k ≡ false
+  unfolding planted_told
+  none_planted zero k = refl
+  none_planted (suc most) k = by_up (up_in (memory k)) (none_planted most)
+    where
+      by_up : (o : Option (ℕ × ℕ)) → ((j : ℕ) → planted_told classes memory most j ≡ false)
+          → planted_by (λ p. fixed_told classes (memory p.0) p.1 || planted_told classes memory most p.0) o ≡ false
+      by_up None above = refl
+      by_up (Some p) above = or_off _ _ (none_fixed (memory p.0) p.1) (above p.0)
+
+  none_planted_in : (k part : ℕ) → planted_in_told classes memory k part ≡ false
+  none_planted_in k part = or_off _ _ (none_fixed (memory k) part) (none_planted max_depth k)
+
+  pub all_loose : (e : Edit) → loose_told classes memory e ≡ true
+  all_loose (Set node tree) = ap not (none_planted max_depth node)
+  all_loose (Put node part tree) = ap not (none_planted_in node part)
+  all_loose (Drop node) = ap not (none_planted max_depth node)
+  all_loose (Insert node part index tree) = ap not (none_planted_in node part)
+  all_loose (Token node part value) = ap not (none_planted_in node part)
+  all_loose (Move node to part index) = ap not (or_off _ _ (none_planted max_depth node) (none_planted_in to part))
 
 -- a component of a node of a tree is fixed
 abbrev fixed_at : Classes → ℕ → Option Tree → Bool
