@@ -1,5 +1,5 @@
 -- What is fixed in components changes neither names nor superclasses nor shapes, so that all which holds by these goes on holding.
-use Rattle.std.proofs.Common.{◌≡◌, ℕ, zero, suc, ◌<◌, true, false, arith, get_or, List, [], ◌∷◌, ◌++◌, length, map, reverse, Option, Some, None, refl, sym, ap, ◌∙◌, subst, option_and_then, option_map}
+use Rattle.std.proofs.Common.{◌≡◌, ℕ, Bool, not, zero, suc, ◌<◌, true, false, arith, get_or, List, [], ◌∷◌, ◌++◌, length, map, reverse, Option, Some, None, refl, sym, ap, ◌∙◌, subst, option_and_then, option_map}
 use Rattle.std.specs.Prelude.{All, IfSome, nat_eq, position, slice_set}
 use Rattle.std.specs.List.{flat_map, list_any, slice_get, AllByRecursion}
 use Rattle.std.specs.Str.{bytes_eq}
@@ -7,9 +7,10 @@ use Rattle.std.proofs.lemmas.List.Elements.{recursion_from_All, All-from_recursi
 use Rattle.std.proofs.lemmas.Option.{slice_get-map}
 use Rattle.std.proofs.lemmas.List.{length-map}
 use Rattle.std.proofs.lemmas.List.Concat.{flat_map-cons}
-use Rattle.at_model.specs.Classes.{Classes, Class, Component, AreNamedApart, AreSound, IsClassSound, IsComponentSound, chain, chain_within, class_of_name, name_of, own_of, parent_of, parts}
-use Rattle.at_model.specs.Declarations.{above}
-use Rattle.at_model.specs.Edits.{changed_at}
+use Rattle.at_model.specs.Classes.{Classes, Class, Component, AreNamedApart, AreSound, IsClassSound, IsComponentSound, is_fixed, chain, chain_within, class_of_name, name_of, own_of, parent_of, parts}
+use Rattle.at_model.specs.Declarations.{Declarations, Declaration, PartDeclaration, above, class_by, class_named, classes_of, component_by}
+use Rattle.at_model.specs.Edits.{changed_at, is_fixed_part}
+use Rattle.at_class.specs.Table.{HasNoneFixed}
 use Rattle.at_model.specs.Paths.{ArePartsApart, part_named}
 use Rattle.at_model.specs.SyntaxTrees.{Cell, CellIsTokens}
 use Rattle.at_model.specs.WellFormed.{IsHierarchy}
@@ -201,3 +202,38 @@ fixed_more (g ∷ fs) f classes = fixed_more fs f (with_fixed g classes)
 pub written_more : (fs : List Fixed) (f : Fixed) → AllByRecursion IsWritten fs → IsWritten f → AllByRecursion IsWritten (fs ++ f ∷ [])
 written_more [] f h k = (k, tt)
 written_more (g ∷ fs) f h k = (h.0, written_more fs f h.1 k)
+
+-- the classes that a grammar declares have nothing fixed
+bare_declared : (ds : Declarations) → bare (classes_of ds) ≡ classes_of ds
+unfolding classes_of
+bare_declared ds = each (class_named ds) ds
+  where
+    parts_same : (named : List ℕ → Option ℕ) (ps : List PartDeclaration) → map bare_part (map (component_by named) ps) ≡ map (component_by named) ps
+    parts_same named [] = refl
+    parts_same named (p ∷ ps) = ap (λ qs. component_by named p ∷ qs) (parts_same named ps)
+
+    each : (named : List ℕ → Option ℕ) (xs : List Declaration) → map bare_class (map (class_by named) xs) ≡ map (class_by named) xs
+    each named [] = refl
+    each named (d ∷ xs) = λ i. record { name = d.name; is_abstract = d.is_abstract; parent = option_and_then named d.parent; own = parts_same named d.parts i } ∷ each named xs i
+
+bare_none : (classes : Classes) (c part : ℕ) → is_fixed_part (bare classes) c part ≡ false
+bare_none classes c part =
+    ap (λ (ps : List Component). elim (slice_get ps part) as (λ _. Bool) [ None ↦ false | Some p ↦ is_fixed p ]) (parts_bare classes c)
+    ∙ ap (λ (o : Option Component). elim o as (λ _. Bool) [ None ↦ false | Some p ↦ is_fixed p ]) (slice_get-map bare_part (parts classes c) part)
+    ∙ by_part (slice_get (parts classes c) part)
+  where
+    by_part : (o : Option Component) → elim (option_map bare_part o) as (λ _. Bool) [ None ↦ false | Some p ↦ is_fixed p ] ≡ false
+    by_part None = refl
+    by_part (Some p) = refl
+
+pub none_fixed : (ds : Declarations) → HasNoneFixed (classes_of ds)
+none_fixed ds c part = subst (λ classes. is_fixed_part classes c part ≡ false) (bare_declared ds) (bare_none (classes_of ds) c part)
+
+-- and so where none are to be fixed
+pub none_given : (ds : Declarations) (fs : List Fixed) → length fs ≡ 0 → HasNoneFixed (fixed_as fs (classes_of ds))
+none_given ds [] e = none_fixed ds
+none_given ds (f ∷ fs) e = absurd (omega (arith, e))
+
+pub not_off : (b : Bool) → not b ≡ false → b ≡ true
+not_off true e = refl
+not_off false e = absurd cc

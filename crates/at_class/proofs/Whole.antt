@@ -3,7 +3,7 @@ use Rattle.std.proofs.Common.{◌≡◌, ◌<◌, ◌∙◌, ℕ, List, [], ◌�
 use Rattle.std.proofs.lemmas.Bool.{eqb-true}
 use Rattle.std.proofs.lemmas.List.{length-map}
 use Rattle.std.proofs.Common.{eq-eqb, true≢false}
-use Rattle.std.specs.Prelude.{String, string_bytes, ◌==◌}
+use Rattle.std.specs.Prelude.{Bool, String, string_bytes, ◌==◌}
 use Rattle.at_grammar.specs.declared.syntax.ClassDecl.{ClassDecl}
 use Rattle.at_model.specs.Classes.{AreSound, Class as ModelClass, Classes, parts}
 use Rattle.at_model.specs.WellFormed.{IsHierarchy}
@@ -16,7 +16,7 @@ use Rattle.at_class.specs.declared.intervals.Interval.{Interval}
 use Rattle.at_class.specs.Intervals.{AreIntervals}
 use Rattle.at_class.specs.View.{class_view, classes_view, part_view}
 use Rattle.at_class.specs.Grammar.{declarations_view}
-use Rattle.at_class.specs.Table.{AreEntries, IsTable, table_view}
+use Rattle.at_class.specs.Table.{AreEntries, HasNoneFixed, IsTable, table_view}
 use Rattle.at_class.specs.Ways.{AreLed}
 use Rattle.at_class.specs.Fixing.{Fixed, IsWritten, fixed_as}
 use Rattle.at_class.proofs.Acyclic.{hierarchy as is_hierarchy}
@@ -62,8 +62,8 @@ table_of_classes keys ks lent es classes same e is are sound hierarchy =
 pub is_table : {A : Type 0} (keys : List (String A)) (ks lent : List Class) (es : List Entry) (is : List Interval)
     (start : ℕ) (classes : Classes) → start ≡ 0 → map string_bytes keys ≡ map (λ (k : ModelClass). k.name) classes
     → classes_view ks ≡ classes → lent ≡ ks → AreEntries lent es (length lent) → AreSound classes → IsHierarchy classes → ArePartsApart classes
-    → AreIntervals (classes_view lent) is → IsTable keys es is start
-is_table keys ks lent es numbers start classes first same e is are sound hierarchy apart right =
+    → AreIntervals (classes_view lent) is → (has_fixed : Bool) → (has_fixed ≡ false → HasNoneFixed classes) → IsTable keys es is start has_fixed
+is_table keys ks lent es numbers start classes first same e is are sound hierarchy apart right has_fixed none =
     let t : table_view keys es ≡ classes = table_of_classes keys ks lent es classes same e is are sound hierarchy in
     let f : classes_view lent ≡ table_view keys es = ap classes_view is ∙ e ∙ sym t in
     record {
@@ -75,6 +75,7 @@ is_table keys ks lent es numbers start classes first same e is are sound hierarc
       sound = subst AreSound (sym t) sound;
       hierarchy = subst IsHierarchy (sym t) hierarchy;
       apart = subst ArePartsApart (sym t) apart;
+      free = λ off. subst HasNoneFixed (sym t) (none off);
     }
   where
     spare : {X : Type 0} (xs : List X) (c : ℕ) → c < length xs → X

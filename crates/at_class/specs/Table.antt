@@ -1,7 +1,8 @@
 -- What a class table holds.
-use Rattle.std.specs.Prelude.{◌≡◌, ℕ, ◌<◌, List, length, map, drop, get_or, zip, option_map, option_and_then, unwrap_or, String, string_bytes}
+use Rattle.std.specs.Prelude.{◌≡◌, ℕ, ◌<◌, Bool, false, List, length, map, drop, get_or, zip, option_map, option_and_then, unwrap_or, String, string_bytes}
 use Rattle.std.specs.List.{slice_get}
 use Rattle.at_model.specs.Classes.{Classes, Class as ModelClass, AreSound, parts}
+use Rattle.at_model.specs.Edits.{is_fixed_part}
 use Rattle.at_model.specs.Paths.{ArePartsApart}
 use Rattle.at_model.specs.WellFormed.{IsHierarchy}
 use Rattle.at_class.specs.declared.class.Class.{Class}
@@ -37,9 +38,14 @@ pub record AreEntries (ks : List Class) (es : List Entry) (n : ℕ) : Type 0 whe
   pub count : length es ≡ n
   pub each : (c : ℕ) (k : Class) (e : Entry) → c < n → IsEntry (classes_view ks) c (get_or ks c k) (get_or es c e)
 
+-- no component is fixed
+abbrev pub HasNoneFixed : Classes → Type 0
+HasNoneFixed classes = (c part : ℕ) → is_fixed_part classes c part ≡ false
+
 -- there is a name for each entry, each entry has all components of its class, the intervals are those of the classes, the
--- start is the first class, and the classes are as a grammar without faults declares them
-pub record IsTable {A : Type 0} (names : List (String A)) (es : List Entry) (is : List Interval) (start : ℕ) : Type 0 where
+-- start is the first class, the classes are as a grammar without faults declares them, and where it isn't said that some component is
+-- fixed none is
+pub record IsTable {A : Type 0} (names : List (String A)) (es : List Entry) (is : List Interval) (start : ℕ) (has_fixed : Bool) : Type 0 where
   pub count : length names ≡ length es
   pub parts : (c : ℕ) (e : Entry) → c < length es → map part_view (get_or es c e).parts.items ≡ parts (table_view names es) c
   pub numbers : AreIntervals (table_view names es) is
@@ -47,3 +53,4 @@ pub record IsTable {A : Type 0} (names : List (String A)) (es : List Entry) (is 
   pub sound : AreSound (table_view names es)
   pub hierarchy : IsHierarchy (table_view names es)
   pub apart : ArePartsApart (table_view names es)
+  pub free : has_fixed ≡ false → HasNoneFixed (table_view names es)

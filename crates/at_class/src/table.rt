@@ -21,6 +21,8 @@ pub struct ClassTable {
     intervals: Vec<Interval>,
     // The class of whole trees.
     start: ClassId,
+    // Whether something is fixed in a component.
+    has_fixed: bool,
 }
 
 /// One call, where each exit that lets it go would else have a case for each collection.
@@ -31,6 +33,7 @@ impl Drop for ClassTable {
             entries: _,
             intervals: _,
             start: _,
+            has_fixed: _,
         } = self;
     }
 }
@@ -48,7 +51,7 @@ impl Model for ClassTable {
 
     ghost view = { λ t. table_view t.names.keys t.entries.items };
 
-    ghost invariant = { λ t. IsTable t.names.keys t.entries.items t.intervals.items t.start };
+    ghost invariant = { λ t. IsTable t.names.keys t.entries.items t.intervals.items t.start t.has_fixed };
 }
 
 impl ClassTable {
@@ -62,6 +65,7 @@ impl ClassTable {
     ghost use Rattle.at_class.specs.Grammar.{grammar_view};
     ghost use Rattle.at_class.specs.Faults.{IsRefusedFor};
     ghost use Rattle.at_class.specs.Fixing.{fixed_as, fixed_view};
+    ghost use Rattle.at_class.specs.Table.{HasNoneFixed};
 
     /// The table of the classes that the grammar declares. A grammar that breaks a rule is refused: of several rules the first in
     /// the order of `ClassCode` counts, at its earliest place. `Memory` where memory is wanting.
@@ -108,6 +112,13 @@ impl ClassTable {
         ensures sound { AreSound self.now }
     {
         self.start
+    }
+
+    /// Whether something is fixed in a component of a class. Where it isn't, no component is.
+    pub fn has_fixed(&self) -> bool
+        ensures { IsTrue (not result) → HasNoneFixed self.now }
+    {
+        self.has_fixed
     }
 
     /// The class of that name.
@@ -241,5 +252,6 @@ fn table_of(
         entries,
         intervals,
         start: ClassId::new(0),
+        has_fixed: !fixed.is_empty(),
     })
 }

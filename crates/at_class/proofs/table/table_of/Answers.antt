@@ -1,4 +1,6 @@
-use Rattle.std.proofs.Common.{◌∙◌, ap, map, subst, sym}
+use Rattle.std.proofs.Common.{◌∙◌, ap, length, map, subst, sym}
+use Rattle.std.proofs.lemmas.Bool.{eqb-true}
+use Rattle.std.proofs.lemmas.List.{length-map}
 use Rattle.at_model.specs.Declarations.{classes_of}
 use Rattle.at_model.specs.WellFormed.{IsHierarchy}
 use Rattle.at_model.proofs.LedUp.{led}
@@ -7,6 +9,7 @@ use Rattle.at_class.specs.Grammar.{declarations_view}
 use Rattle.at_class.specs.Intervals.{AreIntervals}
 use Rattle.at_class.specs.Ways.{AreLed}
 use Rattle.at_class.specs.Fixing.{fixed_as, fixed_view}
+use Rattle.at_class.proofs.FixedParts.{none_given, not_off}
 use Rattle.at_class.proofs.Named.{classes-declared}
 use Rattle.at_class.proofs.Order.{no_fault}
 use Rattle.at_class.proofs.Sound.{classes_sound, view_texts}
@@ -60,6 +63,8 @@ invariant_of-result c =
     c.in_ok-intervals.intervals.items c.new.result (fixed_as fs (classes_of (declarations_view xs))) c.new.ensures (names.0 ∙ m.named) e c.deref-2.ensures.value
     c.in_ok-entries.ensures m.sound m.hierarchy m.apart
     (subst (λ lent. AreIntervals (classes_view lent) c.in_ok-intervals.intervals.items) (c.deref-3.ensures.value ∙ sym c.deref-2.ensures.value) c.in_ok-intervals.ensures)
+    _ (λ off. none_given (declarations_view xs) fs
+    (length-map c.args.fixed.now fixed_view ∙ eqb-true (length c.args.fixed.now) 0 (sym c.is_empty.ensures ∙ not_off c.is_empty.result off)))
 
 pub returns-clause-faultless : goal.returns-clause-faultless
 returns-clause-faultless c =
