@@ -50,4 +50,12 @@ impl Contents {
         } = self;
         aspects
     }
+
+    /// The aspects, and the constants.
+    pub fn into_parts(self) -> (Vec<Aspect>, Vec<Constant>)
+        ensures { result ≡ (self.aspects, self.constants) }
+    {
+        let Contents { aspects, constants } = self;
+        (aspects, constants)
+    }
 }
