@@ -30,7 +30,8 @@ use Rattle.at_typing.specs.Declaring.{body_at, body_in}
 use Rattle.at_typing.specs.Located.{Located, from_aspect, from_file, located}
 use Rattle.at_typing.proofs.Starting.{IsBooleanForm, IsBooleanIn}
 use Rattle.at_model.specs.Classes.{Classes}
-use Rattle.at_start.specs.AspectFiles.{AllHold}
+use Rattle.at_start.specs.AspectFiles.{AllGive, AllHold, aspects_in}
+use Rattle.at_start.specs.Constants.{Placed}
 use Rattle.at_start.specs.Overloading.{Overloads, all_counted, apart_among, aspect_apart, decl_apart, ending_apart, files_apart, form_apart, is_overloaded, told_apart}
 use Rattle.at_start.specs.Redeclaring.{Signature, as_equation, aspect_read, files_read, is_declared_above, read_as, read_in, signature_in, signatures}
 use Rattle.at_start.specs.Spreading.{Head as Own, ending_if, form_for, is_among, null_form, spread}
@@ -418,20 +419,25 @@ module _ (classes : Classes) (among : List Signature) where
       (file_fits n read (aspects_read_fit classes among a fit.0)) (located_fit (n + 1) as' fit.1)
 
 module _ (names : List Alias) where
-  hold_fit : (files : List (List ℕ)) (aspects : List (List Aspect)) → AllHold JastAdd names files aspects → AllByRecursion AllFit aspects
+  hold_fit : (files : List (List ℕ)) (contents : List Contents) → AllHold JastAdd names files contents
+      → AllByRecursion AllFit (aspects_in contents)
   hold_fit [] [] hold = tt
   hold_fit [] (a ∷ as') hold = absurd hold
   hold_fit (f ∷ fs) [] hold = absurd hold
   hold_fit (f ∷ fs) (a ∷ as') hold =
-      (read_fits (resolved_row names hold.0.written.1.tokens) _ [] hold.0.written.1.is, hold_fit fs as' hold.1)
+      (read_fits (resolved_row names hold.0.written.tokens) a [] hold.0.written.is, hold_fit fs as' hold.1)
 
-  module _ (classes : Classes) (files : List (List ℕ)) (aspects : List (List Aspect)) (hold : AllHold JastAdd names files aspects) where
+  module _ (classes : Classes) (files : List (List ℕ)) (aspects : List (List Aspect)) (constants : List Placed)
+      (give : AllGive JastAdd names files aspects constants) where
+    aspects_fit_all : AllByRecursion AllFit aspects
+    aspects_fit_all = subst (AllByRecursion AllFit) (sym give.aspects_are) (hold_fit files give.contents give.hold)
+
     read_fit : AllByRecursion LocatedFits (located 1 (read_in JastAdd classes aspects))
     read_fit =
         let apart = told_apart classes aspects in
         let all = spread classes apart in
         located_fit classes (signatures classes all) 1 all
-        (spread_have Fits form_for_fits null_form_fits classes apart (told_apart_fit classes aspects (hold_fit files aspects hold)))
+        (spread_have Fits form_for_fits null_form_fits classes apart (told_apart_fit classes aspects aspects_fit_all))
 
     pub hold_ints : AllByRecursion AreIntsIn (located 1 (read_in JastAdd classes aspects))
     hold_ints = all_more LocatedFits AreIntsIn (located 1 (read_in JastAdd classes aspects)) (λ d fits. fits.0) read_fit

@@ -4,6 +4,13 @@ mod Rereading
 mod Declaring
 mod TermFiles
 mod Ruled
+mod PlantingLoops
+mod PlantingGrammars
+mod PlantingShapes
+mod PlantingLevels
+mod PlantingFixes
+mod PlantingFaults
+mod PlantedNames
 mod Started
 mod JavaGiven
 mod JavaNumbers

@@ -1,7 +1,7 @@
 -- Files give one grammar, one set of rules and one tree.
-use Rattle.std.proofs.Common.{◌≡◌, ℕ, List, [], ◌∷◌, refl, sym, ap, ap₂, ◌∙◌, subst, Some}
+use Rattle.std.proofs.Common.{◌≡◌, ℕ, List, [], ◌∷◌, refl, sym, ap, ap₂, ◌∙◌, subst, None, Some}
 use Rattle.at_model.specs.Classes.{AreNamedApart, Classes}
-use Rattle.at_model.specs.Declarations.{Declarations, classes_of}
+use Rattle.at_model.specs.Declarations.{Declarations, classes_of, first_fault}
 use Rattle.at_model.specs.Rules.{Rules}
 use Rattle.at_model.specs.Terms.{term_of}
 use Rattle.at_model.specs.Trees.{Tree}
@@ -14,18 +14,19 @@ use Rattle.at_grammar.proofs.Unique.{file_unique}
 use Rattle.at_jrag.specs.Syntax.{Aspect}
 use Rattle.at_jrag.specs.Grammar.{File}
 use Rattle.at_jrag.proofs.Unambiguous.{one_file}
-use Rattle.at_class.proofs.Order.{none_broken}
-use Rattle.at_class.proofs.Sound.{classes_apart}
 use Rattle.at_tree.proofs.TextLaws.{one_term_each}
 use Rattle.at_typing.specs.Building.{rules_of}
 use Rattle.at_typing.specs.Located.{located}
-use Rattle.at_start.specs.GrammarFiles.{Declares, GivesClasses, declared}
+use Rattle.at_start.specs.Constants.{Placed, constants_from, planted_classes}
+use Rattle.at_start.specs.GrammarFiles.{Declares, GivesGrammar, declared}
 use Rattle.at_java.specs.Aliases.{Alias}
+use Rattle.at_java.specs.Declarations.{Constant}
 use Rattle.at_java.specs.Files.{Contents, contents_of}
 use Rattle.at_java.specs.Read.{got}
 use Rattle.at_start.specs.Lists.{aliases_in}
-use Rattle.at_start.specs.AspectFiles.{AllHold, GivesRules, IsWritten, arguments_in}
+use Rattle.at_start.specs.AspectFiles.{AllGive, AllHold, GivesRules, IsWritten, arguments_in, aspects_in}
 use Rattle.at_start.specs.Redeclaring.{read_in}
+use Rattle.at_start.proofs.PlantedNames.{planted_apart}
 use Rattle.at_start.proofs.Ruled.{made_builds}
 use Rattle.at_start.specs.declared.language.Language.{Language}
 use Rattle.at_start.specs.declared.language.Language.TheVariants.{Profile, JastAdd}
@@ -40,44 +41,59 @@ declared_once text ds es h k =
     let written = file_unique h.grammar k.grammar h.spells.0 k.spells.0 (sym h.spells.1 ∙ ap (symbols words_keep) rows ∙ k.spells.1) in
     h.means ∙ ap declared written ∙ sym k.means
 
-pub classes_once : (bytes : List ℕ) (cs ds : Classes) → GivesClasses bytes cs → GivesClasses bytes ds → cs ≡ ds
-classes_once bytes cs ds h k = h.built ∙ ap classes_of (declared_once bytes h.declarations k.declarations h.declares k.declares) ∙ sym k.built
-
-pub named_apart : (bytes : List ℕ) (cs : Classes) → GivesClasses bytes cs → AreNamedApart cs
-named_apart bytes cs h = subst AreNamedApart (sym h.built) (classes_apart h.declarations (none_broken h.declarations h.faultless).2)
+pub grammar_once : (bytes : List ℕ) (ds es : Declarations) → GivesGrammar bytes ds → GivesGrammar bytes es → ds ≡ es
+grammar_once bytes ds es h k = declared_once bytes ds es h.declares k.declares
 
 -- ---- the aspects
 
 got_once : (x y : Contents) (rest : Row) → got x rest ≡ got y rest → x ≡ y
 got_once x y rest e = cc
 
-written_once : (language : Language) (names : List Alias) (text : List ℕ) (as' bs : List Aspect) → IsWritten language names text as'
-    → IsWritten language names text bs → as' ≡ bs
-written_once (Profile forms) names text as' bs h k =
+both_once : (x y : Contents) → x.aspects ≡ y.aspects → x.constants ≡ [] → y.constants ≡ [] → x ≡ y
+both_once x y same none none' = ap₂ (λ (as' : List Aspect) (ks : List Constant). let c : Contents = record { aspects = as'; constants = ks } in c) same (none ∙ sym none')
+
+written_once : (language : Language) (names : List Alias) (text : List ℕ) (x y : Contents) → IsWritten language names text x
+    → IsWritten language names text y → x ≡ y
+written_once (Profile forms) names text x y h k =
+    let rows = one_row text h.0.tokens k.0.tokens h.0.cut k.0.cut in
+    let same = one_file forms x.aspects y.aspects k.0.tokens (subst (λ (row : Row). File forms x.aspects row []) rows h.0.spells) k.0.spells in
+    both_once x y same h.1 k.1
+written_once JastAdd names text x y h k =
     let rows = one_row text h.tokens k.tokens h.cut k.cut in
-    one_file forms as' bs k.tokens (subst (λ (row : Row). File forms as' row []) rows h.spells) k.spells
-written_once JastAdd names text as' bs h k =
-    let rows = one_row text h.1.tokens k.1.tokens h.1.cut k.1.cut in
-    ap (λ c. c.aspects) (got_once _ _ [] (sym h.1.is ∙ ap (contents_of names) rows ∙ k.1.is))
+    got_once x y [] (sym h.is ∙ ap (contents_of names) rows ∙ k.is)
 
-all_held_once : (language : Language) (names : List Alias) (files : List (List ℕ)) (as' bs : List (List Aspect))
-    → AllHold language names files as' → AllHold language names files bs → as' ≡ bs
+all_held_once : (language : Language) (names : List Alias) (files : List (List ℕ)) (xs ys : List Contents)
+    → AllHold language names files xs → AllHold language names files ys → xs ≡ ys
 all_held_once language names [] [] [] h k = refl
-all_held_once language names [] [] (b ∷ bs) h k = absurd k
-all_held_once language names [] (a ∷ as') bs h k = absurd h
-all_held_once language names (f ∷ fs) [] bs h k = absurd h
-all_held_once language names (f ∷ fs) (a ∷ as') [] h k = absurd k
-all_held_once language names (f ∷ fs) (a ∷ as') (b ∷ bs) h k =
-    ap₂ (λ x xs. x ∷ xs) (written_once language names f a b h.0.written k.0.written) (all_held_once language names fs as' bs h.1 k.1)
+all_held_once language names [] [] (y ∷ ys) h k = absurd k
+all_held_once language names [] (x ∷ xs) ys h k = absurd h
+all_held_once language names (f ∷ fs) [] ys h k = absurd h
+all_held_once language names (f ∷ fs) (x ∷ xs) [] h k = absurd k
+all_held_once language names (f ∷ fs) (x ∷ xs) (y ∷ ys) h k =
+    ap₂ (λ c cs. c ∷ cs) (written_once language names f x y h.0.written k.0.written) (all_held_once language names fs xs ys h.1 k.1)
 
-pub rules_once : (language : Language) (cs ds : Classes) (files : List (List ℕ)) (rules others : Rules) → cs ≡ ds
-    → GivesRules language cs files rules → GivesRules language ds files others → rules ≡ others
-rules_once language cs ds files rules others same h k =
-    let held = subst (λ (c : Classes). AllHold language (aliases_in language c) files h.aspects) same h.hold in
-    (made_builds language cs h.aspects rules h.built).1 ∙ ap₂
-    (λ c as'. rules_of (arguments_in language) c (located 1 (read_in language c as'))) same
-    (all_held_once language (aliases_in language ds) files h.aspects k.aspects held k.hold)
-    ∙ sym (made_builds language ds k.aspects others k.built).1
+given_once : (language : Language) (names : List Alias) (files : List (List ℕ)) (aspects others : List (List Aspect)) (ks js : List Placed)
+    → AllGive language names files aspects ks → AllGive language names files others js → (aspects ≡ others) × (ks ≡ js)
+given_once language names files aspects others ks js h k =
+    let same = all_held_once language names files h.contents k.contents h.hold k.hold in
+    (h.aspects_are ∙ ap aspects_in same ∙ sym k.aspects_are, h.constants_are ∙ ap (constants_from 1) same ∙ sym k.constants_are)
+
+pub rules_once : (language : Language) (ds es : Declarations) (files : List (List ℕ)) (rules others : Rules) → ds ≡ es
+    → GivesRules language ds files rules → GivesRules language es files others → rules ≡ others
+rules_once language ds es files rules others same h k =
+    let given = subst (λ (d : Declarations). AllGive language (aliases_in language (classes_of d)) files h.aspects h.constants) same h.given in
+    let both = given_once language (aliases_in language (classes_of es)) files h.aspects k.aspects h.constants k.constants given k.given in
+    let classes : planted_classes ds h.constants ≡ planted_classes es k.constants = ap₂ planted_classes same both.1 in
+    (made_builds language (planted_classes ds h.constants) h.aspects rules h.built).1 ∙ ap₂
+    (λ c as'. rules_of (arguments_in language) c (located 1 (read_in language c as'))) classes both.0
+    ∙ sym (made_builds language (planted_classes es k.constants) k.aspects others k.built).1
+
+-- their classes have names of their own
+pub given_apart : (language : Language) (ds : Declarations) (files : List (List ℕ)) (rules : Rules) → first_fault ds ≡ None
+    → GivesRules language ds files rules → AreNamedApart rules.classes
+given_apart language ds files rules faultless h =
+    let made = (made_builds language (planted_classes ds h.constants) h.aspects rules h.built).1 in
+    subst AreNamedApart (sym (ap (λ (r : Rules). r.classes) made)) (planted_apart ds h.constants faultless)
 
 -- ---- the tree
 

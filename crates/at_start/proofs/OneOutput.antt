@@ -1,6 +1,5 @@
 -- Files mean one output for the bytes of lines.
 use Rattle.std.proofs.Common.{◌≡◌, ℕ, Bool, List, [], ◌∷◌, map, refl, sym, ap₂, ◌∙◌, subst}
-use Rattle.at_model.specs.Classes.{Classes}
 use Rattle.at_model.specs.Lines.{lines}
 use Rattle.at_model.specs.Rules.{Rules}
 use Rattle.at_model.specs.Trees.{Tree}
@@ -12,7 +11,7 @@ use Rattle.at_start.specs.Starts.{aspect_bytes, opening}
 use Rattle.at_start.specs.TreeFiles.{GivesTree}
 use Rattle.at_start.specs.Whole.{IsWithinMemory, MeansOutput}
 use Rattle.at_start.specs.declared.files.Files.{Files}
-use Rattle.at_start.proofs.OneMeaning.{classes_once, named_apart, rules_once, tree_once}
+use Rattle.at_start.proofs.OneMeaning.{given_apart, grammar_once, rules_once, tree_once}
 
 -- each line is told once, and of none is it told that memory ran out
 same_flags : (rules : Rules) (old start : State) (ls : List (List ℕ)) (told also : List (Bool × Reply)) (new other : State)
@@ -26,12 +25,12 @@ same_flags rules old start _ _ _ new other (served {mid = mid} {rest = rest} {mo
 pub one_output : (files : Files) (slice other_slice : ℕ) (input one other : List ℕ) (a : MeansOutput files slice input one)
     (b : MeansOutput files other_slice input other) → PostNothing input → IsWithinMemory a.told → IsWithinMemory b.told → one ≡ other
 one_output files slice other_slice input one other a b no_post within within' =
-    let classes = classes_once files.grammar.bytes.items a.classes b.classes a.grammar b.grammar in
-    let rules = rules_once files.language a.classes b.classes (aspect_bytes files.aspects.items) a.rules b.rules classes
+    let grammar = grammar_once files.grammar.bytes.items a.declarations b.declarations a.grammar b.grammar in
+    let rules = rules_once files.language a.declarations b.declarations (aspect_bytes files.aspects.items) a.rules b.rules grammar
     a.aspects b.aspects in
-    let given = subst (λ (c : Classes). GivesTree c files.nodes files.tree.bytes.items b.opened) (sym classes) b.tree in
-    let apart = named_apart files.grammar.bytes.items a.classes a.grammar in
-    let trees = tree_once a.classes files.nodes files.tree.bytes.items a.opened b.opened apart a.tree given in
+    let given = subst (λ (r : Rules). GivesTree r.classes files.nodes files.tree.bytes.items b.opened) (sym rules) b.tree in
+    let apart = given_apart files.language a.declarations (aspect_bytes files.aspects.items) a.rules a.grammar.faultless a.aspects in
+    let trees = tree_once a.rules.classes files.nodes files.tree.bytes.items a.opened b.opened apart a.tree given in
     let start = opening files.nodes a.opened in
     let outputs = subst (λ (r : Rules). Outputs r other_slice start input b.told b.new) (sym rules)
     (subst (λ (t : Tree). Outputs b.rules other_slice (opening files.nodes t) input b.told b.new) (sym trees) b.outputs) in

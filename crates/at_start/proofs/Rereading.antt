@@ -11,28 +11,10 @@ use Rattle.at_jrag.specs.Syntax.{Aspect, DeclForm, Synthesized, Inherited, Equat
 use Rattle.at_jrag.specs.View.{aspect_view}
 use Rattle.at_jrag.specs.declared.syntax.Aspect.{Aspect as AspectValue}
 use Rattle.at_start.specs.Redeclaring.{Signature, is_above, is_again, is_declared_above, kind_text, may_start, signature_in, strays, superclass, superclass_in, with_kinds}
-
-abbrev pub aspects_of : Vec AspectValue Global → List Aspect
-aspects_of v = map aspect_view v.items
-
+pub use Rattle.at_start.specs.FilesView.{aspects_of}
 -- ---- items of a slice
 
--- the part that the next one gives is appended
-pub next_part : {X A : Type 0} (g h : List X → List A) (before after part zs : List A) (items : List X) (k : ℕ) (x : X)
-    → k < length items → x ≡ get_or items k x → ((rest : List X) → g (x ∷ rest) ≡ part ++ h rest)
-    → after ≡ before ++ part → before ++ g (drop k items) ≡ zs → after ++ h (drop (k + 1) items) ≡ zs
-next_part g h before after part zs items k x less is law new so_far =
-    let rest = drop (suc k) items in
-    let here : drop k items ≡ x ∷ rest = drop-cons items k x less ∙ ap (λ y. y ∷ rest) (sym is) in
-    rw (new, add-one) (append_assoc before part (h rest) ∙ ap (λ ys. before ++ ys) (sym (law rest))
-    ∙ ap (λ ys. before ++ g ys) (sym here) ∙ so_far)
-
--- none is left
-pub no_part : {X A : Type 0} (g : List X → List A) (before zs : List A) (items : List X) (k : ℕ)
-    → length items ≤ k → g [] ≡ []
-    → before ++ g (drop k items) ≡ zs → before ≡ zs
-no_part g before zs items k past none so_far =
-    sym (ap (λ xs. before ++ g xs) (drop_all k items past) ∙ ap (λ ys. before ++ ys) none ∙ append-nil before) ∙ so_far
+pub use Rattle.at_start.proofs.PlantingLoops.{next_part, no_part}
 
 module _ {X : Type 0} (p : X → Bool) (xs : List X) (i : ℕ) where
   any_split : (x : X) → i < length xs → x ≡ get_or xs i x → list_any p (drop i xs) ≡ (p x || list_any p (drop (i + 1)

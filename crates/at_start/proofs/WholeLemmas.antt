@@ -49,7 +49,7 @@ whole files slice report input left after a =
       text_of r.told,
       written_whole (text_of r.told) after r.written,
       record {
-        classes = s.classes;
+        declarations = s.declarations;
         grammar = s.grammar;
         rules = a.rules;
         aspects = s.aspects;

@@ -1,7 +1,10 @@
 -- Which rules aspect files give, and by which fault of which file they are refused.
-use Rattle.std.specs.Prelude.{◌≡◌, ℕ, ◌+◌, Bool, true, List, [], ◌∷◌, ◌++◌, length, Option, Some, None, Result, Ok, Err}
+use Rattle.std.specs.Prelude.{◌≡◌, ◌⊎◌, ℕ, ◌+◌, Bool, true, List, [], ◌∷◌, ◌++◌, length, map, Option, Some, None, Result, Ok, Err}
 use Rattle.at_model.specs.Classes.{Classes}
+use Rattle.at_model.specs.Declarations.{Declarations, classes_of}
 use Rattle.at_model.specs.Rules.{Rules}
+use Rattle.at_model.specs.WellFormed.{IsHierarchy}
+use Rattle.at_rules.specs.Circular.{AreCircularLazy}
 use Rattle.at_text.specs.Symbols.{PlacedToken, HasTokens}
 use Rattle.at_text.specs.declared.place.Place.{Place}
 use Rattle.at_text.specs.Place.{first_place}
@@ -12,10 +15,12 @@ use Rattle.at_jrag.specs.declared.Forms.{Forms}
 use Rattle.at_jrag.specs.declared.JragCode.{JragCode}
 use Rattle.at_jrag.specs.declared.JragCode.TheVariants as jrag
 use Rattle.at_java.specs.Aliases.{Alias}
-use Rattle.at_java.specs.Declarations.{Constant}
+use Rattle.at_java.specs.Files.{Contents}
 use Rattle.at_java.specs.Files as java_files
 use Rattle.at_java.specs.declared.JavaCode.{JavaCode}
 use Rattle.at_java.specs.declared.JavaCode.TheVariants as java
+use Rattle.at_start.specs.Constants.{Placed, constants_from, planted_classes}
+use Rattle.at_start.specs.ConstantFaults.{Refusal, Tells, constants_fault}
 use Rattle.at_start.specs.Files.{IsText, IsNoText, max_file}
 use Rattle.at_start.specs.Lists.{aliases_in}
 use Rattle.at_start.specs.Redeclaring.{fault_in, read_in}
@@ -44,10 +49,10 @@ pub record Spells (forms : Forms) (text : List ℕ) (aspects : List Aspect) : Ty
   pub spells : File forms aspects tokens []
   pub within : IsWithin aspects
 
--- the aspects are written in the text, in that language, where names stand for others; of the constants that they declare nothing is said
-abbrev pub IsWritten : Language → List Alias → (text : List ℕ) → List Aspect → Type 0
-IsWritten (Profile forms) names text aspects = Spells forms text aspects
-IsWritten JastAdd names text aspects = (constants : List Constant) × java_files.Holds names text (record { aspects = aspects; constants = constants })
+-- what is written in the text, in that language, where names stand for others: aspects and, in JastAdd's own, constants
+abbrev pub IsWritten : Language → List Alias → (text : List ℕ) → Contents → Type 0
+IsWritten (Profile forms) names text contents = Spells forms text contents.aspects × (contents.constants ≡ [])
+IsWritten JastAdd names text contents = java_files.Holds names text contents
 
 -- whether circular attributes are read in the language
 abbrev pub reads_circular : Language → Bool
@@ -59,17 +64,29 @@ abbrev pub arguments_in : Language → Arguments
 arguments_in (Profile forms) = Given
 arguments_in JastAdd = Computed
 
--- the file is a text in which the aspects are written
-pub record Holds (language : Language) (names : List Alias) (bytes : List ℕ) (aspects : List Aspect) : Type 0 where
+-- the file is a text in which this is written
+pub record Holds (language : Language) (names : List Alias) (bytes : List ℕ) (contents : Contents) : Type 0 where
   pub text : IsText max_file bytes
-  pub written : IsWritten language names bytes aspects
+  pub written : IsWritten language names bytes contents
 
--- each file holds its aspects
-abbrev pub AllHold : Language → List Alias → List (List ℕ) → List (List Aspect) → Type 0
+-- each file holds its contents
+abbrev pub AllHold : Language → List Alias → List (List ℕ) → List Contents → Type 0
 AllHold language names [] [] = Unit {0}
-AllHold language names [] (a ∷ as') = ⊥
+AllHold language names [] (c ∷ cs) = ⊥
 AllHold language names (f ∷ fs) [] = ⊥
-AllHold language names (f ∷ fs) (a ∷ as') = Holds language names f a × AllHold language names fs as'
+AllHold language names (f ∷ fs) (c ∷ cs) = Holds language names f c × AllHold language names fs cs
+
+-- the aspects of each file
+abbrev pub aspects_in : List Contents → List (List Aspect)
+aspects_in contents = map (λ c. c.aspects) contents
+
+-- each file holds contents, and these are their aspects and their constants
+pub record AllGive (language : Language) (names : List Alias) (files : List (List ℕ)) (aspects : List (List Aspect)) (constants : List Placed)
+    : Type 0 where
+  pub contents : List Contents
+  pub hold : AllHold language names files contents
+  pub aspects_are : aspects ≡ aspects_in contents
+  pub constants_are : constants ≡ constants_from 1 contents
 
 abbrev pub jrag_code : JragCode → Code
 jrag_code jrag.Syntax = code.AspectSyntax
@@ -101,9 +118,9 @@ pub record IsUnreadAt (language : Language) (names : List Alias) (files : List (
   pub front : List (List ℕ)
   pub rest : List (List ℕ)
   pub bytes : List ℕ
-  pub aspects : List (List Aspect)
+  pub contents : List Contents
   pub split : files ≡ front ++ bytes ∷ rest
-  pub hold : AllHold language names front aspects
+  pub hold : AllHold language names front contents
   pub refuses : RefusesReading language names bytes c at
   pub number : file ≡ length front + 1
 
@@ -125,12 +142,14 @@ abbrev pub Makes : Language → Classes → List (List Aspect) → Result Rules 
 Makes language classes aspects result =
     BuildsBehind (arguments_in language) classes (fault_in language classes aspects) (located 1 (read_in language classes aspects)) result
 
--- The files in that language give the rules over the classes: each file holds aspects, and all their declarations together
--- make the rules.
-pub record GivesRules (language : Language) (classes : Classes) (files : List (List ℕ)) (rules : Rules) : Type 0 where
+-- The files in that language give the rules over the classes that are declared: each file holds aspects and constants, all constants can
+-- stand, and over the classes in which they are fixed all declarations together make the rules.
+pub record GivesRules (language : Language) (ds : Declarations) (files : List (List ℕ)) (rules : Rules) : Type 0 where
   pub aspects : List (List Aspect)
-  pub hold : AllHold language (aliases_in language classes) files aspects
-  pub built : Makes language classes aspects (Ok rules)
+  pub constants : List Placed
+  pub given : AllGive language (aliases_in language (classes_of ds)) files aspects constants
+  pub stand : constants_fault ds constants ≡ None
+  pub built : Makes language (planted_classes ds constants) aspects (Ok rules)
 
 -- a rule's code among those of all files
 abbrev pub rule_code : RuleCode → Code
@@ -146,23 +165,34 @@ rule_code rule.InheritedWithoutEquation = code.InheritedWithoutEquation
 rule_code rule.EquationWithoutAttribute = code.EquationWithoutAttribute
 
 -- The files are refused by the code at the place of the file of that number: it is the first that can't be read; or all can,
--- and it is the first fault of their declarations.
-pub data RefusesAspects (language : Language) (classes : Classes) (files : List (List ℕ)) : (file : ℕ) → Code → Place
+-- and it is the fault of their constants; or these can stand, and it is the first fault of their declarations.
+pub data RefusesAspects (language : Language) (ds : Declarations) (files : List (List ℕ)) : (file : ℕ) → Code → Place
     → Type 0 where
-  no_file : (file : ℕ) (c : Code) (at : Place) → IsUnreadAt language (aliases_in language classes) files file c at
-      → RefusesAspects language classes files file c at
-  breaks : (aspects : List (List Aspect)) (f : Breach) → AllHold language (aliases_in language classes) files aspects
-      → Makes language classes aspects (Err (For f))
-      → RefusesAspects language classes files f.file (rule_code f.code) f.at
+  no_file : (file : ℕ) (c : Code) (at : Place) → IsUnreadAt language (aliases_in language (classes_of ds)) files file c at
+      → RefusesAspects language ds files file c at
+  no_constant : (aspects : List (List Aspect)) (constants : List Placed) (r : Refusal)
+      → AllGive language (aliases_in language (classes_of ds)) files aspects constants
+      → constants_fault ds constants ≡ Some r → RefusesAspects language ds files r.file r.code r.at
+  breaks : (aspects : List (List Aspect)) (constants : List Placed) (f : Breach)
+      → AllGive language (aliases_in language (classes_of ds)) files aspects constants
+      → constants_fault ds constants ≡ None → Makes language (planted_classes ds constants) aspects (Err (For f))
+      → RefusesAspects language ds files f.file (rule_code f.code) f.at
 
 -- the fault is one by which the files are refused; of want of memory nothing is said
-abbrev pub IsAspectFault : Language → Classes → List (List ℕ) → StartFault → Type 0
-IsAspectFault language classes files (start.Refused file c (Some at)) = RefusesAspects language classes files file c at
-IsAspectFault language classes files (start.Refused file c None) = ⊥
-IsAspectFault language classes files start.Memory = Unit {0}
+abbrev pub IsAspectFault : Language → Declarations → List (List ℕ) → StartFault → Type 0
+IsAspectFault language ds files (start.Refused file c (Some at)) = RefusesAspects language ds files file c at
+IsAspectFault language ds files (start.Refused file c None) = ⊥
+IsAspectFault language ds files start.Memory = Unit {0}
 
 -- the fault is the first of the declarations, in the file of its number and at its place; of want of memory nothing is said
 abbrev pub IsRuleFault : Language → Classes → List (List Aspect) → StartFault → Type 0
 IsRuleFault language classes aspects (start.Refused file c at) =
     (f : Breach) × Makes language classes aspects (Err (For f)) × (file ≡ f.file) × (c ≡ rule_code f.code) × (at ≡ Some f.at)
 IsRuleFault language classes aspects start.Memory = Unit {0}
+
+-- The rules of what was read, whose constants can stand; or the fault of these, or else the first one of the declarations.
+abbrev pub IsRuled : Language → Declarations → List (List Aspect) → List Placed → Result Rules StartFault → Type 0
+IsRuled language ds aspects constants (Ok rules) = (constants_fault ds constants ≡ None) × IsHierarchy (planted_classes ds constants)
+    × AreCircularLazy rules × Makes language (planted_classes ds constants) aspects (Ok rules)
+IsRuled language ds aspects constants (Err e) = Tells (constants_fault ds constants) e
+    ⊎ ((constants_fault ds constants ≡ None) × IsRuleFault language (planted_classes ds constants) aspects e)

@@ -1,7 +1,6 @@
--- Which classes a grammar file gives, and by which fault it is refused.
+-- Which classes a grammar file declares, and by which fault it is refused.
 use Rattle.std.specs.Prelude.{◌≡◌, ℕ, List, map, Some, None}
-use Rattle.at_model.specs.Classes.{Classes}
-use Rattle.at_model.specs.Declarations.{Declarations, Declaration, PartDeclaration, classes_of, first_fault}
+use Rattle.at_model.specs.Declarations.{Declarations, Declaration, PartDeclaration, first_fault}
 use Rattle.at_text.specs.declared.place.Place.{Place}
 use Rattle.at_text.specs.Symbols.{PlacedToken, HasTokens}
 use Rattle.at_text.specs.Place.{first_place}
@@ -38,13 +37,11 @@ pub record Declares (text : List ℕ) (ds : Declarations) : Type 0 where
   pub spells : Spells tokens grammar
   pub means : ds ≡ declared grammar
 
--- The file gives the classes: its text declares them, and no rule is broken.
-pub record GivesClasses (bytes : List ℕ) (classes : Classes) : Type 0 where
+-- The file gives the declarations of classes: they are those of its text, and no rule is broken.
+pub record GivesGrammar (bytes : List ℕ) (ds : Declarations) : Type 0 where
   pub text : IsText max_file bytes
-  pub declarations : Declarations
-  pub declares : Declares bytes declarations
-  pub faultless : first_fault declarations ≡ None
-  pub built : classes ≡ classes_of declarations
+  pub declares : Declares bytes ds
+  pub faultless : first_fault ds ≡ None
 
 abbrev pub class_code : ClassCode → Code
 class_code class.ClassTwice = code.ClassTwice

@@ -1,10 +1,16 @@
 pub mod Codes
 pub mod StartFaults
 pub mod Files
+pub mod FilesView
 pub mod GrammarFiles
+pub mod ReadGrammar
 pub mod TreeFiles
 pub mod Lists
 pub mod NullCalls
+pub mod Constants
+pub mod PlacedView
+pub mod ConstantFaults
+pub mod Planted
 pub mod Overloading
 pub mod Pairs
 pub mod SampleOverloads

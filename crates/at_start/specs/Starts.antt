@@ -1,6 +1,6 @@
 -- What files make: an engine, or the first fault in the order grammar, aspects, tree.
 use Rattle.std.specs.Prelude.{◌≡◌, ℕ, ◌+◌, List, [], length, map, Option, Some, None}
-use Rattle.at_model.specs.Classes.{Classes}
+use Rattle.at_model.specs.Declarations.{Declarations}
 use Rattle.at_model.specs.Trees.{Tree}
 use Rattle.at_model.specs.Rules.{Rules}
 use Rattle.at_model.specs.Machine.{State}
@@ -10,7 +10,7 @@ use Rattle.at_cache.specs.declared.keep_recorded.KeepRecorded.{KeepRecorded}
 use Rattle.at_engine.specs.Engines.{IsSound}
 use Rattle.at_engine.specs.declared.engine.Engine.{Engine}
 use Rattle.at_start.specs.AspectFiles.{GivesRules, RefusesAspects}
-use Rattle.at_start.specs.GrammarFiles.{GivesClasses, RefusesGrammar}
+use Rattle.at_start.specs.GrammarFiles.{GivesGrammar, RefusesGrammar}
 use Rattle.at_start.specs.TreeFiles.{GivesTree, RefusesTree}
 use Rattle.at_start.specs.declared.code.Code.{Code}
 use Rattle.at_start.specs.declared.files.Source.{Source}
@@ -32,21 +32,21 @@ IsReady e = IsSound recorded_by remembered_by e
 
 -- the files give these rules, and the engine that they make is in this state
 pub record Starts (files : Files) (rules : Rules) (state : State) : Type 0 where
-  pub classes : Classes
-  pub grammar : GivesClasses files.grammar.bytes.items classes
-  pub aspects : GivesRules files.language classes (aspect_bytes files.aspects.items) rules
+  pub declarations : Declarations
+  pub grammar : GivesGrammar files.grammar.bytes.items declarations
+  pub aspects : GivesRules files.language declarations (aspect_bytes files.aspects.items) rules
   pub opened : Tree
-  pub tree : GivesTree classes files.nodes files.tree.bytes.items opened
+  pub tree : GivesTree rules.classes files.nodes files.tree.bytes.items opened
   pub state_is : state ≡ opening files.nodes opened
 
 -- The file of that number is the first that is refused, by the code and at the place; a tree file's fault has none.
 pub data Refuses (files : Files) : (file : ℕ) → Code → Option Place → Type 0 where
   by_grammar : (c : Code) (at : Place) → RefusesGrammar files.grammar.bytes.items c at → Refuses files 0 c (Some at)
-  by_aspects : (classes : Classes) (file : ℕ) (c : Code) (at : Place) → GivesClasses files.grammar.bytes.items classes
-      → RefusesAspects files.language classes (aspect_bytes files.aspects.items) file c at → Refuses files file c (Some at)
-  by_tree : (classes : Classes) (rules : Rules) (c : Code) → GivesClasses files.grammar.bytes.items classes
-      → GivesRules files.language classes (aspect_bytes files.aspects.items) rules
-      → RefusesTree classes files.nodes files.tree.bytes.items c → Refuses files (length files.aspects.items + 1) c None
+  by_aspects : (ds : Declarations) (file : ℕ) (c : Code) (at : Place) → GivesGrammar files.grammar.bytes.items ds
+      → RefusesAspects files.language ds (aspect_bytes files.aspects.items) file c at → Refuses files file c (Some at)
+  by_tree : (ds : Declarations) (rules : Rules) (c : Code) → GivesGrammar files.grammar.bytes.items ds
+      → GivesRules files.language ds (aspect_bytes files.aspects.items) rules
+      → RefusesTree rules.classes files.nodes files.tree.bytes.items c → Refuses files (length files.aspects.items + 1) c None
 
 -- all but the bytes of the tree is as it was, and so each name
 abbrev pub AreSameButTree : (before later : Files) → Type 0

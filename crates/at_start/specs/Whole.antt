@@ -1,7 +1,7 @@
 -- The whole: from the bytes of the files, and those of the lines, to the bytes that are written.
 use Rattle.std.specs.Prelude.{◌≡◌, ℕ, Bool, false, List, Option, None, Result, Ok, Err}
 use Rattle.std.specs.List.{AllByRecursion}
-use Rattle.at_model.specs.Classes.{Classes}
+use Rattle.at_model.specs.Declarations.{Declarations}
 use Rattle.at_model.specs.Trees.{Tree}
 use Rattle.at_model.specs.Rules.{Rules}
 use Rattle.at_model.specs.Replies.{Reply}
@@ -16,7 +16,7 @@ use Rattle.at_engine.specs.declared.stream.desk.Report.{Report}
 use Rattle.at_engine.specs.declared.stream.desk.RunFault.{RunFault}
 use Rattle.at_start.specs.AspectFiles.{GivesRules}
 use Rattle.at_cache.specs.Traced.{Memories}
-use Rattle.at_start.specs.GrammarFiles.{GivesClasses}
+use Rattle.at_start.specs.GrammarFiles.{GivesGrammar}
 use Rattle.at_start.specs.TreeFiles.{GivesTree}
 use Rattle.at_start.specs.Starts.{Starts, IsStartFault, aspect_bytes, opening}
 use Rattle.at_start.specs.declared.files.Files.{Files}
@@ -53,15 +53,15 @@ abbrev pub AnswersFiles : {K : Type 0} → Files → (slice : ℕ) → Result (A
 AnswersFiles files slice (Ok answered) readable left before after = Answers files slice answered.run readable left before after
 AnswersFiles files slice (Err fault) readable left before after = IsStartFault files fault × (left ≡ readable) × (after ≡ before)
 
--- The grammar file gives classes, the aspect files rules over them, and the tree file a tree; and the output is the text of what
+-- The grammar file gives declarations, the aspect files rules over their classes, and the tree file a tree; and the output is the text of what
 -- the machine without caches, from that tree on, tells for the bytes of the input.
 pub record MeansOutput (files : Files) (slice : ℕ) (input output : List ℕ) : Type 0 where
-  pub classes : Classes
-  pub grammar : GivesClasses files.grammar.bytes.items classes
+  pub declarations : Declarations
+  pub grammar : GivesGrammar files.grammar.bytes.items declarations
   pub rules : Rules
-  pub aspects : GivesRules files.language classes (aspect_bytes files.aspects.items) rules
+  pub aspects : GivesRules files.language declarations (aspect_bytes files.aspects.items) rules
   pub opened : Tree
-  pub tree : GivesTree classes files.nodes files.tree.bytes.items opened
+  pub tree : GivesTree rules.classes files.nodes files.tree.bytes.items opened
   pub told : List (Bool × Reply)
   pub new : State
   pub outputs : Outputs rules slice (opening files.nodes opened) input told new

@@ -1,11 +1,11 @@
-//! The classes of a grammar file.
+//! What a grammar file declares.
 
 ghost use Rattle.std.specs.Prelude.{◌≡◌, IfOk, IfErr};
 ghost use Rattle.at_model.specs.Declarations.{AreNamed};
-ghost use Rattle.at_model.specs.WellFormed.{IsHierarchy};
+ghost use Rattle.at_start.specs.ReadGrammar.{IsDeclared};
 ghost use Rattle.at_class.specs.Grammar.{grammar_view};
 ghost use Rattle.at_start.specs.Files.{IsText, max_file};
-ghost use Rattle.at_start.specs.GrammarFiles.{GivesClasses, Declares, IsGrammarFault, ast_code, class_code};
+ghost use Rattle.at_start.specs.GrammarFiles.{GivesGrammar, Declares, IsGrammarFault, ast_code, class_code};
 
 use super::files::{MAX_FILE, text_of};
 use crate::code::Code;
@@ -15,15 +15,22 @@ use at_text::fault::Fault;
 use at_text::place::Place;
 use std::alloc::Global;
 
-/// The classes of a grammar file.
+/// A grammar that breaks no rule, and its classes.
+#[derive(Drop)]
+pub struct Declared {
+    pub grammar: Grammar,
+    pub classes: ClassTable,
+}
+
+/// The grammar of a grammar file, and its classes.
 ///
 /// # Errors
 ///
 /// The code and the place of the first fault: a file that is too long or no UTF-8, a text that is no
 /// grammar, the first rule that is broken. `Memory` for want of memory.
-pub fn classes_of(alloc: Global, bytes: &[u8]) -> Result<ClassTable, Fault<Code>>
-    ensures given { IfOk result (GivesClasses bytes.now) }
-    ensures hierarchy { IfOk result IsHierarchy }
+pub fn declared_by(alloc: Global, bytes: &[u8]) -> Result<Declared, Fault<Code>>
+    ensures given { IfOk result (λ d. GivesGrammar bytes.now (grammar_view d.grammar)) }
+    ensures declared { IfOk result IsDeclared }
     ensures refused { IfErr result (IsGrammarFault bytes.now) }
 {
     let text = match text_of(bytes, MAX_FILE, Code::GrammarLimit, Code::GrammarSyntax) {
@@ -37,7 +44,7 @@ pub fn classes_of(alloc: Global, bytes: &[u8]) -> Result<ClassTable, Fault<Code>
     };
     let grammar = parse(alloc, text)?;
     match ClassTable::build(alloc, &grammar) {
-        Ok(classes) => Ok(classes),
+        Ok(classes) => Ok(Declared { grammar, classes }),
         Err(fault) => Err(fault.map_code(class_code)),
     }
 }

@@ -1,14 +1,17 @@
 //! The laws over the whole: each is the contract of a function that does nothing.
 
-ghost use Rattle.std.specs.Prelude.{◌≡◌, ℕ, false, List, [], Option, Some, Ok};
+ghost use Rattle.std.specs.Prelude.{◌≡◌, ℕ, false, List, [], Option, None, Some, Ok};
 ghost use Rattle.at_jrag.specs.Syntax.{Aspect};
 ghost use Rattle.at_model.specs.Classes.{Classes};
+ghost use Rattle.at_model.specs.Declarations.{Declarations, classes_of, first_fault};
 ghost use Rattle.at_model.specs.Effects.{PostNothing};
 ghost use Rattle.at_model.specs.Machine.{State};
 ghost use Rattle.at_model.specs.Rules.{Rules};
 ghost use Rattle.at_rules.specs.Circular.{HasNoneCircular};
 ghost use Rattle.at_engine.specs.declared.stream.desk.Report.{Report};
 ghost use Rattle.at_start.specs.AspectFiles.{reads_circular};
+ghost use Rattle.at_start.specs.Constants.{planted_classes};
+ghost use Rattle.at_start.specs.ConstantFaults.{constants_fault};
 ghost use Rattle.at_start.specs.Overloading.{told_apart, HaveNoneOverloaded};
 ghost use Rattle.at_start.specs.Redeclaring.{read_below, read_in};
 ghost use Rattle.at_start.specs.Spreading.{spread, HaveNoneEverywhere};
@@ -31,6 +34,11 @@ pub fn whole()
 pub fn none_circular()
     ensures { (files : Files) (rules : Rules) (state : State) → reads_circular files.language ≡ false → Starts files rules state
         → HasNoneCircular rules }
+{}
+
+/// Where no constant is declared none is refused, and the classes are those that the grammar declares.
+pub fn none_constant()
+    ensures { (ds : Declarations) → first_fault ds ≡ None → (constants_fault ds [] ≡ None) × (planted_classes ds [] ≡ classes_of ds) }
 {}
 
 /// Where no attribute is declared for ASTNode, aspects are read as if nothing ever could be.

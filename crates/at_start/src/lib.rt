@@ -5,11 +5,13 @@
 //! (`GrammarFiles`, `AspectFiles`, `TreeFiles`) over their bytes (`Files`); `Lists` are the short names of lists, which aspects may
 //! have, `Overloading` is how attributes of one name are told apart (`Pairs` says it of the code's table, `SampleOverloads` has a case),
 //! `Spreading` is what is read of attributes that are declared for ASTNode (at the root by `NullCalls`), and `Redeclaring` of those that
-//! are declared again below; `StartFaults` and `Codes` are what is printed of a file that is refused.
+//! are declared again below; `Constants` are the components in which constants stand (`Planted` says what becomes of the classes), and
+//! `ConstantFaults` for which constant files are refused; `StartFaults` and `Codes` are what is printed of a file that is refused.
+//! `ReadGrammar`, `FilesView` and `PlacedView` say what the code's values hold and stand for.
 //!
 //! **Where to begin:** `answer` in `serving.rt` is the whole, and `start`, below, its first half; `grammar.rt`, `aspects.rt`
-//! and `tree.rt` have what each kind of file gives, `lists.rt`, `overloaded.rt`, `everywhere.rt` and `redeclared.rt` what JastAdd's own language
-//! has beside its reader, `fault.rt` why there is no engine.
+//! and `tree.rt` have what each kind of file gives, `lists.rt`, `overloaded.rt`, `everywhere.rt`, `redeclared.rt` and `constants.rt` what
+//! JastAdd's own language has beside its reader, `fault.rt` why there is no engine.
 //!
 //! **What it keeps true:** an engine that is made is sound, keeps nothing yet, and has just the classes, rules and
 //! tree of the files, as they are read in the language that these name.
@@ -24,6 +26,7 @@ ghost use Rattle.at_start.specs.Starts.{AreSameButTree, Starts, IsReady, IsStart
 
 mod aspects;
 mod code;
+mod constants;
 mod everywhere;
 mod fault;
 mod files;
@@ -50,7 +53,7 @@ pub use code::Code;
 pub use fault::StartFault;
 use fault::{of_file, of_tree};
 pub use files::{Files, MAX_FILE, Source, tree_bytes};
-use grammar::classes_of;
+use grammar::declared_by;
 pub use language::Language;
 pub use serving::{Answered, answer};
 use std::alloc::Global;
@@ -95,11 +98,11 @@ pub fn start_with<K: Bounded>(
     ensures refused { IfErr result (IsStartFault files.old) }
     ensures rest { AreSameButTree files.old files.new }
 {
-    let classes = match classes_of(alloc, &files.grammar.bytes) {
-        Ok(classes) => classes,
+    let declared = match declared_by(alloc, &files.grammar.bytes) {
+        Ok(declared) => declared,
         Err(fault) => return Err(of_file(0, fault)),
     };
-    let rules = rules_of(alloc, classes, files.language, &files.aspects)?;
+    let rules = rules_of(alloc, declared, files.language, &files.aspects)?;
     let file = files.aspects.len() + 1;
     let tree = match tree_of(alloc, rules.classes(), files.nodes, &files.tree.bytes) {
         Ok(tree) => tree,

@@ -1,6 +1,7 @@
 //! The tree of a tree file.
 
 ghost use Rattle.std.specs.Prelude.{◌≡◌, true, IfOk, IfErr};
+ghost use Rattle.at_model.specs.Classes.{AreSound};
 ghost use Rattle.at_model.specs.Terms.{term_of};
 ghost use Rattle.at_model.specs.Trees.{conforms};
 ghost use Rattle.at_tree.specs.TreeView.{tree_view};
@@ -29,6 +30,7 @@ pub fn tree_of(
 ) -> Result<Tree, Failure<Code>>
     ensures text { IfOk result (λ t. IsText (most_bytes nodes) bytes.now) }
     ensures written { IfOk result (λ t. IsTermFile bytes.now (term_of classes.now (tree_view t))) }
+    ensures sound { IfOk result (λ t. AreSound classes.now) }
     ensures whole { IfOk result (λ t. conforms classes.now (tree_view t) 0 ≡ true) }
     ensures refused { IfErr result (IsTreeFault classes.now nodes bytes.now) }
 {

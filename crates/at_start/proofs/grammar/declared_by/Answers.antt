@@ -4,7 +4,7 @@ use Rattle.at_class.specs.Grammar.{grammar_view}
 use Rattle.at_text.proofs.Recoded.{recoded}
 use Rattle.at_start.specs.GrammarFiles.{Declares, RefusesGrammar, IsGrammarFault, no_text, breaks}
 use Rattle.at_start.specs.declared.code.Code.{Code}
-use Rattle.at_start.proofs.grammar.classes_of.Goals as goal
+use Rattle.at_start.proofs.grammar.declared_by.Goals as goal
 
 pub returns-in-Err-clause-refused : goal.returns-in-Err-clause-refused
 returns-in-Err-clause-refused c = no_text c.in-Err.code c.in-Err.ensures

@@ -1,0 +1,6 @@
+use Rattle.std.proofs.Common.{◌≡◌, map, take}
+use Rattle.at_class.specs.Grammar.{declaration_view}
+use Rattle.at_start.proofs.constants.grammars.copied.Given as goal
+
+abbrev pub invariant-loop-class : goal.invariant-loop-class
+invariant-loop-class l = map declaration_view l.classes.items ≡ map declaration_view (take l.class-index l.class-items)
