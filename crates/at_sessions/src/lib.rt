@@ -14,6 +14,8 @@ mod caches;
 #[cfg(test)]
 mod circular_texts;
 #[cfg(test)]
+mod constant_texts;
+#[cfg(test)]
 mod cutting;
 #[cfg(test)]
 mod failing;

@@ -1,0 +1,338 @@
+//! Constants that aspects declare as users of JastAdd write them: which trees they are, and where a text is refused.
+
+use crate::rows::holds_for;
+use at_java::{Constant, Contents, JavaCode, parse_java};
+use at_jrag::{Decl, DeclForm, Ending, Form};
+use at_text::fault::Fault;
+use at_tree::reader::read_term;
+use at_tree::term::{Term, TermCell};
+use at_tree::token::TokVal;
+use std::alloc::Global;
+use std::process::Abort;
+
+/// What a text comes to.
+#[derive(Clone, Copy)]
+enum Told {
+    /// It declares one constant, `n` of class C: its kind, its term, and where its `new` stands.
+    Made(&'static str, &'static str, u32),
+    /// It is refused, in this column of its only line.
+    At(JavaCode, u32),
+}
+
+/// The text that a value is, if it is one.
+fn text_of(value: &TokVal) -> Option<&str> {
+    match value {
+        TokVal::Str(text) => Some(text.as_str()),
+        TokVal::Short(text, _) => Some(text.as_str()),
+        _ => None,
+    }
+}
+
+fn same_value(a: &TokVal, b: &TokVal) -> bool {
+    match (a, b) {
+        (TokVal::Int(m), TokVal::Int(n)) => m == n,
+        (TokVal::Bool(m), TokVal::Bool(n)) => m == n,
+        _ => match (text_of(a), text_of(b)) {
+            (Some(m), Some(n)) => m == n,
+            _ => false,
+        },
+    }
+}
+
+#[cycle(same)]
+fn same_cell(a: &TermCell, b: &TermCell) -> bool {
+    match (a, b) {
+        (TermCell::One(m), TermCell::One(n)) => same_term(m, n),
+        (TermCell::Many(ms), TermCell::Many(ns)) => same_terms(ms, ns),
+        (TermCell::Empty, TermCell::Empty) => true,
+        (TermCell::Holds(m), TermCell::Holds(n)) => same_value(m, n),
+        _ => false,
+    }
+}
+
+#[cycle(same)]
+fn same_terms(ms: &[Term], ns: &[Term]) -> bool {
+    match (ms, ns) {
+        ([], []) => true,
+        ([m, ms @ ..], [n, ns @ ..]) => same_term(m, n) && same_terms(ms, ns),
+        _ => false,
+    }
+}
+
+#[cycle(same)]
+fn same_cells(ms: &[TermCell], ns: &[TermCell]) -> bool {
+    match (ms, ns) {
+        ([], []) => true,
+        ([m, ms @ ..], [n, ns @ ..]) => same_cell(m, n) && same_cells(ms, ns),
+        _ => false,
+    }
+}
+
+#[cycle(same)]
+fn same_term(a: &Term, b: &Term) -> bool {
+    a.name.as_str() == b.name.as_str() && same_cells(&a.cells, &b.cells)
+}
+
+/// Whether the constant's term is this one, and its `new` stands there.
+fn is_made(rt: &impl Abort, alloc: Global, constant: &Constant, term: &str, column: u32) -> bool {
+    let Ok(term) = read_term(alloc, term) else {
+        panic!(rt; "no term");
+    };
+    constant.at.column == column && same_term(&constant.term, &term)
+}
+
+/// Whether the constant has this class, name and kind.
+fn is_of(constant: &Constant, class: &str, name: &str, kind: &str) -> bool {
+    constant.class.text.as_str() == class
+        && constant.name.text.as_str() == name
+        && constant.kind.text.as_str() == kind
+}
+
+/// Whether the declaration's value is what that accessor gives.
+fn is_accessed(decl: &Decl, accessor: &str) -> bool {
+    let DeclForm::Synthesized {
+        ending: Ending::Body(body),
+        ..
+    } = &decl.form
+    else {
+        return false;
+    };
+    match &body.expr.form {
+        Form::Call(name, arguments) => name.as_str() == accessor && arguments.is_empty(),
+        _ => false,
+    }
+}
+
+/// The only declaration of the file and its only constant.
+fn only(contents: &Contents) -> Option<(&Decl, &Constant)> {
+    let [aspect] = contents.aspects.as_slice() else {
+        return None;
+    };
+    let [decl] = aspect.decls.as_slice() else {
+        return None;
+    };
+    let [constant] = contents.constants.as_slice() else {
+        return None;
+    };
+    Some((decl, constant))
+}
+
+/// Whether the text comes to that.
+fn comes_to(rt: &impl Abort, alloc: Global, text: &str, told: Told) -> bool {
+    match parse_java(alloc, text, &[]) {
+        Ok(contents) => match (told, only(&contents)) {
+            (Told::Made(kind, term, column), Some((decl, constant))) => {
+                is_accessed(decl, "getn")
+                    && is_of(constant, "C", "n", kind)
+                    && is_made(rt, alloc, constant, term, column)
+            }
+            _ => false,
+        },
+        Err(Fault::Refused { code, at }) => match told {
+            Told::Made(_, _, _) => false,
+            Told::At(other, column) => code == other && at.column == column,
+        },
+        Err(Fault::Memory) => panic!(rt; "want of memory"),
+    }
+}
+
+/// Texts, and what they come to.
+const ROWS: &[(&str, Told)] = &[
+    // what is read
+    (
+        "aspect A { syn nta X C.n() = new X(); }",
+        Told::Made("X", "X()", 30),
+    ),
+    (
+        "aspect A { syn lazy nta X C.n() { return new X(); } }",
+        Told::Made("X", "X()", 42),
+    ),
+    (
+        "aspect A { public syn nta final lazy X C.n() = new X(); }",
+        Told::Made("X", "X()", 48),
+    ),
+    (
+        "aspect A { syn nta X C.n() = new Y(\"a\", 1, -2, true, false); }",
+        Told::Made("X", "Y(\"a\",1,-2,true,false)", 30),
+    ),
+    (
+        "aspect A { syn nta X C.n() = new X(\"a\", new List(), new Opt()); }",
+        Told::Made("X", "X(\"a\",[],-)", 30),
+    ),
+    (
+        "aspect A { syn nta X C.n() = new X(new List<Y>(), new Opt<Y>(), new Y(0)); }",
+        Told::Made("X", "X([],-,Y(0))", 30),
+    ),
+    (
+        "aspect A { syn nta X C.n() = new X(new List<Y>().add(new Y(1)).add(new Z(2)), new Opt<Y>(new Y(3))); }",
+        Told::Made("X", "X([Y(1),Z(2)],Y(3))", 30),
+    ),
+    (
+        "aspect A { syn nta X C.n() = new X(-2147483648, 2147483647, \"\\n\\\"\"); }",
+        Told::Made("X", "X(-2147483648,2147483647,\"\\n\\\"\")", 30),
+    ),
+    // heads that are left out
+    (
+        "aspect A { inh nta X C.n(); }",
+        Told::At(JavaCode::LeftOut, 16),
+    ),
+    (
+        "aspect A { inh lazy nta X C.n(); }",
+        Told::At(JavaCode::LeftOut, 21),
+    ),
+    (
+        "aspect A { syn nta X C.n(int i) = new X(); }",
+        Told::At(JavaCode::LeftOut, 26),
+    ),
+    (
+        "aspect A { syn nta int C.n() = new X(); }",
+        Told::At(JavaCode::LeftOut, 20),
+    ),
+    (
+        "aspect A { syn nta List<X> C.n() = new List<X>(); }",
+        Told::At(JavaCode::LeftOut, 20),
+    ),
+    // bodies that are left out
+    (
+        "aspect A { syn nta X C.n(); }",
+        Told::At(JavaCode::LeftOut, 24),
+    ),
+    (
+        "aspect A { syn nta X C.n() = null; }",
+        Told::At(JavaCode::LeftOut, 24),
+    ),
+    (
+        "aspect A { syn nta X C.n() = f(); }",
+        Told::At(JavaCode::LeftOut, 24),
+    ),
+    (
+        "aspect A { syn nta X C.n() { return x; } }",
+        Told::At(JavaCode::LeftOut, 24),
+    ),
+    (
+        "aspect A { syn nta X C.n() { X x = new X(); return x; } }",
+        Told::At(JavaCode::LeftOut, 24),
+    ),
+    (
+        "aspect A { syn nta X C.n() circular [null] = new X(); }",
+        Told::At(JavaCode::LeftOut, 24),
+    ),
+    (
+        "aspect A { syn nta X C.n() { return new X(); return new Y(); } }",
+        Told::At(JavaCode::LeftOut, 46),
+    ),
+    // what is left out at its `new`
+    (
+        "aspect A { syn nta X C.n() = new List<X>(); }",
+        Told::At(JavaCode::LeftOut, 30),
+    ),
+    (
+        "aspect A { syn nta X C.n() = new Opt<X>(new X()); }",
+        Told::At(JavaCode::LeftOut, 30),
+    ),
+    (
+        "aspect A { syn nta X C.n() = new X[3]; }",
+        Told::At(JavaCode::LeftOut, 30),
+    ),
+    (
+        "aspect A { syn nta X C.n() = new X().f(); }",
+        Told::At(JavaCode::LeftOut, 30),
+    ),
+    (
+        "aspect A { syn nta X C.n() = new int[3]; }",
+        Told::At(JavaCode::LeftOut, 30),
+    ),
+    (
+        "aspect A { syn nta X C.n() = new X(new List<Y>(3)); }",
+        Told::At(JavaCode::LeftOut, 36),
+    ),
+    (
+        "aspect A { syn nta X C.n() = new X(new List<Y>().addChild(new Y())); }",
+        Told::At(JavaCode::LeftOut, 36),
+    ),
+    (
+        "aspect A { syn nta X C.n() = new X(new List<Y>().add(new List<Y>())); }",
+        Told::At(JavaCode::LeftOut, 54),
+    ),
+    (
+        "aspect A { syn nta X C.n() = new X(new Y().f()); }",
+        Told::At(JavaCode::LeftOut, 36),
+    ),
+    (
+        "aspect A { syn int C.n() = new X(); }",
+        Told::At(JavaCode::LeftOut, 28),
+    ),
+    (
+        "aspect A { syn nta X C.n() = new X(); eq C.n() = new Y(); }",
+        Told::At(JavaCode::LeftOut, 50),
+    ),
+    // arguments that are left out
+    (
+        "aspect A { syn nta X C.n() = new X(1, y); }",
+        Told::At(JavaCode::LeftOut, 39),
+    ),
+    (
+        "aspect A { syn nta X C.n() = new X(f()); }",
+        Told::At(JavaCode::LeftOut, 36),
+    ),
+    (
+        "aspect A { syn nta X C.n() = new X(null); }",
+        Told::At(JavaCode::LeftOut, 36),
+    ),
+    (
+        "aspect A { syn nta X C.n() = new X(1, 2 + 3); }",
+        Told::At(JavaCode::LeftOut, 39),
+    ),
+    (
+        "aspect A { syn nta X C.n() = new X(!true); }",
+        Told::At(JavaCode::LeftOut, 36),
+    ),
+    (
+        "aspect A { syn nta X C.n() = new X(-x); }",
+        Told::At(JavaCode::LeftOut, 36),
+    ),
+    (
+        "aspect A { syn nta X C.n() = new X((1)); }",
+        Told::At(JavaCode::LeftOut, 36),
+    ),
+    (
+        "aspect A { syn nta X C.n() = new X(new Opt<Y>(1)); }",
+        Told::At(JavaCode::LeftOut, 47),
+    ),
+    // what is no argument
+    (
+        "aspect A { syn nta X C.n() = new X(,); }",
+        Told::At(JavaCode::Syntax, 36),
+    ),
+    (
+        "aspect A { syn nta X C.n() = new X(2147483648); }",
+        Told::At(JavaCode::Syntax, 36),
+    ),
+    (
+        "aspect A { syn nta X C.n() = new X(",
+        Told::At(JavaCode::Syntax, 36),
+    ),
+];
+
+#[test]
+fn constants_are_read(rt: HostRuntime) {
+    for (text, told) in ROWS {
+        holds_for(&rt, text, comes_to(&rt, rt.alloc(), text, *told));
+    }
+}
+
+/// Two aspects, whose constants stand in the order of the file.
+const TWO: &str =
+    "aspect A { syn nta X C.n() = new X(); syn int C.m() = 1; syn nta Y C.o() = new Y(1); } aspect B { syn nta Z D.p() = new Z(); }";
+
+#[test]
+fn constants_stand_in_their_order(rt: HostRuntime) {
+    let contents = parse_java(rt.alloc(), TWO, &[]).ok().expect(&rt, "aspects");
+    let [n, o, p] = contents.constants.as_slice() else {
+        panic!(&rt; "three constants");
+    };
+    holds_for(&rt, "n", is_of(n, "C", "n", "X"));
+    holds_for(&rt, "o", is_of(o, "C", "o", "Y"));
+    holds_for(&rt, "p", is_of(p, "D", "p", "Z"));
+    holds_for(&rt, "at", is_made(&rt, rt.alloc(), p, "Z()", 117));
+}
