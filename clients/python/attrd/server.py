@@ -108,7 +108,7 @@ def known_options(program: Union[str, "os.PathLike[str]"]) -> FrozenSet[str]:
 
 
 def program_version(program: Union[str, "os.PathLike[str]"]) -> str:
-    """The version that the program tells, as 0.45. Raises AttrdError where it can't be started or tells none."""
+    """The version that the program tells, as 0.46. Raises AttrdError where it can't be started or tells none."""
     name = _path(program)
     found = _VERSION.match(_told(name, "--version"))
     if not found:
