@@ -10,12 +10,13 @@ from ..explain import SENTENCES
 from ..grammar import Part, Shape
 from ..scanning import Scan
 from .aspect_tree import Declaration, Expression, Form
+from .constant_reader import CONTAINERS
 from .finding import Finding
 from .hints import Hints
 from .mending import Refused
 from .reaching import classes_without, way_without
 from .specification import NODES, Placed, Specification, is_java_kind
-from .ways import section
+from .ways import OF_CONSTANTS, section
 
 _WORD = re.compile(r"\w+|\S|\Z")
 # What a call of Java names: a package, a class and a method.
@@ -68,6 +69,8 @@ class Advice:
 
     def _message(self, refused: Refused, text: str, word: str) -> Optional[str]:
         it = refused.declaration
+        if it is not None and refused.sort in OF_CONSTANTS:
+            return self._of_constant(refused, it, word)
         if refused.code == "J10":
             return self._of_form(refused, text, word)
         if refused.code == "J1":
@@ -91,6 +94,34 @@ class Advice:
             return told
         missing = [it for it in _asked(text[piece.start:piece.end]) if not self._is_somewhere(it)]
         return f"{told} The body asks {_listed(missing)}, too: there is no such accessor." if missing else told
+
+    def _of_constant(self, refused: Refused, it: Declaration, word: str) -> Optional[str]:
+        """What is said of a constant that can't stand in its component."""
+        name = "" if it.name is None else it.name.text
+        if refused.code == "J11":
+            return "A class has more than 32 components with this one."
+        if refused.sort == "component":
+            return f"{self._line_of_component(it)} has a component already of this name, or of a name that doesn't go with it."
+        if refused.sort == "kind of tree":
+            return f"There is no class {word}. {self._near(word, self.specification.classes)}".strip()
+        made = [made for made in it.made if made.form is Form.NEW and made.word.text not in CONTAINERS]
+        if refused.sort == "itself":
+            return f"A node of {_listed(sorted({known.word.text for known in made}))} has {name} in it, or a constant that has: it would stand in itself."
+        grammar = self.specification.grammar
+        missing = [known.word.text for known in made if known.word.text not in grammar or grammar.class_named(known.word.text).is_abstract]
+        if refused.code == "J3" and missing:
+            return f"No nodes are made of {_listed(missing)}: there is no such class, or it is abstract."
+        kind, of = "" if it.kind is None else it.kind.text, made[-1].word.text if made else ""
+        if of in grammar and kind in grammar and not grammar.is_below(of, kind):
+            return f"This is {_article(of)}, and {_article(kind)} is wanted."
+        forms = [f"{known} ::= {' '.join(map(str, grammar.parts(known)))}" for known in dict.fromkeys(made.word.text for made in made) if known in grammar]
+        return f"An argument doesn't fit its component: {'; '.join(forms)}."
+
+    def _line_of_component(self, it: Declaration) -> str:
+        """The class of a constant, or one below it that has a component of that name."""
+        of, name = "" if it.of is None else it.of.text, "" if it.name is None else it.name.text
+        below = self.specification.grammar.concrete_below(of) if of in self.specification.grammar else ()
+        return next((known for known in below if any(part.name == name for part in self.specification.grammar.parts(known))), of)
 
     def _is_somewhere(self, name: str) -> bool:
         known = self.specification
@@ -158,7 +189,7 @@ class Advice:
         return None
 
     def _parts(self, of: str) -> List[Part]:
-        return [part for part in self.specification.grammar.parts(of) if part.shape is not Shape.TOKEN] if of in self.specification.grammar else []
+        return [part for part in self.specification.parts(of) if part.shape is not Shape.TOKEN]
 
     def _of_parameters(self, it: Declaration) -> Optional[str]:
         if it.form != "eq" or it.name is None or it.of is None:

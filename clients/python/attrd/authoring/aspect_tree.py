@@ -9,7 +9,7 @@ from ..scanning import Word
 
 
 class Form(Enum):
-    """The forms of expressions. `CALL` is also a fold's list; `GROUP` is a pair of parentheses."""
+    """The forms of expressions. `CALL` is also a fold's list; `GROUP` is a pair of parentheses; `NEW` stands in constants alone."""
 
     NUMBER = "number"
     TEXT = "text"
@@ -23,6 +23,7 @@ class Form(Enum):
     BINARY = "binary"
     CHOICE = "choice"
     GROUP = "group"
+    NEW = "new"
 
 
 @dataclass(eq=False)
@@ -88,7 +89,8 @@ class Declaration:
     """A declaration, as far as it could be read, from `start` to before `end`. `form` is syn, inh, eq or other.
 
     `of` is its class and `name` its attribute; an equation for a component has its accessor in `getter` (`getStmt`), and perhaps the
-    name of an `index`. `is_circular` is whether it says `circular [..]`. `pieces` are stretches that this profile leaves out
+    name of an `index`. `is_circular` is whether it says `circular [..]`. Where a tree is written down that stands in each node of the class,
+    `constant` is the word `nta`, and the tree is the body. `pieces` are stretches that this profile leaves out
     (`circular [..]`, `nta`, types of Java). `locals` are the names that are bound in its body, each behind the kind that is written in
     front of it, and `untaken` the offsets of statements in it that aren't taken. `made` are all expressions that were read, whole ones and
     those of what could not be read to its end. Of the form other, `sort` says what it is in JastAdd2: method, field, coll and the like, or
@@ -108,6 +110,7 @@ class Declaration:
     parameters_end: int = 0
     body: Optional[Expression] = None
     is_circular: bool = False
+    constant: Optional[Word] = None
     pieces: List[Piece] = field(default_factory=list)
     locals: List[Tuple[Word, Binding]] = field(default_factory=list)
     untaken: List[int] = field(default_factory=list)

@@ -6,11 +6,14 @@ from typing import Dict, Iterable, Optional, Tuple
 
 from ..scanning import Scan
 from .aspect_tree import Declaration, Expression, Form
+from .constant_reader import CONTAINERS
 from .jastadd_reader import PLAIN, read_aspects
 from .java_reader import KINDS
 from .specification import Source, Specification
 
 _BEGUN = re.compile(r"\w*\Z")
+# Where the class of a constant's node stands.
+_NEW = re.compile(r"\bnew\s+\Z")
 _HEAD = re.compile(r"\b(syn|inh|eq)\s+[^;={}]*\Z")
 # The same where methods are read, which begin by a modifier or by their kind.
 _JASTADD_HEAD = re.compile(rf"\b(syn|inh|eq|{'|'.join((*PLAIN, *KINDS))})\s+[^;={{}}]*\Z")
@@ -37,6 +40,9 @@ class Completing:
         """Each name with what it is. A name that is begun already isn't looked at: the editor does that."""
         if self.file == self.specification.grammar_file.name:
             return self._classes()
+        if self._is_jastadd() and _NEW.search(self.front):
+            grammar = self.specification.grammar
+            return {**{it.name: "class" for it in grammar if not it.is_abstract}, **{it: "" for it in CONTAINERS}}
         found = self._here()
         if found is None:
             return self._in_body() if self._depth() > 1 else self._in_head()
@@ -96,7 +102,7 @@ class Completing:
         kinds = {**self._classes(), **{it: "" for it in KINDS}}
         if head is None and not (owner and self._is_jastadd()):
             words = {it: "" for it in ("syn", "inh", "eq", "lazy", "aspect")}
-            return {**words, **{it: "" for it in PLAIN}, **kinds} if self._is_jastadd() else words
+            return {**words, **{it: "" for it in ("nta", *PLAIN)}, **kinds} if self._is_jastadd() else words
         if owner is None:
             return self._classes() if head and head[1] == "eq" else kinds
         getters = {name: it.kind for name, it in self.specification.accessors(owner[1]).items() if name == "get" + it.part.name}

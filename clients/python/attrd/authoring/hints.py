@@ -9,8 +9,9 @@ from ..grammar import Shape
 from .aspect_tree import Declaration, Expression, Form, Piece
 from .mending import Refused
 from .specification import NODES, Placed, Specification, is_java_kind
-from .ways import (AT_ROOT, BELOW_ROOT, BY_KINDS, COMPUTED, FIFTH, FORMS, JAVA_TYPES, NAMES, NO_VALUE, NUMBERS, OF_JAVA, OF_LISTS, OF_SETS,
-                   ONE_LINE, OTHER_KIND, OTHERWISE, OVERLOADED, OVERRIDDEN, TOO_MANY, TWO_FORMS, TWO_TYPES, Way, way_of_body)
+from .ways import (AT_ROOT, BELOW_ROOT, BY_ACCESSOR, BY_KINDS, COMPUTED, FIFTH, FORMS, IN_JASTADD, JAVA_TYPES, NAMES, NO_VALUE, NUMBERS,
+                   OF_CONSTANTS, OF_JAVA, OF_LISTS, OF_SETS, ONE_LINE, OTHER_KIND, OTHERWISE, OVERLOADED, OVERRIDDEN, TOO_MANY, TWO_FORMS,
+                   TWO_TYPES, Way, way_of_body)
 
 _SEVERAL = re.compile(r"get(\w+)s")
 _OPTIONAL = re.compile(r"get(\w+)Opt")
@@ -34,6 +35,8 @@ class Hints:
         """What helps with a fault of the aspects at a word of a text."""
         otherwise = Way(SENTENCES[refused.code][1])
         it = refused.declaration
+        if refused.sort in OF_CONSTANTS:
+            return OF_CONSTANTS[refused.sort]
         if refused.code == "J10":
             return self._of_form(refused, text) or NAMES.get(word) or OTHERWISE
         if refused.code == "J1":
@@ -74,7 +77,7 @@ class Hints:
             return FORMS["void"]
         if sort == "circular" and "circular" in self.specification.forms:
             return FORMS["circular kind" if it is not None and it.kind is not None and it.kind.text != "boolean" else "circular start"]
-        return FORMS.get(sort)
+        return (self._is_jastadd() and sort in ("nta", "new") and IN_JASTADD[sort]) or FORMS.get(sort)
 
     def _of_word(self, refused: Refused, text: str, word: str) -> Optional[Way]:
         """What helps where no aspect goes on with a word."""
@@ -93,7 +96,7 @@ class Hints:
 
     def _of_head(self, refused: Refused, it: Declaration, word: str) -> Optional[Way]:
         if refused.code == "J3" and it.getter is not None and word == it.getter.text:
-            return self._of_getter(word)
+            return self._of_getter(word, it)
         if refused.code == "J3":
             return NAMES[word] if word in NODES else FORMS["kind"] if word in JAVA_TYPES else None
         if refused.code == "J4" and self.specification.declared_above(it) is not None:
@@ -109,8 +112,10 @@ class Hints:
     def _is_jastadd(self) -> bool:
         return "jastadd" in self.specification.forms
 
-    def _of_getter(self, name: str) -> Optional[Way]:
+    def _of_getter(self, name: str, it: Declaration) -> Optional[Way]:
         """What helps where an equation is for a component that isn't there: for what `nta` declares, or `getStmts`."""
+        if any(placed.declaration.constant is not None for placed in self.specification.named(name)):
+            return Way(BY_ACCESSOR.format(f"eq {'' if it.of is None else it.of.text}.get{name}().{'' if it.name is None else it.name.text}() = ..;"), 11)
         if any(piece.sort == "nta" for placed in self.specification.named(name) for piece in placed.declaration.pieces):
             return Way(f"`{name}()` is made by an equation: make it a child in the grammar, and let the equation be for its accessor.", 11)
         return self._of_accessor(name, None)

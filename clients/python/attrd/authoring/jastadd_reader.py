@@ -7,14 +7,14 @@ from typing import List
 from ..scanning import Word
 from .aspect_reader import FOLDS, AspectReader
 from .aspect_tree import Declaration, Expression
+from .constant_reader import ConstantReader
 from .java_reader import BEGINNINGS
-from .statement_reader import StatementReader
 
 # Words in front of a declaration that mean nothing.
 PLAIN = ("public", "protected", "private", "final")
 
 
-class JastAddReader(StatementReader):
+class JastAddReader(ConstantReader):
     """Reads the declarations of a file of JastAdd's own language."""
 
     def form(self) -> str:

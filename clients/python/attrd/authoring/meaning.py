@@ -9,7 +9,7 @@ from ..grammar import Shape
 from ..scanning import Word
 from .aspect_tree import Binding, Declaration, Expression, Form
 from .java_reader import KINDS
-from .specification import Placed, Specification
+from .specification import Placed, Specification, component_of
 
 # What a name means: a class, a component of a class, an attribute, or a name that is bound in one declaration.
 Key = Tuple[str, ...]
@@ -89,7 +89,7 @@ class Names:
 
     def _expression(self, placed: Placed, it: Expression) -> Iterator[Meaning]:
         file, declaration = placed
-        if it.form in (Form.CAST, Form.INSTANCE):
+        if it.form in (Form.CAST, Form.INSTANCE, Form.NEW):
             yield from self._class(file, it.word)
         elif it.form is Form.NAME:
             binding = next((known for known in reversed(it.bound) if known.name.text == it.word.text), None)
@@ -119,7 +119,9 @@ class Names:
 
     def _accessor(self, file: str, word: Word, of: str) -> Iterator[Meaning]:
         accessor = self.specification.accessors(of).get(word.text)
-        if accessor is not None:
+        if accessor is not None and accessor.constant is not None:
+            yield from self._attribute(file, word, [accessor.constant])
+        elif accessor is not None:
             yield from self._component(file, word, accessor.of, accessor.part.name)
 
     def _component(self, file: str, word: Word, of: str, part: str) -> Iterator[Meaning]:
@@ -144,8 +146,9 @@ class Names:
         if found:
             first = found[0].declaration
             assert first.of is not None
-            number = [str(len(first.parameters))] if self.specification.overloads(word.text) else []
-            key = ("attribute", *number, word.text) if first.form == "inh" else ("attribute", *number, first.of.text, word.text)
+            name = word.text if first.name is None else first.name.text
+            number = [str(len(first.parameters))] if self.specification.overloads(name) else []
+            key = ("attribute", *number, name) if first.form == "inh" else ("attribute", *number, first.of.text, name)
             declared = tuple(_place(it.file, it.declaration.name) for it in found if it.declaration.name is not None)
             yield Meaning(_place(file, word), key, declared, "\n".join(self.told_of_attribute(it) for it in found))
 
@@ -155,16 +158,17 @@ class Names:
         return Meaning(_place(file, word), key, (_place(file, binding.name),), f"{kind or 'unknown kind'} {word.text}")
 
     def told_of_class(self, name: str) -> str:
-        """A class as the grammar declares it, with inherited components, and what is below it."""
+        """A class as the grammar declares it, with inherited components, its constants, and what is below it."""
         grammar = self.specification.grammar
         if name not in grammar:
             return f"class {name}"
         it = grammar.class_named(name)
         above = f" : {it.superclass}" if it.superclass else ""
-        parts = f" ::= {' '.join(map(str, it.parts))}" if it.parts else ""
+        own = f" ::= {' '.join(map(str, it.parts))}" if it.parts else ""
         below = [sub.name for sub in grammar if sub.superclass == name]
-        told = f"{'abstract ' if it.is_abstract else ''}{name}{above}{parts};"
-        return told + (f"\nbelow it: {', '.join(below)}" if below else "")
+        told = f"{'abstract ' if it.is_abstract else ''}{name}{above}{own};"
+        parts = [component_of(it) for it in self.specification.constants(name)]
+        return told + (f"\nconstants: {', '.join(f'{it.kind} {it.name}()' for it in parts)}" if parts else "") + (f"\nbelow it: {', '.join(below)}" if below else "")
 
     def told_of_component(self, of: str, part: str) -> str:
         """A component and its accessors with their kinds."""
@@ -174,9 +178,9 @@ class Names:
         return f"{of} ::= {form}\n" + "\n".join(spelled)
 
     def told_of_attribute(self, placed: Placed) -> str:
-        """The head of an attribute's declaration, the comment above it, and the classes that have equations."""
+        """The head of an attribute's declaration, of a constant with its tree, the comment above it, and the classes that have equations."""
         it, text = placed.declaration, self.specification.text(placed.file)
-        head = re.sub(r"\s+", " ", text[it.start:it.parameters_end or it.end])
+        head = re.sub(r"\s+", " ", text[it.start:it.end if it.constant is not None else it.parameters_end or it.end])
         comment = _COMMENT.search(text[:it.start])
         lines = [line.strip().lstrip("/* ").rstrip("*/ ") for line in comment[0].strip().splitlines()] if comment else []
         by = [_equation_head(equation.declaration) for equation in self.specification.equations(it)]

@@ -27,7 +27,7 @@ class Refused:
 
     `declaration` is that in which it stands, None where it stands in none; `expression` the one that is refused, where that is known.
     `follows` is whether it only follows from a fault that was told before. `sort` says which form isn't taken, where that is known: that
-    of a piece, or of the declaration.
+    of a piece, or of the declaration; or what of a constant is refused: its component, its tree, or that it stands in itself.
     """
 
     file: int
@@ -93,6 +93,9 @@ class Mending:
         piece = self._piece(refusal, offset, it)
         if piece is not None:
             return self._mend_piece(refusal, offset, it, piece)
+        sort = self._sort_of_constant(refusal, offset, it)
+        if sort:
+            return self._mend_constant(refusal, offset, it, sort)
         if it.form == "other" and id(it) not in self._plain:
             self._put_plain(refusal, it)
             return Refused(refusal.file, refusal.code, refusal.name, offset, it, None, False, it.sort)
@@ -188,6 +191,8 @@ class Mending:
         elif piece.sort == "parameter kind":
             self._retype(it, {known.name.text for known in it.parameters if known.kind is not None and known.kind.at == piece.start})
         elif piece.sort in ("nta", "index") and it.body is not None:
+            if it.kind is not None and is_java_kind(it.kind.text):
+                self._put_kind(refusal.file, it, it.kind)
             self._put_body(refusal.file, it)
             self._pieces.update(id(other) for other in it.pieces if other.start >= it.parameters_end)
         elif piece.sort == "reserved":
@@ -196,6 +201,30 @@ class Mending:
             self._reserved.add(word)
         self._told.add((refusal.file, it.start, piece.sort))
         return Refused(refusal.file, refusal.code, refusal.name, offset, it, None, follows, piece.sort)
+
+    # Constants.
+
+    def _sort_of_constant(self, refusal: Refusal, offset: int, it: Declaration) -> str:
+        """What of a constant is refused that is one yet; empty where that is something that might be refused of any attribute."""
+        if it.constant is None or it.name is None or id(it) in self._bodies:
+            return ""
+        is_named, is_in_body = offset == it.name.at, offset >= it.parameters_end
+        if refusal.code in ("J2", "J11") and is_named:
+            return "component"
+        if refusal.code in ("J3", "J4") and is_in_body:
+            return "tree"
+        if refusal.code == "J3" and it.kind is not None and offset == it.kind.at:
+            return "kind of tree"
+        return "itself" if refusal.code == "J10" and is_in_body else ""
+
+    def _mend_constant(self, refusal: Refusal, offset: int, it: Declaration, sort: str) -> Refused:
+        """Has an attribute in the place of a constant, so that its class has no such component: what asks for that only follows."""
+        assert it.constant is not None and it.name is not None
+        self.patched[refusal.file].put(it.constant.at, it.constant.end, " ")
+        self._put_body(refusal.file, it)
+        self.tainted.add(f"get{it.name.text}")
+        self._told.update([(refusal.file, it.start, refusal.code), self._key(refusal, offset)])
+        return Refused(refusal.file, refusal.code, refusal.name, offset, it, None, False, sort)
 
     def _put_piece(self, file: int, it: Declaration, piece: Piece) -> None:
         self._pieces.add(id(piece))
@@ -506,7 +535,7 @@ class Mending:
         if code not in IN_BODY:
             return False
         if it.getter is not None and it.getter.at == offset:
-            return it.of is not None and it.of.text in before
+            return it.of is not None and it.of.text in before or it.getter.text in before
         words = {word.text for word in _words(text[it.start:it.parameters_end or it.end]) if word.at + it.start == offset}
         return bool(words & before) or (code == "J4" and self._is_marred(it))
 

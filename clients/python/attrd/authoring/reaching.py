@@ -29,7 +29,7 @@ def way_without(specification: Specification, attribute: Declaration, given: Ite
     for name in left:
         if attribute.of is not None and grammar.is_below(name, attribute.of.text):
             return _told(before, name)
-        for part in grammar.parts(name):
+        for part in specification.parts(name):
             if part.shape is not Shape.TOKEN and not _is_given(specification, equated, name, part.name):
                 for below in grammar.concrete_below(part.kind):
                     if below not in before:

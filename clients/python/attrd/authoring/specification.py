@@ -36,11 +36,13 @@ class Placed(NamedTuple):
 
 
 class Accessor(NamedTuple):
-    """An accessor: the class that declares the component, the component, and the kind of its value; that of a list is `Stmt*`."""
+    """An accessor: the class that declares the component, the component, and the kind of its value; that of a list is `Stmt*`. Of a
+    component in which a constant stands `constant` is the declaration of that."""
 
     of: str
     part: Part
     kind: str
+    constant: Optional[Placed] = None
 
 
 class Specification:
@@ -60,6 +62,10 @@ class Specification:
             if placed.declaration.is_declaring and placed.declaration.name is not None:
                 self._named.setdefault(placed.declaration.name.text, []).append(placed)
         self._accessors: Dict[str, Dict[str, Accessor]] = {}
+        self._constants: Dict[str, List[Placed]] = {}
+        for placed in self.declarations:
+            if placed.declaration.constant is not None and placed.declaration.of is not None:
+                self._constants.setdefault(placed.declaration.of.text, []).append(placed)
 
     def with_any_node(self) -> Specification:
         """Has the class ASTNode above all others in its grammar from now on, where aspects speak of it or its like, so that what else they
@@ -145,6 +151,16 @@ class Specification:
             found += [self.attribute(of, name, count) for count in counts or [None]]
         return [it for it in found if it is not None]
 
+    def constants(self, of: str) -> List[Placed]:
+        """The constants that stand in each node of a class, those of the classes above first."""
+        above = self.grammar.ancestors(of) if of in self.grammar else ()
+        return [placed for it in reversed(above) for placed in self._constants.get(it, ())]
+
+    def parts(self, of: str) -> List[Part]:
+        """The components of a class, those in which constants stand of a class that is there among them."""
+        found = list(self.grammar.parts(of)) if of in self.grammar else []
+        return [*found, *(component_of(placed) for placed in self.constants(of) if component_of(placed).kind in self.grammar)]
+
     def accessors(self, of: str) -> Dict[str, Accessor]:
         """The accessors of a class, by their names; none of a class that isn't declared."""
         if of not in self._accessors:
@@ -162,6 +178,9 @@ class Specification:
                     yield f"get{part.name}s", Accessor(owner, part, part.kind + "*")
             elif part.shape is Shape.OPTIONAL:
                 yield f"has{part.name}", Accessor(owner, part, "boolean")
+        for placed in self.constants(of):
+            part, declared = component_of(placed), placed.declaration
+            yield f"get{part.name}", Accessor("" if declared.of is None else declared.of.text, part, part.kind, placed)
 
     def owner(self, of: str, part: str) -> str:
         """The class that declares a component that a class has."""
@@ -224,7 +243,7 @@ class Specification:
             return self._kind_of_binary(expression, within)
         if form in (Form.GROUP, Form.CHOICE):
             return self._wider([self.kind_of(it, within) for it in expression.parts[-2:]])
-        return {Form.NUMBER: "int", Form.TEXT: "String", Form.CAST: word, Form.INSTANCE: "boolean"}.get(
+        return {Form.NUMBER: "int", Form.TEXT: "String", Form.CAST: word, Form.NEW: word, Form.INSTANCE: "boolean"}.get(
             form, "boolean" if word == "!" else "int")
 
     def _kind_of_binary(self, expression: Expression, within: Declaration) -> str:
@@ -264,6 +283,13 @@ class Specification:
             return accessor.kind
         placed = self.attribute(of, name, len(call.arguments)) if of is not None else None
         return None if placed is None or placed.declaration.kind is None else placed.declaration.kind.text
+
+
+def component_of(placed: Placed) -> Part:
+    """The component in which a constant stands."""
+    it = placed.declaration
+    assert it.name is not None and it.kind is not None
+    return Part(it.name.text, Shape.CHILD, it.kind.text)
 
 
 def _kinds_of(it: Declaration) -> List[Optional[str]]:

@@ -109,8 +109,22 @@ OF_LISTS = Way("Have it go over a list of the tree; what isn't in one is asked f
 AT_ROOT = Way("Give the class of the root an equation of its own, which asks for nothing from above.", 2)
 BELOW_ROOT = Way("The root has no node above it: declare it for each of the other classes, and not for that of the root.", 2)
 NO_VALUE = Way("The end of the body can be reached: have each way through it end in a `return`.", 5)
+_WRITTEN = "`syn nta Decl Program.unknown() = new Decl(\"?\", new Opt());`: behind one `new` stand literals, `new Y(..)`, `new List()` with " \
+           "`.add(new Y(..))`, and `new Opt()`."
+# What helps with a constant, by what of it is refused.
+OF_CONSTANTS: Dict[str, Way] = {
+    "component": Way("A constant is a component of its class and of those below it: give it a name that none of these has, and at most 32 "
+                     "components.", 11),
+    "tree": Way("An argument stands for each component, inherited ones first, without constants: a literal for a token, `new Y(..)` for a "
+                "child, `new List()` with `.add(new Y(..))` for a list, `new Opt()` or `new Opt(new Y(..))` for an optional.", 11),
+    "kind of tree": Way("The kind of a constant is a class of the grammar.", 11),
+    "itself": Way("What is always there can't go on without an end: declare it for classes of which its own tree has none.", 11)}
+BY_ACCESSOR = "An equation for a constant is named by the accessor of its component: `{}`."
 # What helps where bodies of statements are read.
 IN_JASTADD: Dict[str, Way] = {
+    "nta": Way(f"What is always there is written down: {_WRITTEN} What depends on the tree is an attribute that answers what would be asked "
+               "of the node.", 11),
+    "new": Way(f"Equations make no nodes. What is always there is a constant, {_WRITTEN}", 11),
     "if": Way("`if` and `else` are read, where each way ends in a `return`: a `switch` becomes a chain of them.", 5),
     "for": Way("A loop is read that looks for an element: `for (S s : getSList()) if (c) return e;`. Count by `sum (s : getSList()) { e }`.", 5),
     "statement": Way("Nothing is changed in a body: what is assigned or added becomes the value of an attribute.", 5)}
