@@ -44,6 +44,8 @@ class Specification:
         """Takes in a declaration or an equation."""
         if isinstance(said, Declared):
             self.declared[said.of, said.name] = said
+            if said.constant:
+                self.grammar.add_constant(said.of, said.name, *said.constant)
         elif said.component is not None:
             self.places[said.of, said.component, said.name] = said
         if said.body is not None and not (isinstance(said, Equation) and said.component):

@@ -13,7 +13,7 @@ ANY = "Child"
 
 @dataclass(frozen=True)
 class Component:
-    """A component: its name, its form (child, list, optional, token), and its class or the kind of its token."""
+    """A component: its name, its form (child, list, optional, token, constant), and its class or the kind of its token."""
 
     name: str
     form: str
@@ -41,6 +41,16 @@ class Grammar:
         self.named = {name: {it.name: it for it in parts} for name, parts in self.parts.items()}
         self.concrete = {of: [name for name, it in self.classes.items() if not it.is_abstract and of in self.lines[name]] for of in self.classes}
         self.accessors = self.all_accessors()
+        # the term of the constant that stands in a component of a class, by its name
+        self.constants: Dict[str, Dict[str, str]] = {name: {} for name in self.classes}
+
+    def add_constant(self, of: str, name: str, kind: str, term: str) -> None:
+        """Has a constant stand in one more component of a class, and of those below it."""
+        for below in self.classes:
+            if self.is_below(below, of):
+                self.named[below][name] = Component(name, "constant", kind)
+                self.constants[below][name] = term
+        self.accessors |= {f"get{name}"}
 
     def up(self, name: Optional[str]) -> List[str]:
         """The class, and those above it."""

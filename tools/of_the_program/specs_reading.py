@@ -84,7 +84,8 @@ class Parameter:
 
 @dataclass(frozen=True)
 class Declared:
-    """What declares an attribute: for which class, its kind, its parameters, the start of a circular one, and its body, if it has one."""
+    """What declares an attribute: for which class, its kind, its parameters, the start of a circular one, and its body, if it has one; of a
+    constant its kind and its term."""
 
     sort: str
     of: str
@@ -92,6 +93,7 @@ class Declared:
     parameters: Tuple[Parameter, ...]
     start: Optional[bool] = None
     body: Optional[Statement] = None
+    constant: Optional[Tuple[str, str]] = None
 
 
 @dataclass(frozen=True)
@@ -295,8 +297,12 @@ class Aspects(Statements):
         if self.take("eq"):
             return self.equation()
         sort = self.take("syn", "inh")
-        while sort and self.take("lazy", "final"):
-            pass
+        is_constant = False
+        while sort and self.is_next("lazy", "final", "nta"):
+            is_constant |= bool(self.take("nta"))
+            self.take("lazy", "final")
+        if is_constant:
+            return self.constant()
         self.kind()
         of = self.name().text
         self.want(".")
@@ -304,6 +310,46 @@ class Aspects(Statements):
         start = self.start() if self.take("circular") else None
         body = None if self.take(";") else self.body()
         return Declared(sort.text if sort else "syn", of, name, parameters, start, body)
+
+    def constant(self) -> Declared:
+        """What stands behind `nta`: the body is the accessor of the component."""
+        kind, of = self.name().text, self.name().text
+        self.want(".")
+        name = self.name().text
+        self.parameters()
+        is_block = self.take("{") and self.want("return")
+        if not is_block:
+            self.want("=")
+        term = self.made()
+        self.want(";")
+        if is_block:
+            self.want("}")
+        return Declared("syn", of, name, (), None, Return(Expr("call", (THIS,), f"get{name}")), (kind, term))
+
+    def made(self) -> str:
+        """The term of what is written down for a component."""
+        if not self.take("new"):
+            sign = "-" if self.take("-") else ""
+            self.at += 1
+            return sign + self.tokens[self.at - 1].text
+        name = self.name().text
+        if self.take("<"):
+            self.name()
+            self.want(">")
+        self.want("(")
+        parts: List[str] = []
+        while not self.take(")"):
+            if parts:
+                self.want(",")
+            parts.append(self.made())
+        if name == "Opt":
+            return parts[0] if parts else "-"
+        while name == "List" and self.take("."):
+            self.name()
+            self.want("(")
+            parts.append(self.made())
+            self.want(")")
+        return f"[{','.join(parts)}]" if name == "List" else f"{name}({','.join(parts)})"
 
     def start(self) -> bool:
         """What stands behind `circular`: the value from which it starts."""

@@ -27,11 +27,12 @@ Cell = Union["Node", List["Node"], Token, None]
 
 
 class Node:
-    """A node: its class, its cells by their components, the node above it, and the component in which it stands there."""
+    """A node: its class, its cells by their components, its constants by theirs, the node above it, and the component in which it stands."""
 
     def __init__(self, kind: str) -> None:
         self.kind = kind
         self.cells: Dict[str, Cell] = {}
+        self.constants: Dict[str, Node] = {}
         self.above: Optional[Node] = None
         self.part = ""
 
@@ -48,6 +49,7 @@ class Node:
                 yield it
             elif isinstance(it, list):
                 yield from it
+        yield from self.constants.values()
 
     def all(self) -> Iterator[Node]:
         """The node, and all that are below it."""
@@ -62,7 +64,11 @@ class Node:
 
     def is_element(self) -> bool:
         """Whether it stands in a list."""
-        return self.above is not None and isinstance(self.above.cells[self.part], list)
+        return self.above is not None and isinstance(self.above.cells.get(self.part), list)
+
+    def is_fixed(self) -> bool:
+        """Whether it is a constant, or stands in one."""
+        return self.above is not None and (self.part in self.above.constants or self.above.is_fixed())
 
     def path(self) -> str:
         """The node's path."""
@@ -83,11 +89,16 @@ class Node:
             if isinstance(it, Node):
                 it.above, it.part = self, part
 
+    def plant(self, part: str, constant: Node) -> None:
+        """Has a constant stand in a component."""
+        self.constants[part] = constant
+        constant.above, constant.part = self, part
+
     def at(self, path: str) -> Node:
         """The node with that path below this one. Raises Refusal."""
         for step in filter(None, path.split("/")):
             name, colon, index = step.partition(":")
-            found = self.cells.get(name)
+            found = self.constants.get(name, self.cells.get(name))
             if colon and isinstance(found, list) and int(index) < len(found):
                 self = found[int(index)]
             elif not colon and isinstance(found, Node):
@@ -153,6 +164,8 @@ class Terms:
                 self.want(",")
             made.put(part.name, self.cell(part))
         self.want(")")
+        for name, term in self.grammar.constants[made.kind].items():
+            made.plant(name, Terms(self.grammar, term).node(self.grammar.named[made.kind][name].kind))
         return made
 
     def cell(self, part: Component) -> Cell:
@@ -199,7 +212,9 @@ class Tree:
         node = self.root.at(words[1])
         if words[0] == "token":
             part = self.component(node, words[2], "token")
-            node.put(part.name, Terms(self.grammar, words[3]).value(part.kind))
+            value = Terms(self.grammar, words[3]).value(part.kind)
+            loose(node)
+            node.put(part.name, value)
         elif words[0] == "set":
             self.set(node, words[2])
         elif words[0] == "put":
@@ -207,6 +222,7 @@ class Tree:
             new = Terms(self.grammar, words[3]).node(part.kind)
             if node.cells[part.name] is not None:
                 raise Refusal("9 taken")
+            loose(node)
             node.put(part.name, new)
         elif words[0] == "insert":
             self.insert(node, words[2], int(words[3]), words[4])
@@ -227,7 +243,9 @@ class Tree:
         if above is None:
             self.root = Terms(self.grammar, term).node(self.grammar.start)
             return
-        new, cell = Terms(self.grammar, term).node(self.grammar.named[above.kind][part].kind), above.cells[part]
+        new = Terms(self.grammar, term).node(self.grammar.named[above.kind][part].kind)
+        loose(node)
+        cell = above.cells[part]
         above.put(part, [new if it is node else it for it in cell] if isinstance(cell, list) else new)
 
     def insert(self, node: Node, name: str, index: int, term: str) -> None:
@@ -235,12 +253,14 @@ class Tree:
         new, found = Terms(self.grammar, term).node(part.kind), node.list(part.name)
         if index > len(found):
             raise Refusal("8 index")
+        loose(node)
         node.put(part.name, [*found[:index], new, *found[index:]])
 
     def drop(self, node: Node) -> None:
         above, part = node.above, node.part
         if above is None or self.grammar.named[above.kind][part].form == "child":
             raise Refusal("10 fixed")
+        loose(node)
         cell = above.cells[part]
         above.put(part, [it for it in cell if it is not node] if isinstance(cell, list) else None)
 
@@ -253,11 +273,19 @@ class Tree:
             raise Refusal("8 index")
         if not node.is_element():
             raise Refusal("10 fixed")
+        loose(node)
+        loose(to)
         if any(it is to for it in node.all()):
             raise Refusal("11 inside")
         assert node.above is not None
         node.above.put(node.part, [it for it in node.above.list(node.part) if it is not node])
         to.put(part.name, [*others[:index], node, *others[index:]])
+
+
+def loose(node: Node) -> None:
+    """Refuses what is done with a node that is a constant, or stands in one."""
+    if node.is_fixed():
+        raise Refusal("10 fixed")
 
 
 def parted(given: str) -> Tuple[str, ...]:

@@ -214,7 +214,7 @@ class Evaluation:
     def accessed(self, node: Node, word: str, given: List[int]) -> Value:
         """What an accessor gives, but for that of a list as a whole."""
         front, part = self.accessor(node, word)
-        found = node.cells[part]
+        found = node.constants.get(part, node.cells.get(part))
         if front == "has":
             return found is not None
         if isinstance(found, list):

@@ -176,7 +176,7 @@ class OfStatements(unittest.TestCase):
     def test_faults(self) -> None:
         self.assertEqual(self.client.diagnoses("names.jrag"), [])
         self.client.change("names.jrag", "return p;", "p.find(); return p;")
-        self.assertEqual(self.client.diagnoses("names.jrag"), ["25 J10"])
+        self.assertEqual(self.client.diagnoses("names.jrag"), ["26 J10"])
 
     def test_hover(self) -> None:
         self.assertEqual(self.told("names.jrag", "f : get"), "Function f")
@@ -187,10 +187,10 @@ class OfStatements(unittest.TestCase):
         self.assertIn("syn boolean Function.reaches(Function to)", self.told("functions.jrag", "reaches(to)", 0))
 
     def test_definitions_and_references(self) -> None:
-        self.assertEqual(self.lines("definition", "names.jrag", "f.getIdDecl()", 0), ["names.jrag:13 f"])
+        self.assertEqual(self.lines("definition", "names.jrag", "f.getIdDecl()", 0), ["names.jrag:14 f"])
         self.assertEqual(self.lines("definition", "names.jrag", "Param p"), ["simplic.ast:4 Param"])
-        self.assertEqual(self.lines("definition", "names.jrag", "lookupBehind(name);"), ["names.jrag:34 lookupBehind"])
-        self.assertEqual(self.lines("references", "names.jrag", "p : get"), ["names.jrag:24 p", "names.jrag:25 p", "names.jrag:25 p"])
+        self.assertEqual(self.lines("definition", "names.jrag", "lookupBehind(name);"), ["names.jrag:35 lookupBehind"])
+        self.assertEqual(self.lines("references", "names.jrag", "p : get"), ["names.jrag:25 p", "names.jrag:26 p", "names.jrag:26 p"])
 
     def test_attributes_that_are_overloaded(self) -> None:
         self.client.change("names.jrag", "aspect", "aspect Two {\n  syn int Function.two() = two(1);\n  syn int Function.two(int i) = i;\n}\naspect")
@@ -202,6 +202,19 @@ class OfStatements(unittest.TestCase):
         self.assertEqual(self.lines("references", "names.jrag", "two(1)"), ["names.jrag:5 two", "names.jrag:6 two"])
         symbols = self.client.ask("textDocument/documentSymbol", self.client.place("names.jrag", ""))
         self.assertEqual([it["name"] for it in symbols][:3], ["Function.two()", "Function.two(int)", "IdUse.decl"])
+
+    def test_constants(self) -> None:
+        """The attribute and the accessor of its component mean the same, and the class tells of it."""
+        told = self.told("names.jrag", "print().getIdDecl().getID", 0)
+        self.assertIn('syn nta Function Program.print() = new Function( new IdDecl("print"), new List<Param>()', told)
+        self.assertIn("equations: Program", told)
+        self.assertEqual(self.told("names.jrag", "getprint()", 0), told)
+        declared = ["names.jrag:61 print"]
+        self.assertEqual(self.lines("definition", "names.jrag", "print().getIdDecl().getID", 0), declared)
+        self.assertEqual(self.lines("definition", "names.jrag", "getprint()", 0), declared)
+        self.assertEqual(self.lines("definition", "names.jrag", "Numeral(0)"), ["simplic.ast:18 Numeral"])
+        self.client.change("names.jrag", "new Return(new Numeral(0))", "new Return(new Numeral(false))")
+        self.assertEqual([it.split(" ")[1] for it in self.client.diagnoses("names.jrag")], ["J4"])
 
     def test_completion(self) -> None:
         self.client.change("names.jrag", "    if (i == 0) return lookup(name);\n", "    \n    if (i == 0) return lookup(name).\n")
