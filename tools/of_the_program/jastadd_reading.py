@@ -13,6 +13,8 @@ MODIFIERS = frozenset(("public", "protected", "private", "final"))
 KINDS, FOLDS, VALUES = ("int", "boolean", "String"), ("exists", "first", "sum"), ("true", "false", "null", "this")
 # Words of Java that begin an operand that is left out.
 OTHER_OPERANDS = ("new", "super", "switch")
+# What stands for a list or an optional in a constant.
+CONTAINERS = ("List", "Opt")
 # What a kind goes on with that is left out: its arguments, an array, the package before it.
 BEHIND_KIND = ("<", "[", ".")
 # Operators, from the weakest row to the strongest; `instanceof` stands in that of `<`.
@@ -369,7 +371,114 @@ class Statements(Expressions):
         return found, self.want("}")
 
 
-class Aspects(Statements):
+class Constants(Statements):
+    """Reads constant nonterminal attributes, behind their `nta`: what isn't written down is left out. Raises Refused."""
+
+    def constant(self) -> None:
+        while self.take("lazy", "final"):
+            pass
+        name = self.outset()
+        is_block = self.take("{") if not self.take("=") else None
+        if self.tokens[self.at - 1].text not in ("=", "{") or (is_block and not self.take("return")):
+            raise Refused(LEFT_OUT, name.at)
+        new = self.take("new")
+        if not new:
+            raise Refused(LEFT_OUT, name.at)
+        self.node(new)
+        self.want_of(new, ";")
+        if is_block and not self.take("}"):
+            raise self.other()
+
+    def outset(self) -> Token:
+        """`CLASS CLASS . NAME ( )`: the name."""
+        if self.is_next(*KINDS):
+            raise self.wrong(LEFT_OUT)
+        kind = self.name()
+        if self.is_next(*BEHIND_KIND):
+            raise Refused(LEFT_OUT, kind.at)
+        self.name()
+        self.want(".")
+        name = self.name()
+        self.want("(")
+        if not self.take(")"):
+            raise self.other()
+        return name
+
+    def want_of(self, new: Token, text: str) -> None:
+        """Steps over what goes on with what is made there, which is left out where something else stands."""
+        if not self.take(text):
+            raise Refused(LEFT_OUT, new.at)
+
+    def node(self, new: Token) -> None:
+        """`CLASS ( PARTS )`, behind its `new`."""
+        if not self.next.is_name() or self.next.text in CONTAINERS:
+            raise Refused(LEFT_OUT, new.at)
+        self.at += 1
+        self.want_of(new, "(")
+        if self.take(")"):
+            return
+        self.part()
+        while self.take(","):
+            self.part()
+        self.want(")")
+
+    def part(self) -> None:
+        """What stands for a component, and behind it a comma or the closing parenthesis."""
+        first = self.next
+        new = self.take("new")
+        if new is None:
+            self.literal()
+        elif self.is_next(*CONTAINERS):
+            self.container(new)
+        else:
+            self.node(new)
+        if not self.is_next(",", ")"):
+            raise Refused(LEFT_OUT, first.at)
+
+    def literal(self) -> None:
+        if self.next.kind == "text":
+            self.at += 1
+            return
+        sign = self.take("-")
+        if self.next.kind == "number":
+            self.number(GREATEST + 1 if sign else GREATEST)
+        elif sign:
+            raise Refused(LEFT_OUT, sign.at)
+        elif not self.take("true", "false"):
+            raise self.no_operand()
+
+    def no_operand(self) -> Refused:
+        """The fault where nothing stands that is read: an operand that begins here is left out."""
+        is_begun = self.next.kind not in ("sign", "end") or self.is_next("!", "(", "-")
+        return self.wrong(LEFT_OUT if is_begun else SYNTAX)
+
+    def child(self) -> None:
+        """`new` and a node."""
+        new = self.take("new")
+        if new is None:
+            raise self.no_operand()
+        self.node(new)
+
+    def container(self, new: Token) -> None:
+        """A list with what is added to it, or an optional with its node."""
+        is_list = self.take(*CONTAINERS) == Token("word", "List", self.tokens[self.at - 1].at)
+        if self.take("<"):
+            if not self.next.is_name():
+                raise Refused(LEFT_OUT, new.at)
+            self.at += 1
+            self.want_of(new, ">")
+        self.want_of(new, "(")
+        if not is_list and not self.is_next(")"):
+            self.child()
+        self.want_of(new, ")")
+        while is_list and self.take("."):
+            self.want_of(new, "add")
+            self.want_of(new, "(")
+            self.child()
+            self.want_of(new, ")")
+
+
+class Aspects(Constants):
     """Reads a file. Raises Refused."""
 
     def file(self) -> None:
@@ -390,9 +499,7 @@ class Aspects(Statements):
         while self.take(*MODIFIERS):
             pass
         if self.take("syn"):
-            self.head()
-            if not self.take(";"):
-                self.body()
+            self.synthesized()
         elif self.take("inh"):
             self.head()
             self.want(";")
@@ -405,6 +512,17 @@ class Aspects(Statements):
             self.statements()
         else:
             raise self.other()
+
+    def synthesized(self) -> None:
+        """An attribute or a constant, behind its `syn`."""
+        while self.take("lazy", "final"):
+            pass
+        if self.take("nta"):
+            self.constant()
+            return
+        self.head()
+        if not self.take(";"):
+            self.body()
 
     def is_method(self) -> bool:
         """Whether `KIND NAME . NAME (` is next, and no `void`."""
