@@ -29,7 +29,7 @@ returns-in_err-look_at_circles c =
     let planted = c.in_ok-planted.planted in
     let p = err_from_is_err_and c.from_residual-in_err-look_at_circles.result c.from_residual-in_err-look_at_circles.ensures.1 in
     let is = last_level placed_view c.args.constants.now ds (grammar_view c.in_ok-grown.grown.grammar) planted c.in_ok-grown.ensures.grown
-        c.in_ok-planted.ensures.0 in
+    c.in_ok-planted.ensures.0 in
     rw (p.1, p.2) (told_circle ds (map placed_view c.args.constants.now) c.args.classes.now planted c.in_err-look_at_circles.field-0.0
     c.requires.classes is c.in_ok-look_at_names.ensures c.in_ok-grown.ensures.fault c.in_ok-look_at_terms.ensures c.in_err-look_at_circles.ensures)
 
@@ -38,6 +38,9 @@ returns c =
     let ds = grammar_view c.args.grammar.now in
     let planted = c.in_ok-planted.planted in
     let is = last_level placed_view c.args.constants.now ds (grammar_view c.in_ok-grown.grown.grammar) planted c.in_ok-grown.ensures.grown
-        c.in_ok-planted.ensures.0 in
-    (all_stand ds (map placed_view c.args.constants.now) c.args.classes.now planted c.requires.classes is c.in_ok-look_at_names.ensures
-    c.in_ok-grown.ensures.fault c.in_ok-look_at_terms.ensures c.in_ok-look_at_circles.ensures, is, c.in_ok-planted.ensures.1)
+    c.in_ok-planted.ensures.0 in (
+      all_stand ds (map placed_view c.args.constants.now) c.args.classes.now planted c.requires.classes is c.in_ok-look_at_names.ensures
+          c.in_ok-grown.ensures.fault c.in_ok-look_at_terms.ensures c.in_ok-look_at_circles.ensures,
+      is,
+      c.in_ok-planted.ensures.1,
+    )

@@ -14,7 +14,7 @@ returns-in_err-classes c =
     let ds = grammar_view c.args.declared.grammar in
     let p = err_from_is_err_and c.from_residual.result c.from_residual.ensures.1 in
     let told = subst (λ (ps : List PlacedValue). Tells (constants_fault ds (map placed_view ps)) c.in_err-classes.field-0.0) c.deref.ensures.value
-        c.in_err-classes.ensures in
+    c.in_err-classes.ensures in
     rw (p.1, p.2) (inl told)
 
 pub returns : goal.returns
