@@ -66,8 +66,9 @@ held_lengths language names (f ∷ fs) [] h = absurd h
 held_lengths language names (f ∷ fs) (c ∷ cs) h = ap suc (held_lengths language names fs cs h.1)
 
 -- no file as yet
-pub none_given_yet : (language : Language) (names : List Alias) → AllGive language names [] [] []
-none_given_yet language names = record { contents = []; hold = tt; aspects_are = refl; constants_are = refl }
+pub none_given_yet : (language : Language) (names : List Alias) (aspects : List (List Aspect)) (constants : List Placed) → aspects ≡ []
+    → constants ≡ [] → AllGive language names [] aspects constants
+none_given_yet language names aspects constants none none' = record { contents = []; hold = tt; aspects_are = none; constants_are = none' }
 
 -- one more file was read
 pub one_more_read : (language : Language) (names : List Alias) (sources : List Source) (i : ℕ) (x : Source) (c : Contents)

@@ -1,4 +1,4 @@
-use Rattle.std.proofs.Common.{◌+◌, ◌<◌, List, ℕ, length, map, take, sym, subst, arith}
+use Rattle.std.proofs.Common.{◌+◌, ◌<◌, List, ℕ, ap, length, map, take, sym, subst, arith}
 use Rattle.std.proofs.lemmas.Bool.Decides.{nat_tests}
 use Rattle.std.proofs.lemmas.Result.{err_from_is_err_and}
 use Rattle.at_java.specs.Seen.{contents_view}
@@ -10,7 +10,7 @@ use Rattle.at_start.proofs.Ruled.{none_given_yet, one_more_read, unread_at}
 use Rattle.at_start.proofs.aspects.read_all.Goals as goal
 
 pub loop-i-init : goal.loop-i-init
-loop-i-init c = none_given_yet c.args.language c.args.names.now
+loop-i-init c = none_given_yet c.args.language c.args.names.now _ _ (ap (map aspects_of) c.new.ensures.items) (ap (map placed_view) c.new-2.ensures.items)
 
 pub returns-in_err-takes-in-Ok-clause-refused : goal.returns-in_err-takes-in-Ok-clause-refused
 returns-in_err-takes-in-Ok-clause-refused c =

@@ -9,8 +9,8 @@ use Rattle.at_start.proofs.grammar.declared_by.Goals as goal
 pub returns-in-Err-clause-refused : goal.returns-in-Err-clause-refused
 returns-in-Err-clause-refused c = no_text c.in-Err.code c.in-Err.ensures
 
-pub returns-clause-refused : goal.returns-clause-refused
-returns-clause-refused c =
+pub returns-in-Err-build-clause-refused : goal.returns-in-Err-build-clause-refused
+returns-in-Err-build-clause-refused c =
     let bytes = c.args.bytes.now in
     let ds = grammar_view c.in_ok-grammar.grammar in
     let declares = subst (λ (t : List ℕ). Declares t ds) c.in-Ok.ensures.1 c.in_ok-grammar.ensures.declares in
