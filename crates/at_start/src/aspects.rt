@@ -93,7 +93,8 @@ impl AllRead {
     /// What the next file holds, which has that number; or want of memory.
     fn takes(&mut self, file: usize, contents: Contents) -> Result<(), AllocError>
         ensures aspects { OnOk result (map aspects_of self.new.aspects.items ≡ map aspects_of self.old.aspects.items ++ (contents_view contents).aspects ∷ []) }
-        ensures constants { OnOk result (map placed_view self.new.constants.items ≡ map placed_view self.old.constants.items ++ in_file file (contents_view contents).constants) }
+        ensures constants { OnOk result (map placed_view self.new.constants.items
+            ≡ map placed_view self.old.constants.items ++ in_file file (contents_view contents).constants) }
     {
         let (aspects, constants) = contents.into_parts();
         self.aspects.push(aspects)?;
@@ -118,7 +119,8 @@ fn read_all(
     names: &[Alias],
     aspects: &[Source],
 ) -> Result<AllRead, StartFault>
-    ensures give { IfOk result (λ r. AllGive language names.now (aspect_bytes aspects.now) (map aspects_of r.aspects.items) (map placed_view r.constants.items)) }
+    ensures give { IfOk result (λ r. AllGive language names.now (aspect_bytes aspects.now)
+        (map aspects_of r.aspects.items) (map placed_view r.constants.items)) }
     ensures refused { IfErr result (IsUnread language names.now (aspect_bytes aspects.now)) }
 {
     let mut all = AllRead {
