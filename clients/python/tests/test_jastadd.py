@@ -127,6 +127,43 @@ MISNUMBERED = [
      "There is `inh P S.up()` at x.jrag:6, and `inh boolean S.up(String w)` at x.jrag:7."),
 ]
 BESIDE = Source("s.ast", "P ::= S* Q; S ::= <Name>; T : S; Q ::= B; B;")
+# And of constants; what asks for one that can't stand only follows.
+CONSTANTS = """aspect A {
+  syn nta S P.none() = new S("?");
+  public syn lazy nta R P.first() { return new R(new List<S>().add(new T("a")).add(new S("b")), new Opt<C>(new C(-1, true))); }
+  syn C S.c() = getc();
+  syn nta C S.c() = new C(1, false); //: J2/15
+  inh int S.i();
+  eq P.getnone().i() = 1;
+  eq P.getChild().i() { return getfirst().size() + first().size(); }
+  syn int R.size() = getNumS() + (hasC() ? 1 : 0);
+  syn nta S P.none() = new S("!"); //: J2/11
+  syn nta Nix P.d() = new Nix(); //: J3/11
+  syn nta S P.e() = new Nix(); //: J3/11
+  syn nta S P.f() = new S(1); //: J4/11
+  syn nta S P.g() = new C(1, true); //: J4/11
+  syn nta V V.h() = new V("t"); //: J10/11
+  syn nta C P.j(int n) = new C(n, true); //: J10/11
+  syn nta C P.k() = new C(1 + 1, true); //: J10/11
+  syn nta List<S> P.l() = new List<S>(); //: J10/11
+  syn nta R P.m() { List<S> l = new List<S>(); return new R(l, new Opt()); } //: J10/11
+  inh nta C S.n(); eq P.getChild().n() = null; //: J10/11
+  syn C P.o() = new C(1, true); //: J10/11
+  eq P.none().i() = 2; //: J3/11
+  syn int P.p() = getnix().size(); //: J3/0
+  syn int P.q() = gete().i();
+}
+"""
+PLANTED = Source("s.ast", "P ::= R; R ::= S* [C]; S ::= <Name>; T : S; C ::= <N:int> <B:boolean>; V ::= <Name>;")
+# Declarations behind `syn nta`, and whether each is a constant.
+WRITTEN = [
+    ('S P.a() = new S("x");', True), ('S P.a() { return new S("x"); }', True), ("C P.a() = new C(-1, true);", True),
+    ("R P.a() = new R(new List(), new Opt());", True), ("lazy R P.a() = new R(new List<S>().add(new S(\"\")), new Opt<C>(new C(1, false)));", True),
+    ("R P.a() = new R(new List<S>(new S(\"\")), new Opt());", False), ("S P.a() = new S(\"x\" + 1);", False), ("S P.a() = new S(x);", False),
+    ("S P.a() = null;", False), ("S P.a();", False), ("S P.a(int n) = new S(\"x\");", False), ("int P.a() = new S(\"x\");", False),
+    ("List<S> P.a() = new List<S>();", False), ("S P.a() = new S(\"x\").b();", False), ("S P.a() { return new S(\"x\"); return null; }", False),
+    ("S P.a() = new List();", False), ("C P.a() = new C(-\"x\", true);", False), ("C P.a() = new C(1 2);", False),
+]
 
 
 def spelled(it):
@@ -189,7 +226,7 @@ class Reading(unittest.TestCase):
         self.assertEqual([it.form for it in read_aspects("aspect X { int A.m() { return 1; } }")], ["other"])
 
     def test_all_faults_are_found_in_one_run(self):
-        for grammar, aspects in (GRAMMAR, FAULTS), (CLASSES, AGAIN), (CLASSES, EVERYWHERE), (BESIDE, BOTH), (CLASSES, NUMBERED):
+        for grammar, aspects in (GRAMMAR, FAULTS), (CLASSES, AGAIN), (CLASSES, EVERYWHERE), (BESIDE, BOTH), (CLASSES, NUMBERED), (PLANTED, CONSTANTS):
             findings = check(grammar, [Source("x.jrag", aspects)], PROGRAM, "jastadd").findings
             wanted = [(line, fault) for line, text in enumerate(aspects.splitlines(), 1) for fault in text.partition("//: ")[2].split()]
             self.assertEqual([(it.line, f"{it.code}/{it.section.partition('.')[0] or 0}") for it in findings], wanted)
@@ -270,6 +307,38 @@ class Reading(unittest.TestCase):
             for head in "A.getB().|", "A.getB(int i).o|", "A.getChild() . |":
                 with self.subTest(head, forms=forms):
                     self.assertEqual(completed(f"aspect X {{ eq {head} }} {declared}", forms), {"i", "on"})
+
+    def test_constants_are_written_down(self):
+        for text, wanted in WRITTEN:
+            with self.subTest(text):
+                first, second = read_aspects(f"aspect X {{ syn nta {text} syn int P.z() = 1; }}", "jastadd")
+                self.assertEqual((first.constant is not None, [it.sort for it in first.pieces]), (wanted, [] if wanted else ["nta"]))
+                self.assertTrue(first.is_whole and first.body is not None)
+                self.assertEqual((second.name.text, second.constant, second.pieces), ("z", None, []))
+
+    def test_constants_have_meanings(self):
+        text = CONSTANTS[:CONSTANTS.index("  syn nta S P.none() = new S(\"!\")")].replace("  syn nta C S.c() = new C(1, false); //: J2/15\n", "") + "}\n"
+        names = Names(Specification(PLANTED, [Source("x.jrag", text)], "jastadd"))
+        for word, line in (("getfirst", 3), ("first().size", 3), ("getnone", 2), ("size() + first", 8)):
+            declared = names.at("x.jrag", text.index(word)).declared
+            self.assertEqual([(it.file, text.count("\n", 0, it.start) + 1) for it in declared], [("x.jrag", line)], word)
+        first = names.at("x.jrag", text.index("getfirst"))
+        self.assertTrue(first.told.startswith("public syn lazy nta R P.first() { return new R("), first.told)
+        self.assertEqual(len(names.references(first)), 3)
+        for word in ("C(-1", "T(\"a", "S>().add"):
+            self.assertEqual([it.file for it in names.at("x.jrag", text.index(word)).declared] if word != "S>().add" else ["s.ast"], ["s.ast"], word)
+        self.assertIn("constants: S none(), R first()", names.told_of_class("P"))
+        self.assertEqual([(it.of, it.kind) for name, it in names.specification.accessors("P").items() if name == "getfirst"], [("P", "R")])
+
+    def test_constants_are_completed(self):
+        declared = "aspect Y { syn nta B A.first() = new B(\"x\"); } "
+        self.assertLessEqual({"getfirst", "first", "getB"}, completed(f"{declared}aspect X {{ syn int A.a() = |; }}"))
+        self.assertEqual(completed(f"{declared}aspect X {{ syn int A.a() = first().|; }}"), {"getName"})
+        self.assertEqual(completed(f"{declared}aspect X {{ syn int A.a() = getfirst().g|; }}"), {"getName"})
+        self.assertLessEqual({"getfirst", "getChild"}, completed(f"{declared}aspect X {{ eq A.| }}"))
+        for front in ("syn nta B A.b() = new |", "syn nta A A.b() = new A(true, new List<B>().add(new B|"):
+            self.assertEqual(completed(f"aspect X {{ {front}"), {"A", "B", "List", "Opt"}, front)
+        self.assertIn("nta", completed("aspect X { | }"))
 
     def test_without_the_word_a_body_begins_by_return(self):
         self.assertEqual(completed("aspect X { syn int A.m() { |", ""), {"return"})

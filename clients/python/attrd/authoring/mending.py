@@ -316,6 +316,8 @@ class Mending:
         if it.name is not None:
             self.patched[file].put(it.name.at, it.name.end, f"{it.name.text}__{it.start}")
             self._taint(it)
+            if it.constant is not None:
+                self.tainted.add(f"get{it.name.text}")
 
     def _put_any_node(self, it: Declaration) -> bool:
         """Whether what an equation is for is declared for ASTNode or its like alone, of which that is told then; it is put right."""
