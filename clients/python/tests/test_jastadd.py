@@ -130,12 +130,12 @@ BESIDE = Source("s.ast", "P ::= S* Q; S ::= <Name>; T : S; Q ::= B; B;")
 # And of constants; what asks for one that can't stand only follows.
 CONSTANTS = """aspect A {
   syn nta S P.none() = new S("?");
-  public syn lazy nta R P.first() { return new R(new List<S>().add(new T("a")).add(new S("b")), new Opt<C>(new C(-1, true))); }
+  public syn lazy nta R P.head() { return new R(new List<S>().add(new T("a")).add(new S("b")), new Opt<C>(new C(-1, true))); }
   syn C S.c() = getc();
   syn nta C S.c() = new C(1, false); //: J2/15
   inh int S.i();
   eq P.getnone().i() = 1;
-  eq P.getChild().i() { return getfirst().size() + first().size(); }
+  eq P.getChild().i() { return gethead().size() + head().size(); }
   syn int R.size() = getNumS() + (hasC() ? 1 : 0);
   syn nta S P.none() = new S("!"); //: J2/11
   syn nta Nix P.d() = new Nix(); //: J3/11
@@ -319,23 +319,23 @@ class Reading(unittest.TestCase):
     def test_constants_have_meanings(self):
         text = CONSTANTS[:CONSTANTS.index("  syn nta S P.none() = new S(\"!\")")].replace("  syn nta C S.c() = new C(1, false); //: J2/15\n", "") + "}\n"
         names = Names(Specification(PLANTED, [Source("x.jrag", text)], "jastadd"))
-        for word, line in (("getfirst", 3), ("first().size", 3), ("getnone", 2), ("size() + first", 8)):
+        for word, line in (("gethead", 3), ("head().size", 3), ("getnone", 2), ("size() + head", 8)):
             declared = names.at("x.jrag", text.index(word)).declared
             self.assertEqual([(it.file, text.count("\n", 0, it.start) + 1) for it in declared], [("x.jrag", line)], word)
-        first = names.at("x.jrag", text.index("getfirst"))
-        self.assertTrue(first.told.startswith("public syn lazy nta R P.first() { return new R("), first.told)
+        first = names.at("x.jrag", text.index("gethead"))
+        self.assertTrue(first.told.startswith("public syn lazy nta R P.head() { return new R("), first.told)
         self.assertEqual(len(names.references(first)), 3)
         for word in ("C(-1", "T(\"a", "S>().add"):
             self.assertEqual([it.file for it in names.at("x.jrag", text.index(word)).declared] if word != "S>().add" else ["s.ast"], ["s.ast"], word)
-        self.assertIn("constants: S none(), R first()", names.told_of_class("P"))
-        self.assertEqual([(it.of, it.kind) for name, it in names.specification.accessors("P").items() if name == "getfirst"], [("P", "R")])
+        self.assertIn("constants: S none(), R head()", names.told_of_class("P"))
+        self.assertEqual([(it.of, it.kind) for name, it in names.specification.accessors("P").items() if name == "gethead"], [("P", "R")])
 
     def test_constants_are_completed(self):
-        declared = "aspect Y { syn nta B A.first() = new B(\"x\"); } "
-        self.assertLessEqual({"getfirst", "first", "getB"}, completed(f"{declared}aspect X {{ syn int A.a() = |; }}"))
-        self.assertEqual(completed(f"{declared}aspect X {{ syn int A.a() = first().|; }}"), {"getName"})
-        self.assertEqual(completed(f"{declared}aspect X {{ syn int A.a() = getfirst().g|; }}"), {"getName"})
-        self.assertLessEqual({"getfirst", "getChild"}, completed(f"{declared}aspect X {{ eq A.| }}"))
+        declared = "aspect Y { syn nta B A.head() = new B(\"x\"); } "
+        self.assertLessEqual({"gethead", "head", "getB"}, completed(f"{declared}aspect X {{ syn int A.a() = |; }}"))
+        self.assertEqual(completed(f"{declared}aspect X {{ syn int A.a() = head().|; }}"), {"getName"})
+        self.assertEqual(completed(f"{declared}aspect X {{ syn int A.a() = gethead().g|; }}"), {"getName"})
+        self.assertLessEqual({"gethead", "getChild"}, completed(f"{declared}aspect X {{ eq A.| }}"))
         for front in ("syn nta B A.b() = new |", "syn nta A A.b() = new A(true, new List<B>().add(new B|"):
             self.assertEqual(completed(f"aspect X {{ {front}"), {"A", "B", "List", "Opt"}, front)
         self.assertIn("nta", completed("aspect X { | }"))
