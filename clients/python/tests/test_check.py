@@ -12,7 +12,7 @@ import attrd
 from attrd.authoring import Source, Specification, check
 from attrd.authoring.patched import Patched
 from attrd.authoring.refusal import Judge
-from support import CALCULATOR, PROGRAM, SAMPLES, page_files, refused_files
+from support import CALCULATOR, PROGRAM, SAMPLES, page_files, refused_files, refused_rows
 
 GRAMMAR = Source("calc.ast", (CALCULATOR / "calc.ast").read_text())
 CALC = Source("calc.jrag", (CALCULATOR / "calc.jrag").read_text())
@@ -121,11 +121,13 @@ class Aspects(unittest.TestCase):
     def test_each_refused_file_of_the_manual(self):
         """The fault that the program tells is among those that are found, at its place."""
         count = 0
-        for text, told in refused_files("MANUAL.md", "x.jrag"):
+        for words, text, told in refused_rows("MANUAL.md", "x.jrag"):
             found = re.fullmatch(r"(J\d+) .* at (\d+):(\d+)", told)
             if len(text) > 20_000 or "\udcff" in text:
                 continue
-            findings = bad_check(CALC, Source("x.jrag", text)).findings
+            forms = words[1] if words[0] == "--forms" else ""
+            files = [*([CALC] if CALC.name in words else []), Source("x.jrag", text)]
+            findings = check(GRAMMAR, files, PROGRAM, forms).findings
             if found is None:
                 self.assertEqual((told, findings), ("accepted", []), text)
             else:
