@@ -6,7 +6,7 @@ use Rattle.at_model.specs.Classes.{Classes}
 use Rattle.at_model.specs.Declarations.{Declarations, classes_of, first_fault, first_of}
 use Rattle.at_model.specs.WellFormed.{IsHierarchy}
 use Rattle.at_start.specs.Constants.{Placed, level, planted_classes, with_components}
-use Rattle.at_start.specs.ConstantFaults.{Refusal, Tells, breaking, constants_fault, encircled, first_refusal, misshapen, unnamed}
+use Rattle.at_start.specs.ConstantFaults.{Refusal, Tells, breaking, constants_fault, first_refusal, misshapen, unnamed, unstanding}
 use Rattle.at_start.specs.Planted.{IsPlanted}
 use Rattle.at_start.specs.declared.fault.StartFault.{StartFault}
 use Rattle.at_start.proofs.PlantingGrammars.{none_breaking}
@@ -31,21 +31,21 @@ module _ (ds : Declarations) (ks : List Placed) where
 
   pub told_circle : (classes planted : Classes) (e : StartFault) → classes ≡ classes_of ds → planted ≡ planted_classes ds ks
       → first_refusal unnamed ks ≡ None → breaking ds ks ≡ None → first_refusal (misshapen classes) ks ≡ None
-      → Tells (first_refusal (encircled planted) ks) e → Tells (constants_fault ds ks) e
+      → Tells (unstanding planted ks) e → Tells (constants_fault ds ks) e
   told_circle classes planted e are is names rules terms told =
       tells_behind (first_refusal unnamed ks) _ e names (tells_behind (breaking ds ks) _ e rules
       (tells_behind (first_refusal (misshapen (classes_of ds)) ks) _ e (subst (λ (k : Classes). first_refusal (misshapen k) ks ≡ None) are terms)
-      (tells_first (first_refusal (encircled (planted_classes ds ks)) ks) None e
-      (subst (λ (k : Classes). Tells (first_refusal (encircled k) ks) e) is told))))
+      (tells_first (unstanding (planted_classes ds ks) ks) None e
+      (subst (λ (k : Classes). Tells (unstanding k ks) e) is told))))
 
   -- all can stand
   pub all_stand : (classes planted : Classes) → classes ≡ classes_of ds → planted ≡ planted_classes ds ks
       → first_refusal unnamed ks ≡ None → breaking ds ks ≡ None → first_refusal (misshapen classes) ks ≡ None
-      → first_refusal (encircled planted) ks ≡ None → constants_fault ds ks ≡ None
+      → unstanding planted ks ≡ None → constants_fault ds ks ≡ None
   all_stand classes planted are is names rules terms circles =
-      four_none (first_refusal unnamed ks) (breaking ds ks) (first_refusal (misshapen (classes_of ds)) ks) (first_refusal (encircled (planted_classes ds ks)) ks)
+      four_none (first_refusal unnamed ks) (breaking ds ks) (first_refusal (misshapen (classes_of ds)) ks) (unstanding (planted_classes ds ks) ks)
       names rules (subst (λ (k : Classes). first_refusal (misshapen k) ks ≡ None) are terms)
-      (subst (λ (k : Classes). first_refusal (encircled k) ks ≡ None) is circles)
+      (subst (λ (k : Classes). unstanding k ks ≡ None) is circles)
 
 -- where there are none nothing is to be refused, and the classes are those that are declared
 pub none_planted : (ds : Declarations) → first_fault ds ≡ None → (constants_fault ds [] ≡ None) × (planted_classes ds [] ≡ classes_of ds)

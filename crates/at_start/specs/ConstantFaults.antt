@@ -1,4 +1,4 @@
--- For which constant files are refused: of its component, of its term, or since it would stand in itself.
+-- For which constant files are refused: of its component, of its term, or since its tree is too large or would stand in itself.
 use Rattle.std.specs.Prelude.{◌≡◌, ℕ, not, List, [], ◌∷◌, Option, Some, None, is_none, Result, Ok, Err, if◌then◌else◌}
 use Rattle.std.specs.Option.{option_map, option_or}
 use Rattle.at_model.specs.Names.{is_name}
@@ -8,7 +8,7 @@ use Rattle.at_model.specs.Declarations as grammar
 use Rattle.at_model.specs.Shaping.{names_classes, shaped}
 use Rattle.at_text.specs.declared.place.Place.{Place}
 use Rattle.at_java.specs.Declarations.{Constant}
-use Rattle.at_start.specs.Constants.{Placed, planted_classes, stands, with_component, with_components}
+use Rattle.at_start.specs.Constants.{Placed, is_moderate, planted_classes, stands, tree_over, with_component, with_components}
 use Rattle.at_start.specs.declared.code.Code.{Code}
 use Rattle.at_start.specs.declared.code.Code.TheVariants as code
 use Rattle.at_start.specs.declared.fault.StartFault.{StartFault}
@@ -78,6 +78,17 @@ abbrev pub encircled : Classes → Placed → Option Refusal
 encircled classes k =
     if_declared classes k (if stands classes k.constant then None else Some (refusal k code.AspectFormLeftOut k.constant.at))
 
+-- its tree is too large
+abbrev pub oversized : Classes → Placed → Option Refusal
+oversized classes k = elim (tree_over classes k.constant) [
+  | None ↦ None
+  | Some t ↦ if is_moderate t then None else Some (refusal k code.AspectLimit k.constant.at)
+]
+
+-- one is too large, or else would stand in itself
+abbrev pub unstanding : Classes → List Placed → Option Refusal
+unstanding classes ks = option_or (first_refusal (oversized classes) ks) (first_refusal (encircled classes) ks)
+
 -- ---- all
 
 -- the one for which files with these constants are refused, where the grammar without them breaks no rule
@@ -86,7 +97,7 @@ constants_fault ds ks = first_of
     (first_refusal unnamed ks
     ∷ breaking ds ks
     ∷ first_refusal (misshapen (classes_of ds)) ks
-    ∷ first_refusal (encircled (planted_classes ds ks)) ks
+    ∷ unstanding (planted_classes ds ks) ks
     ∷ [])
 
 abbrev pub told : Refusal → StartFault

@@ -1,6 +1,6 @@
 -- Constants: nonterminal attributes whose trees are written down (JastAdd2 reference manual, "Nonterminal attributes"). The class of one
 -- has one more component, of the attribute's name, in which that tree is fixed.
-use Rattle.std.specs.Prelude.{ℕ, zero, suc, ◌+◌, Bool, false, List, [], ◌∷◌, ◌++◌, map, length, filter_map, position, Option, Some, None, option_map, option_and_then, if◌then◌else◌}
+use Rattle.std.specs.Prelude.{ℕ, zero, suc, ◌+◌, Bool, false, ◌&&◌, nat_le, List, [], ◌∷◌, ◌++◌, map, length, filter_map, position, Option, Some, None, option_map, option_and_then, if◌then◌else◌}
 use Rattle.std.specs.List.{slice_get}
 use Rattle.std.specs.Str.{bytes_eq}
 use Rattle.at_model.specs.Classes.{Classes, class_of_name, parts}
@@ -8,7 +8,10 @@ use Rattle.at_model.specs.Declarations.{Declarations, Declaration, PartDeclarati
 use Rattle.at_model.specs.Declarations as form
 use Rattle.at_model.specs.Paths.{part_named}
 use Rattle.at_model.specs.Shaping.{shaped}
-use Rattle.at_model.specs.SyntaxTrees.{Cell, One, cell_eq}
+use Rattle.at_model.specs.SyntaxTrees.{Cell, One, Tree, cell_eq}
+use Rattle.at_model.specs.Trees.{depth, nodes}
+use Rattle.at_model.specs.Edits.{usual_nodes}
+use Rattle.at_model.specs.Terms.{max_depth}
 use Rattle.at_class.specs.Fixing.{Fixed, fixed_as}
 use Rattle.at_class.specs.Grammar.{place_view}
 use Rattle.at_java.specs.Declarations.{Constant}
@@ -47,9 +50,20 @@ with_components ds (k ∷ ks) = with_components (with_component ds k.constant) k
 
 -- ---- what is fixed in them
 
+-- it isn't larger than trees are where nothing else is said: a tree of classes with constants holds theirs, too
+abbrev pub is_moderate : Tree → Bool
+is_moderate t = nat_le (nodes t) usual_nodes && nat_le (depth t) max_depth
+
+-- the tree in a cell, where it isn't too large
+abbrev pub moderate_cell : Tree → Option Cell
+moderate_cell t = if is_moderate t then Some (One t) else None
+
 -- the tree that its term makes of these classes
+abbrev pub tree_over : Classes → Constant → Option Tree
+tree_over classes k = option_and_then (shaped classes k.term) (class_of_name classes k.kind.text)
+
 abbrev pub cell_over : Classes → Constant → Option Cell
-cell_over classes k = option_and_then (λ b. option_map (λ t. One t) (shaped classes k.term b)) (class_of_name classes k.kind.text)
+cell_over classes k = option_and_then moderate_cell (tree_over classes k)
 
 -- the position of the component of that name
 abbrev pub part_called : List ℕ → List PartDeclaration → Option ℕ

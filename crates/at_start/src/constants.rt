@@ -20,7 +20,7 @@ use at_class::ClassTable;
 use at_grammar::Grammar;
 use at_java::Constant;
 use at_text::fault::Fault;
-use faults::{look_at_circles, look_at_names, look_at_terms, refuse_breach};
+use faults::{look_at_names, look_at_terms, look_at_trees, refuse_breach};
 use fixing::planted;
 use grammars::with_components;
 use std::alloc::Global;
@@ -72,7 +72,7 @@ fn plant_all(
         classes: first,
     } = grown;
     let planted = planted(alloc, &whole, first, constants)?;
-    look_at_circles(alloc, &planted, constants)?;
+    look_at_trees(alloc, &planted, constants)?;
     Ok(planted)
 }
 

@@ -5,12 +5,12 @@ ghost use Rattle.at_model.specs.Declarations.{AreNamed, Fault as GrammarFault, f
 ghost use Rattle.at_class.specs.Grammar.{grammar_view};
 ghost use Rattle.at_class.specs.Faults.{code_view};
 ghost use Rattle.at_start.specs.Constants.{with_component, with_components};
-ghost use Rattle.at_start.specs.ConstantFaults.{Finds, Tells, breach, breaking, broken, encircled, first_breach, first_refusal, misfit, misshapen, refusal, told, unnamed};
+ghost use Rattle.at_start.specs.ConstantFaults.{Finds, Tells, breach, breaking, broken, encircled, first_breach, first_refusal, misfit, misshapen, oversized, refusal, told, unnamed, unstanding};
 ghost use Rattle.at_start.specs.PlacedView.{placed_view};
 
 use super::Placed;
 use super::grammars::{add_component, copied};
-use super::shaping::stands;
+use super::shaping::{is_moderate, stands, tree_over};
 use crate::code::Code;
 use crate::fault::StartFault;
 use at_class::{ClassCode, ClassTable};
@@ -162,8 +162,48 @@ fn shape_term(alloc: Global, classes: &ClassTable, placed: &Placed) -> Result<()
     }
 }
 
+/// Looks whether the tree of each can stand where it is fixed.
+pub fn look_at_trees(
+    alloc: Global,
+    classes: &ClassTable,
+    constants: &[Placed],
+) -> Result<(), StartFault>
+    ensures { Finds (unstanding classes.now (map placed_view constants.now)) result }
+{
+    look_at_sizes(alloc, classes, constants)?;
+    look_at_circles(alloc, classes, constants)
+}
+
+/// Looks whether none is too large.
+fn look_at_sizes(
+    alloc: Global,
+    classes: &ClassTable,
+    constants: &[Placed],
+) -> Result<(), StartFault>
+    ensures { Finds (first_refusal (oversized classes.now) (map placed_view constants.now)) result }
+{
+    for placed in constants {
+        look_at_size(alloc, classes, placed)?;
+    }
+    Ok(())
+}
+
+/// Looks whether this one isn't.
+fn look_at_size(alloc: Global, classes: &ClassTable, placed: &Placed) -> Result<(), StartFault>
+    ensures { Finds (oversized classes.now (placed_view placed.now)) result }
+{
+    let constant = &placed.constant;
+    let Some(tree) = tree_over(alloc, classes, constant)? else {
+        return Ok(());
+    };
+    if is_moderate(&tree) {
+        return Ok(());
+    }
+    Err(refused(placed, Code::AspectLimit, constant.at))
+}
+
 /// Looks whether none would stand in itself.
-pub fn look_at_circles(
+fn look_at_circles(
     alloc: Global,
     classes: &ClassTable,
     constants: &[Placed],

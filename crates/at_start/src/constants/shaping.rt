@@ -5,15 +5,24 @@ ghost use Rattle.at_model.specs.Shaping.{shaped};
 ghost use Rattle.at_class.specs.TreeView.{cell_view, tree_view};
 ghost use Rattle.at_tree.specs.View.{term_view};
 ghost use Rattle.at_java.specs.Seen.{constant_view};
-ghost use Rattle.at_start.specs.Constants.{cell_over, fixed_in, stands};
+ghost use Rattle.at_start.specs.Constants.{cell_over, fixed_in, is_moderate, stands, tree_over};
 
 use at_class::{ClassId, ClassTable};
 use at_java::Constant;
+use at_store::USUAL_NODES;
+use at_tree::reader::MAX_DEPTH;
 use at_tree::term::Term;
-use at_tree::tree::{Cell, ShapeFault, Tree, shape};
+use at_tree::tree::{Cell, ShapeFault, Tree, depth, nodes, shape};
 use std::alloc::{AllocError, Global};
 
-/// The tree that the constant's term makes of the classes; or want of memory.
+/// Whether the tree has no more nodes and levels than trees may have where nothing else is said.
+pub fn is_moderate(tree: &Tree) -> bool
+    ensures { result ≡ is_moderate (tree_view tree.now) }
+{
+    nodes(tree) <= USUAL_NODES as usize && depth(tree) <= MAX_DEPTH
+}
+
+/// The tree that the constant's term makes of the classes, in a cell, where it isn't too large; or want of memory.
 pub fn cell_over(
     alloc: Global,
     classes: &ClassTable,
@@ -21,13 +30,27 @@ pub fn cell_over(
 ) -> Result<Option<Cell>, AllocError>
     ensures { IfOk result (λ o. option_map cell_view o ≡ cell_over classes.now (constant_view constant.now)) }
 {
+    let Some(tree) = tree_over(alloc, classes, constant)? else {
+        return Ok(None);
+    };
+    if is_moderate(&tree) {
+        return Ok(Some(Cell::One(tree)));
+    }
+    Ok(None)
+}
+
+/// The tree that the constant's term makes of the classes; or want of memory.
+pub fn tree_over(
+    alloc: Global,
+    classes: &ClassTable,
+    constant: &Constant,
+) -> Result<Option<Tree>, AllocError>
+    ensures { IfOk result (λ o. option_map tree_view o ≡ tree_over classes.now (constant_view constant.now)) }
+{
     let Some(kind) = classes.id_of(constant.kind.text.as_str()) else {
         return Ok(None);
     };
-    match tree_under(alloc, classes, &constant.term, kind)? {
-        Some(tree) => Ok(Some(Cell::One(tree))),
-        None => Ok(None),
-    }
+    tree_under(alloc, classes, &constant.term, kind)
 }
 
 /// The tree that the term makes under the class; or want of memory.

@@ -23,15 +23,15 @@ returns-in_err-look_at_terms c =
     rw (p.1, p.2) (told_term (grammar_view c.args.grammar.now) (map placed_view c.args.constants.now) c.args.classes.now c.in_err-look_at_terms.field-0.0
     c.requires.classes c.in_ok-look_at_names.ensures c.in_ok-grown.ensures.fault c.in_err-look_at_terms.ensures)
 
-pub returns-in_err-look_at_circles : goal.returns-in_err-look_at_circles
-returns-in_err-look_at_circles c =
+pub returns-in_err-look_at_trees : goal.returns-in_err-look_at_trees
+returns-in_err-look_at_trees c =
     let ds = grammar_view c.args.grammar.now in
     let planted = c.in_ok-planted.planted in
-    let p = err_from_is_err_and c.from_residual-in_err-look_at_circles.result c.from_residual-in_err-look_at_circles.ensures.1 in
+    let p = err_from_is_err_and c.from_residual-in_err-look_at_trees.result c.from_residual-in_err-look_at_trees.ensures.1 in
     let is = last_level placed_view c.args.constants.now ds (grammar_view c.in_ok-grown.grown.grammar) planted c.in_ok-grown.ensures.grown
     c.in_ok-planted.ensures.0 in
-    rw (p.1, p.2) (told_circle ds (map placed_view c.args.constants.now) c.args.classes.now planted c.in_err-look_at_circles.field-0.0
-    c.requires.classes is c.in_ok-look_at_names.ensures c.in_ok-grown.ensures.fault c.in_ok-look_at_terms.ensures c.in_err-look_at_circles.ensures)
+    rw (p.1, p.2) (told_circle ds (map placed_view c.args.constants.now) c.args.classes.now planted c.in_err-look_at_trees.field-0.0
+    c.requires.classes is c.in_ok-look_at_names.ensures c.in_ok-grown.ensures.fault c.in_ok-look_at_terms.ensures c.in_err-look_at_trees.ensures)
 
 pub returns : goal.returns
 returns c =
@@ -40,7 +40,7 @@ returns c =
     let is = last_level placed_view c.args.constants.now ds (grammar_view c.in_ok-grown.grown.grammar) planted c.in_ok-grown.ensures.grown
     c.in_ok-planted.ensures.0 in (
       all_stand ds (map placed_view c.args.constants.now) c.args.classes.now planted c.requires.classes is c.in_ok-look_at_names.ensures
-          c.in_ok-grown.ensures.fault c.in_ok-look_at_terms.ensures c.in_ok-look_at_circles.ensures,
+          c.in_ok-grown.ensures.fault c.in_ok-look_at_terms.ensures c.in_ok-look_at_trees.ensures,
       is,
       c.in_ok-planted.ensures.1,
     )
