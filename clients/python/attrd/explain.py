@@ -47,7 +47,8 @@ SENTENCES: Dict[str, Tuple[str, str]] = {
            "Declare it by `syn` for the class or one above it, or by `inh` where the equation is for a component."),
     "J10": ("This form of JastAdd is left out here.",
             "There are `syn`, `inh` and `eq`, with `= E;` or `{ return E; }`; no statements, `nta`, `refine` or imports, and `circular` with "
-            "`--forms circular` alone. With `--forms jastadd` imports, methods, `if` and loops that look for an element are read."),
+            "`--forms circular` alone. With `--forms jastadd` imports, methods, constant nonterminal attributes, `if` and loops that look for "
+            "an element are read."),
     "J11": ("The aspect is over a limit.",
             "Expressions nest at most 64 deep, 2,000 attributes may be declared, a text has at most 4,096 bytes, a file 4,194,304."),
     "J12": ("An attribute has the name of an accessor.", "Names such as getB, hasB, getNumB, equals and getChild are taken: use another one."),
