@@ -378,11 +378,11 @@ class Constants(Statements):
         while self.take("lazy", "final"):
             pass
         name = self.outset()
-        is_block = self.take("{") if not self.take("=") else None
-        if self.tokens[self.at - 1].text not in ("=", "{") or (is_block and not self.take("return")):
-            raise Refused(LEFT_OUT, name.at)
-        new = self.take("new")
-        if not new:
+        opening = self.take("=", "{")
+        is_block = opening is not None and opening.text == "{"
+        is_begun = opening is not None and (not is_block or self.take("return") is not None)
+        new = self.take("new") if is_begun else None
+        if new is None:
             raise Refused(LEFT_OUT, name.at)
         self.node(new)
         self.want_of(new, ";")
@@ -461,7 +461,7 @@ class Constants(Statements):
 
     def container(self, new: Token) -> None:
         """A list with what is added to it, or an optional with its node."""
-        is_list = self.take(*CONTAINERS) == Token("word", "List", self.tokens[self.at - 1].at)
+        is_list = self.want(*CONTAINERS).text == "List"
         if self.take("<"):
             if not self.next.is_name():
                 raise Refused(LEFT_OUT, new.at)

@@ -77,7 +77,7 @@ class Hints:
             return FORMS["void"]
         if sort == "circular" and "circular" in self.specification.forms:
             return FORMS["circular kind" if it is not None and it.kind is not None and it.kind.text != "boolean" else "circular start"]
-        return (self._is_jastadd() and sort in ("nta", "new") and IN_JASTADD[sort]) or FORMS.get(sort)
+        return IN_JASTADD[sort] if self._is_jastadd() and sort in ("nta", "new") else FORMS.get(sort)
 
     def _of_word(self, refused: Refused, text: str, word: str) -> Optional[Way]:
         """What helps where no aspect goes on with a word."""

@@ -168,7 +168,8 @@ class Names:
         below = [sub.name for sub in grammar if sub.superclass == name]
         told = f"{'abstract ' if it.is_abstract else ''}{name}{above}{own};"
         parts = [component_of(it) for it in self.specification.constants(name)]
-        return told + (f"\nconstants: {', '.join(f'{it.kind} {it.name}()' for it in parts)}" if parts else "") + (f"\nbelow it: {', '.join(below)}" if below else "")
+        constants = ", ".join(f"{it.kind} {it.name}()" for it in parts)
+        return told + (f"\nconstants: {constants}" if constants else "") + (f"\nbelow it: {', '.join(below)}" if below else "")
 
     def told_of_component(self, of: str, part: str) -> str:
         """A component and its accessors with their kinds."""
