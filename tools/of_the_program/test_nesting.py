@@ -9,7 +9,7 @@ from tools.of_the_program.runs import NOTHING, SECONDS, ProgramTest
 DEPTH = (800 - 5) // 3 + 1
 DEPTHS = (1, DEPTH - 1, DEPTH, DEPTH + 1, DEPTH + 2, 3_000)
 # What the program takes at its start, and reading the deepest tree and a question with it: less than that.
-STACK = 2304 * 1024
+STACK = 2336 * 1024
 
 GRAMMAR = "Names ::= Item*;\nItem ::= <ID>;\n"
 # Each item asks the one before it, and the first one ends.
