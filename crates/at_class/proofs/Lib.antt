@@ -14,4 +14,6 @@ pub mod Places
 pub mod Apart
 pub mod PartsTested
 pub mod FirstUpward
+pub mod FixedParts
+pub mod TreesMade
 pub mod Comparing

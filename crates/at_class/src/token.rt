@@ -26,7 +26,7 @@ fn shortened(text: &str) -> Option<ShortText>
 
 impl TokVal {
     ghost use Rattle.std.specs.Prelude.{◌≡◌, IfOk, string_bytes};
-    ghost use Rattle.at_model.specs.SyntaxTrees.{Text, token_eq};
+    ghost use Rattle.at_model.specs.SyntaxTrees.{IsToken, Text, token_eq};
     ghost use Rattle.at_class.specs.Token.{token_view};
 
     /// The text as a value, whose memory is given back where the text is short.
