@@ -3,7 +3,7 @@ use Rattle.std.proofs.Common.{◌≡◌, ◌∙◌, ℕ, suc, ◌+◌, ◌<◌, 
 use Rattle.std.specs.List.{cons_option}
 use Rattle.std.proofs.lemmas.List.{map-append, take_all, take_more}
 use Rattle.at_model.specs.SyntaxTrees.{Cell, cell_eq}
-use Rattle.at_model.proofs.SameTrees.{cell_eq-sound}
+use Rattle.at_model.proofs.of_texts.SameTrees.{cell_eq-sound}
 use Rattle.at_class.specs.Fixing.{Fixed}
 
 -- ---- what is given of items
