@@ -39,38 +39,62 @@ fn same_value(a: &TokVal, b: &TokVal) -> bool {
     }
 }
 
-#[cycle(same)]
-fn same_cell(a: &TermCell, b: &TermCell) -> bool {
+/// Whether two cells without trees in them are one.
+fn same_plain(a: &TermCell, b: &TermCell) -> bool {
     match (a, b) {
-        (TermCell::One(m), TermCell::One(n)) => same_term(m, n),
-        (TermCell::Many(ms), TermCell::Many(ns)) => same_terms(ms, ns),
+        (TermCell::Many(ms), TermCell::Many(ns)) => ms.is_empty() && ns.is_empty(),
         (TermCell::Empty, TermCell::Empty) => true,
         (TermCell::Holds(m), TermCell::Holds(n)) => same_value(m, n),
         _ => false,
     }
 }
 
-#[cycle(same)]
-fn same_terms(ms: &[Term], ns: &[Term]) -> bool {
-    match (ms, ns) {
-        ([], []) => true,
-        ([m, ms @ ..], [n, ns @ ..]) => same_term(m, n) && same_terms(ms, ns),
-        _ => false,
+/// Whether two terms without terms in them are one.
+fn same_leaf(a: &Term, b: &Term) -> bool {
+    if a.name.as_str() != b.name.as_str() || a.cells.len() != b.cells.len() {
+        return false;
+    }
+    for (m, n) in a.cells.iter().zip(b.cells.iter()) {
+        if !same_plain(m, n) {
+            return false;
+        }
+    }
+    true
+}
+
+/// Whether two lists of such terms are one.
+fn same_leaves(ms: &[Term], ns: &[Term]) -> bool {
+    if ms.len() != ns.len() {
+        return false;
+    }
+    for (m, n) in ms.iter().zip(ns.iter()) {
+        if !same_leaf(m, n) {
+            return false;
+        }
+    }
+    true
+}
+
+/// Whether two cells are one, in which at most such terms stand.
+fn same_cell(a: &TermCell, b: &TermCell) -> bool {
+    match (a, b) {
+        (TermCell::One(m), TermCell::One(n)) => same_leaf(m, n),
+        (TermCell::Many(ms), TermCell::Many(ns)) => same_leaves(ms, ns),
+        _ => same_plain(a, b),
     }
 }
 
-#[cycle(same)]
-fn same_cells(ms: &[TermCell], ns: &[TermCell]) -> bool {
-    match (ms, ns) {
-        ([], []) => true,
-        ([m, ms @ ..], [n, ns @ ..]) => same_cell(m, n) && same_cells(ms, ns),
-        _ => false,
-    }
-}
-
-#[cycle(same)]
+/// Whether two terms are one, of the depth that the rows have: a term, and terms in it that hold none.
 fn same_term(a: &Term, b: &Term) -> bool {
-    a.name.as_str() == b.name.as_str() && same_cells(&a.cells, &b.cells)
+    if a.name.as_str() != b.name.as_str() || a.cells.len() != b.cells.len() {
+        return false;
+    }
+    for (m, n) in a.cells.iter().zip(b.cells.iter()) {
+        if !same_cell(m, n) {
+            return false;
+        }
+    }
+    true
 }
 
 /// Whether the constant's term is this one, and its `new` stands there.
