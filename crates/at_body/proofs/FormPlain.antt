@@ -7,6 +7,7 @@ use Rattle.at_model.specs.of_fixpoints.Formulas.{Formula, Known, turned}
 use Rattle.at_rules.specs.Bodies.{body_view}
 use Rattle.at_rules.specs.declared.body.Body.{Body, out-Body, roll-Body, roll-out-Body}
 use Rattle.at_rules.specs.declared.body.Body.TheVariants as variant
+use Rattle.at_rules.specs.declared.body.Lookup.{Lookup}
 use Rattle.at_rules.specs.declared.body.Body.TheOpen.{Body-F}
 use Rattle.at_body.specs.Standing.{Place}
 use Rattle.at_body.specs.Rest.{ev}
@@ -25,8 +26,9 @@ whole x o is = sym (roll-out-Body x) ∙ ap roll-Body is
 pub others_plain : (rules : Rules) (b p : Bool) (place : Place) (x : Body) →
     ((a : Box Body Global) → x ≡ variant.Not a → ⊥) → ((a c : Box Body Global) → x ≡ variant.And a c → ⊥) → ((a c : Box Body Global) → x ≡ variant.Or a c → ⊥) →
     ((a c d : Box Body Global) → x ≡ variant.Choose a c d → ⊥) → ((a : Box Body Global) (n : ℕ) (bs : Vec Body Global) → x ≡ variant.Call a n bs → ⊥) →
-    ((a : Box Body Global) (n : ℕ) (c : Box Body Global) → x ≡ variant.Exists a n c → ⊥) → IsPlain rules b p place x
-others_plain rules b p place x no_not no_and no_or no_choose no_call no_exists = by (out-Body x) refl
+    ((a : Box Body Global) (n : ℕ) (c : Box Body Global) → x ≡ variant.Exists a n c → ⊥) → ((a : Box Body Global) (l : Box Lookup Global) (c : Box Body Global) → x ≡ variant.SeekAny a l c → ⊥) →
+    IsPlain rules b p place x
+others_plain rules b p place x no_not no_and no_or no_choose no_call no_exists no_seek = by (out-Body x) refl
   where
     at : (y : Body) → x ≡ y → IsPlain rules b p place y → IsPlain rules b p place x
     at y is h = subst (IsPlain rules b p place) (sym is) h
@@ -63,3 +65,5 @@ others_plain rules b p place x no_not no_and no_or no_choose no_call no_exists =
     by (Body-F.Exists a n c) is = absurd (no_exists a n c (whole x (Body-F.Exists a n c) is ∙ variant.rolls-Exists a n c))
     by (Body-F.First a n c) is = at (variant.First a n c) (whole x (Body-F.First a n c) is ∙ variant.rolls-First a n c) (plain refl)
     by (Body-F.Sum a n c) is = at (variant.Sum a n c) (whole x (Body-F.Sum a n c) is ∙ variant.rolls-Sum a n c) (plain refl)
+    by (Body-F.SeekAny a l c) is = absurd (no_seek a l c (whole x (Body-F.SeekAny a l c) is ∙ variant.rolls-SeekAny a l c))
+    by (Body-F.SeekFirst a l c) is = at (variant.SeekFirst a l c) (whole x (Body-F.SeekFirst a l c) is ∙ variant.rolls-SeekFirst a l c) (plain refl)

@@ -6,6 +6,7 @@ pub mod Uses
 pub mod Climbing
 pub mod Waiting
 pub mod OneTry
+pub mod Drawn
 pub mod Few
 pub mod Joining
 pub mod TextsCompared
@@ -24,6 +25,9 @@ pub mod TypedFolds
 pub mod TypedAnswers
 pub mod TypedSteps
 pub mod TypedShown
+pub mod Seeks
+pub mod TypedSeeks
+pub mod FormSeeks
 pub mod TypedAbove
 pub mod TypedStarting
 pub mod TypedInstances

@@ -1,6 +1,6 @@
 -- What is left of a formula under way.
 use Rattle.std.specs.Prelude.{◌≡◌, ◌<◌, ℕ, ◌+◌, ◌*◌, Bool, true, false, not, cond, nat_eq, List, [], ◌∷◌, ◌++◌, map, length, Option, Some, None}
-use Rattle.at_model.specs.Bodies.{Expr, Exprs, truth_of, node_of, elements_of}
+use Rattle.at_model.specs.Bodies.{Expr, Exprs, truth_of, node_of, elements_of, drawer_of}
 use Rattle.at_model.specs.Run.{Value, Instance, Ref, Truth, Location, Contents, Null, Run, Gives, Fails, Demands, ◌>>=◌}
 use Rattle.at_model.specs.Rules.{Rules, start_of}
 use Rattle.at_model.specs.Follow.{Reached, Ends, Stops, Waits, follow}
@@ -12,7 +12,7 @@ use Rattle.at_body.specs.declared.forming.Progress.TheVariants as progress
 use Rattle.at_body.specs.declared.task.Purpose.{Purpose}
 use Rattle.at_body.specs.declared.task.Purpose.TheVariants as purpose
 use Rattle.at_body.specs.declared.task.Task.{Task}
-use Rattle.at_body.specs.declared.task.Task.TheVariants.{Right, Join, Element}
+use Rattle.at_body.specs.declared.task.Task.TheVariants.{Right, Join, Element, Among}
 use Rattle.at_body.specs.declared.task.Doing.{Doing}
 use Rattle.at_body.specs.declared.task.Doing.TheVariants.{Form, Evaluate, Use, Made, Fail, Wait}
 use Rattle.at_body.specs.declared.trial.Step.{Step}
@@ -20,6 +20,9 @@ use Rattle.at_body.specs.declared.trial.Step.TheVariants as step
 use Rattle.at_body.specs.Values.{value_view, fault_view}
 use Rattle.at_body.specs.Size.{size, sizes, tests, most}
 use Rattle.at_body.specs.Standing.{Place, scope, outside, inside}
+use Rattle.at_rules.specs.declared.body.Lookup.{Lookup}
+use Rattle.at_class.specs.Keys.{key_view}
+use Rattle.at_body.specs.Seeking.{candidates, sought_in}
 use Rattle.at_body.specs.Pieces.{together, top_of}
 use Rattle.at_body.specs.Stacked.{below}
 use Rattle.at_body.specs.Rest.{ev, ev_all, resumed}
@@ -32,6 +35,10 @@ formed rules b p e place = form rules.classes nat_eq (start_of rules) b p e (sco
 -- and over these elements
 abbrev pub among : Rules → (b p : Bool) → Expr → Place → List ℕ → Run ℕ (Formula ℕ)
 among rules b p e place ns = fold_form p (λ n. formed rules b p e (inside place n)) ns
+
+-- and over those in a component that are looked for
+abbrev pub sought_of : Rules → (b p : Bool) → Lookup → Expr → Place → Value ℕ → Run ℕ (Formula ℕ)
+sought_of rules b p look e place v = drawer_of look.part (key_view look.key) v (sought_in look.sought (scope place).names) >>= among rules b p e place
 
 -- an instance is left in the formula, or it is the fault `null`
 abbrev pub asking : ℕ → Value ℕ → List (Value ℕ) → Run ℕ (Formula ℕ)
@@ -46,6 +53,7 @@ put_to rules b (purpose.Arguments a es) place v = ev_all rules.classes (bodies_v
 put_to rules b (purpose.Argument call es) place w = ev_all rules.classes (bodies_view es.now) place
     >>= λ ws. asking call.value.attribute (Ref call.value.node) (map value_view call.value.done.items ++ w ∷ ws)
 put_to rules b (purpose.Elements p part e) place v = elements_of part v >>= among rules b p (body_view e.now) place
+put_to rules b (purpose.Under p look e) place v = sought_of rules b p look.now (body_view e.now) place v
 
 -- the formula is decided where it is surely that; else the right one is put to it
 abbrev pub decided : (decides conjunction : Bool) → Formula ℕ → Run ℕ (Formula ℕ) → Run ℕ (Formula ℕ)
@@ -60,6 +68,8 @@ onward rules b (Join c ∷ ts) [] place g = Gives g
 onward rules b (Join c ∷ ts) (f ∷ fs) place g = onward rules b ts fs place (together c f g)
 onward rules b (Element p e ns ∷ ts) fs place f =
     decided p (not p) f (among rules b p (body_view e.now) (outside place) ns.now) >>= onward rules b ts fs (outside place)
+onward rules b (Among p m e ns ∷ ts) fs place f =
+    decided p (not p) f (among rules b p (body_view e.now) (outside place) (candidates ns.value m)) >>= onward rules b ts fs (outside place)
 
 abbrev pub place_of : Forming → Place
 place_of t = record { this = t.this; bound = t.bound; passed = t.arguments; child = t.child }
@@ -110,6 +120,10 @@ gone_over rules t p e ns = among rules t.start p e (place_of t) ns >>= carried r
 abbrev pub folded : Rules → Forming → Bool → ℕ → Expr → Option ℕ → Run ℕ (Formula ℕ)
 folded rules t p part e n = (elements_of part (Ref n) >>= among rules t.start p e (place_of t)) >>= carried rules t
 
+-- from those of them on that are looked for
+abbrev pub sought_over : Rules → Forming → Bool → Lookup → Expr → Option ℕ → Run ℕ (Formula ℕ)
+sought_over rules t p look e n = sought_of rules t.start p look e (place_of t) (Ref n) >>= carried rules t
+
 -- from the formula on top on, where it doesn't decide
 abbrev pub settled : Rules → Forming → (decides conjunction : Bool) → Run ℕ (Formula ℕ) → Run ℕ (Formula ℕ)
 settled rules t d c r = decided d c (top_of t.pile) r >>= onward rules t.start t.tasks (below t.pile) (place_of t)
@@ -147,11 +161,13 @@ use_cost (purpose.Choose p e f) = form_size (body_view e.now) + form_size (body_
 use_cost (purpose.Arguments a es) = 2 * sizes (bodies_view es.now) + 2
 use_cost (purpose.Argument call es) = 2 * sizes (bodies_view es.now) + 2
 use_cost (purpose.Elements p part e) = 3 * tests (size (body_view e.now)) most + 1
+use_cost (purpose.Under p look e) = 3 * tests (size (body_view e.now)) most + 1
 
 abbrev pub cost : Task → ℕ
 cost (Right c p e) = form_size (body_view e.now) + 2
 cost (Join c) = 1
 cost (Element p e ns) = 3 * tests (size (body_view e.now)) (length ns.now)
+cost (Among p m e ns) = 3 * tests (size (body_view e.now)) (length (candidates ns.value m))
 
 abbrev pub load : List Task → ℕ
 load [] = 0

@@ -9,6 +9,7 @@ pub mod FormulaCodes
 pub mod Pieces
 pub mod Operators
 pub mod Standing
+pub mod Seeking
 pub mod Rest
 pub mod Forms
 pub mod Calling

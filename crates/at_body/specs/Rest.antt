@@ -3,7 +3,7 @@ use Rattle.std.specs.Prelude.{◌≡◌, ℕ, ◌+◌, nat_eq, not, cond, true, 
 use Rattle.std.specs.Fmt.{signed_decimal}
 use Rattle.std.specs.Int.{w32, int_wrapping_add, int_wrapping_neg}
 use Rattle.at_model.specs.Classes.{Classes}
-use Rattle.at_model.specs.Bodies.{Expr, Exprs, eval, eval_all, computed, joined, is_in_order, value_eq, int_of, truth_of, text_of, ref_of, is_instance, cast_to, child_of, element_of, count_of, has_of, token_of, passed, demand_of, elements_of, exists_in, first_in, sum_in}
+use Rattle.at_model.specs.Bodies.{Expr, Exprs, eval, eval_all, computed, joined, is_in_order, value_eq, int_of, truth_of, text_of, ref_of, is_instance, cast_to, child_of, element_of, count_of, has_of, token_of, passed, demand_of, elements_of, drawer_of, exists_in, first_in, sum_in}
 use Rattle.at_model.specs.Run.{Value, Int, Truth, Ref, Location, Contents, Run, Gives, Fails, Demands, ◌>>=◌}
 use Rattle.at_model.specs.Follow.{Reached, Ends, Stops, Waits, follow}
 use Rattle.at_body.specs.declared.todo.Unary.{Unary}
@@ -12,8 +12,9 @@ use Rattle.at_body.specs.declared.todo.Binary.{Binary}
 use Rattle.at_body.specs.declared.todo.Binary.TheVariants as binary
 use Rattle.at_body.specs.declared.todo.Fold.{Fold}
 use Rattle.at_body.specs.declared.todo.Fold.TheVariants as fold
+use Rattle.at_body.specs.declared.todo.Search.{Search}
 use Rattle.at_body.specs.declared.todo.Todo.{Todo}
-use Rattle.at_body.specs.declared.todo.Todo.TheVariants.{Use, Right, Apply, And, Or, Choose, Arguments, Argument, Elements, Element}
+use Rattle.at_body.specs.declared.todo.Todo.TheVariants.{Use, Right, Apply, And, Or, Choose, Arguments, Argument, Elements, Element, Under, Among}
 use Rattle.at_body.specs.declared.todo.Now.{Now}
 use Rattle.at_body.specs.declared.todo.Now.TheVariants.{Enter, Back, Fail, Ask}
 use Rattle.at_body.specs.declared.trial.Trial.{Trial}
@@ -22,7 +23,10 @@ use Rattle.at_body.specs.declared.trial.Step.TheVariants as step
 use Rattle.at_body.specs.Values.{value_view, fault_view}
 use Rattle.at_rules.specs.Bodies.{body_view, bodies_view, operator_view, order_view}
 use Rattle.at_body.specs.Size.{size, sizes, tests, most}
-use Rattle.at_body.specs.Standing.{Place, scope, outside, inside}
+use Rattle.at_rules.specs.declared.body.Lookup.{Lookup}
+use Rattle.at_class.specs.Keys.{key_view}
+use Rattle.at_body.specs.Standing.{Place, scope, outside, inside, innermost}
+use Rattle.at_body.specs.Seeking.{candidates, fold_of, sought_in}
 
 -- an expression at a place
 abbrev pub ev : Classes → Expr → Place → Run ℕ (Value ℕ)
@@ -66,6 +70,10 @@ settled classes fold.Exists e p n ns v = cond (truth_of v) (Gives (Truth true)) 
 settled classes fold.First e p n ns v = cond (truth_of v) (Gives (Ref (Some n))) (over classes fold.First e p ns)
 settled classes (fold.Sum total) e p n ns v = sum_in (λ m. ev classes e (inside p m)) (int_wrapping_add w32 total (int_of v)) ns
 
+-- over those nodes in a component that are looked for
+abbrev pub sought_of : Classes → Search → Lookup → Expr → Place → Value ℕ → Run ℕ (Value ℕ)
+sought_of classes f look e p v = drawer_of look.part (key_view look.key) v (sought_in look.sought (scope p).names) >>= over classes (fold_of f) e p
+
 -- what is done with a value
 abbrev pub then : Classes → Todo → Place → Value ℕ → Run ℕ (Value ℕ)
 then classes (Use u) p v = with_one classes u v
@@ -79,10 +87,13 @@ then classes (Argument call bs) p w =
     ev_all classes (bodies_view bs.now) p >>= λ ws. demand_of call.value.attribute (Ref call.value.node) (map value_view call.value.done.items ++ w ∷ ws)
 then classes (Elements f part b) p v = elements_of part v >>= over classes f (body_view b.now) p
 then classes (Element f b n ns) p v = settled classes f (body_view b.now) (outside p) n ns.now v
+then classes (Under f look b) p v = sought_of classes f look.now (body_view b.now) p v
+then classes (Among f m b ns) p v = settled classes (fold_of f) (body_view b.now) (outside p) (innermost p.bound) (candidates ns m) v
 
 -- where what comes after that stands
 abbrev pub outer : Todo → Place → Place
 outer (Element f b n ns) p = outside p
+outer (Among f m b ns) p = outside p
 outer _ p = p
 
 -- all that is left to do with a value
@@ -125,6 +136,10 @@ gone_over classes t f e ns = over classes f e (place_of t) ns >>= resumed classe
 abbrev pub folded : Classes → Trial → Fold → ℕ → Expr → Option ℕ → Run ℕ (Value ℕ)
 folded classes t f part e n = (elements_of part (Ref n) >>= over classes f e (place_of t)) >>= resumed classes t
 
+-- from those of them on that are looked for
+abbrev pub sought_over : Classes → Trial → Search → Lookup → Expr → Option ℕ → Run ℕ (Value ℕ)
+sought_over classes t f look e n = sought_of classes f look e (place_of t) (Ref n) >>= resumed classes t
+
 -- from the value of a fold's expression on
 abbrev pub decided : Classes → Trial → Fold → Expr → ℕ → List ℕ → Value ℕ → Run ℕ (Value ℕ)
 decided classes t f e n ns v = settled classes f e (place_of t) n ns v >>= resumed classes t
@@ -162,6 +177,8 @@ cost (Arguments a bs) = sizes (bodies_view bs.now) + 2
 cost (Argument call bs) = sizes (bodies_view bs.now) + 2
 cost (Elements f part b) = tests (size (body_view b.now)) most + 1
 cost (Element f b n ns) = tests (size (body_view b.now)) (length ns.now)
+cost (Under f look b) = tests (size (body_view b.now)) most + 1
+cost (Among f m b ns) = tests (size (body_view b.now)) (length (candidates ns m))
 
 abbrev pub load : List Todo → ℕ
 load [] = 0

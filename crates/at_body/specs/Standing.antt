@@ -21,6 +21,11 @@ names (n ∷ ns) vs = Ref (Some n) ∷ names ns vs
 abbrev pub scope : Place → Scope ℕ
 scope p = record { this = p.this; names = names p.bound (map value_view p.passed); child = p.child }
 
+-- the node that was bound last
+abbrev pub innermost : List ℕ → ℕ
+innermost [] = 0
+innermost (n ∷ ns) = n
+
 -- without the node that was bound last
 abbrev pub outside : Place → Place
 outside p = record p { bound = below p.bound }

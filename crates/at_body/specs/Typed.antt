@@ -12,9 +12,10 @@ use Rattle.at_model.specs.WellFormed.{IsHierarchy}
 use Rattle.at_model.specs.Terms.{IsInt32}
 use Rattle.at_model.specs.Bodies.{Exprs, no_exprs}
 use Rattle.at_model.specs.Instances.{AnyText}
-use Rattle.at_store.specs.Shown.{Shown, path, tree}
+use Rattle.at_store.specs.Shown.{IsIdle, Shown, path, tree}
 use Rattle.at_rules.specs.Bodies.{body_view, bodies_view}
 use Rattle.at_rules.specs.declared.body.Body.{Body}
+use Rattle.at_rules.specs.declared.body.Lookup.{Lookup}
 use Rattle.at_rules.specs.declared.body.Operator.{Operator}
 use Rattle.at_rules.specs.declared.body.Order.{Order}
 use Rattle.at_body.specs.declared.value.Value.{Value as ValueCode}
@@ -24,9 +25,11 @@ use Rattle.at_body.specs.declared.todo.Binary.{Binary}
 use Rattle.at_body.specs.declared.todo.Binary.TheVariants as binary
 use Rattle.at_body.specs.declared.todo.Fold.{Fold}
 use Rattle.at_body.specs.declared.todo.Fold.TheVariants as fold
+use Rattle.at_body.specs.declared.candidates.Candidates.{Candidates}
 use Rattle.at_body.specs.declared.todo.Asking.{Asking}
+use Rattle.at_body.specs.declared.todo.Search.{Search}
 use Rattle.at_body.specs.declared.todo.Todo.{Todo}
-use Rattle.at_body.specs.declared.todo.Todo.TheVariants.{Use, Right, Apply, And, Or, Choose, Arguments, Argument, Elements, Element}
+use Rattle.at_body.specs.declared.todo.Todo.TheVariants.{Use, Right, Apply, And, Or, Choose, Arguments, Argument, Elements, Element, Under, Among}
 use Rattle.at_body.specs.declared.todo.Now.{Now}
 use Rattle.at_body.specs.declared.todo.Now.TheVariants.{Enter, Back, Fail, Ask}
 use Rattle.at_body.specs.declared.trial.Trial.{Trial}
@@ -36,6 +39,7 @@ use Rattle.at_body.specs.Standing.{Place}
 use Rattle.at_body.specs.ValueKinds.{IsInt, IsTruth, IsText, IsRef, AreAlike}
 use Rattle.at_body.specs.Values.{value_view, fault_view}
 use Rattle.at_body.specs.Rest.{place_of}
+use Rattle.at_body.specs.Seeking.{candidates, fold_of}
 
 -- values --------------------------------------------------------------------------------------------------------------
 
@@ -174,6 +178,13 @@ pub data IsTodo (rules : Rules) (at : ClassAt ℕ) : PlaceKinds → Kind → Tod
       IsFold rules.classes at b f k m → HasKind rules (scope_kinds (kinds_inside s b)) (body_view e.now) k →
       IsNodeOf rules.classes at n b → AllByRecursion (λ m. IsNodeOf rules.classes at m b) ns.now →
       IsTodo rules at (kinds_inside s b) k (Element f e n ns) s m
+  under : (s : PlaceKinds) (c b : ℕ) (f : Search) (k m : Kind) (look : Bor Lookup) (e : Bor Body) → shape_of_part rules.classes c look.now.part ≡ Some (Many b) →
+      IsFold rules.classes at b (fold_of f) k m → HasKind rules (scope_kinds (kinds_inside s b)) (body_view e.now) k →
+      IsTodo rules at s (Class c) (Under f look e) s m
+  among : (s : PlaceKinds) (b : ℕ) (f : Search) (k m : Kind) (mark : ℕ) (e : Bor Body) (ns : Candidates) →
+      IsFold rules.classes at b (fold_of f) k m → HasKind rules (scope_kinds (kinds_inside s b)) (body_view e.now) k →
+      AllByRecursion (λ m. IsNodeOf rules.classes at m b) (candidates ns mark) → IsIdle ns.store.now →
+      IsTodo rules at (kinds_inside s b) k (Among f mark e ns) s m
 
 -- a stack of things to do waits for a value of the kind; one for a class, or for nodes of it, waits for each class below, too
 pub data AreTodos (rules : Rules) (at : ClassAt ℕ) : PlaceKinds → Kind → List Todo → Type 0 where

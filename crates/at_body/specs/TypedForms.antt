@@ -14,13 +14,16 @@ use Rattle.at_model.specs.of_fixpoints.Formulas.{Formula}
 use Rattle.at_model.specs.of_fixpoints.FormKinds.{IsFormulaOf}
 use Rattle.at_rules.specs.Bodies.{body_view, bodies_view}
 use Rattle.at_rules.specs.declared.body.Body.{Body}
+use Rattle.at_rules.specs.declared.body.Lookup.{Lookup}
+use Rattle.at_store.specs.Shown.{IsIdle}
+use Rattle.at_body.specs.declared.candidates.Candidates.{Candidates}
 use Rattle.at_body.specs.declared.forming.Forming.{Forming}
 use Rattle.at_body.specs.declared.forming.Progress.{Progress}
 use Rattle.at_body.specs.declared.forming.Progress.TheVariants as progress
 use Rattle.at_body.specs.declared.task.Purpose.{Purpose}
 use Rattle.at_body.specs.declared.task.Purpose.TheVariants as purpose
 use Rattle.at_body.specs.declared.task.Task.{Task}
-use Rattle.at_body.specs.declared.task.Task.TheVariants.{Right, Join, Element}
+use Rattle.at_body.specs.declared.task.Task.TheVariants.{Right, Join, Element, Among}
 use Rattle.at_body.specs.declared.task.Doing.{Doing}
 use Rattle.at_body.specs.declared.task.Doing.TheVariants.{Form, Evaluate, Use, Made, Fail, Wait}
 use Rattle.at_body.specs.declared.todo.Asking.{Asking}
@@ -29,6 +32,7 @@ use Rattle.at_body.specs.Rest.{resumed}
 use Rattle.at_body.specs.Values.{value_view}
 use Rattle.at_body.specs.Typed.{PlaceKinds, scope_kinds, kinds_inside, IsPlaceOf, WaitsFor}
 use Rattle.at_body.specs.Stacked.{below}
+use Rattle.at_body.specs.Seeking.{candidates}
 use Rattle.at_body.specs.Forms.{place_of}
 
 -- a formula of booleans
@@ -49,6 +53,8 @@ pub data IsPurpose (rules : Rules) (at : ClassAt ℕ) (s : PlaceKinds) : Kind �
       HaveKinds rules (scope_kinds s) (bodies_view bs.now) ls → IsPurpose rules at s k (purpose.Argument call bs)
   elements : (p : Bool) (c part b : ℕ) (e : Bor Body) → shape_of_part rules.classes c part ≡ Some (Many b) →
       HasKind rules (scope_kinds (kinds_inside s b)) (body_view e.now) Truth → IsPurpose rules at s (Class c) (purpose.Elements p part e)
+  under : (p : Bool) (c b : ℕ) (look : Bor Lookup) (e : Bor Body) → shape_of_part rules.classes c look.now.part ≡ Some (Many b) →
+      HasKind rules (scope_kinds (kinds_inside s b)) (body_view e.now) Truth → IsPurpose rules at s (Class c) (purpose.Under p look e)
 
 -- tasks for formulas of booleans, above those that wait: one for each task that puts two together
 pub data AreTasks (rules : Rules) (at : ClassAt ℕ) : PlaceKinds → List Task → List (Formula ℕ) → Type 0 where
@@ -60,6 +66,9 @@ pub data AreTasks (rules : Rules) (at : ClassAt ℕ) : PlaceKinds → List Task 
   element : (s : PlaceKinds) (b : ℕ) (p : Bool) (e : Bor Body) (ns : Bor (List ℕ)) (ts : List Task) (fs : List (Formula ℕ)) →
       HasKind rules (scope_kinds (kinds_inside s b)) (body_view e.now) Truth → AllByRecursion (λ m. IsNodeOf rules.classes at m b) ns.now →
       AreTasks rules at s ts fs → AreTasks rules at (kinds_inside s b) (Element p e ns ∷ ts) fs
+  among : (s : PlaceKinds) (b : ℕ) (p : Bool) (mark : ℕ) (e : Bor Body) (ns : Box Candidates) (ts : List Task) (fs : List (Formula ℕ)) →
+      HasKind rules (scope_kinds (kinds_inside s b)) (body_view e.now) Truth → AllByRecursion (λ m. IsNodeOf rules.classes at m b) (candidates ns.value mark) →
+      IsIdle ns.value.store.now → AreTasks rules at s ts fs → AreTasks rules at (kinds_inside s b) (Among p mark e ns ∷ ts) fs
 
 -- it stands at a place of these kinds, with tasks for what is to come
 pub record Stands (rules : Rules) (at : ClassAt ℕ) (s : PlaceKinds) (t : Forming) (fs : List (Formula ℕ)) : Type 0 where

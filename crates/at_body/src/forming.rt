@@ -223,7 +223,7 @@ impl<'a> Forming<'a> {
                 }
                 Doing::Use(purpose, value) => self.used(alloc, store, purpose, value)?,
                 Doing::Made => match self.tasks.pop() {
-                    Some(task) => self.made(task)?,
+                    Some(task) => self.made(alloc, task)?,
                     None => return Ok(Progress::Formula(self.pile.take(alloc))),
                 },
                 Doing::Fail(kind) => return Ok(Progress::Fault(kind)),
@@ -260,6 +260,9 @@ impl<'a> Forming<'a> {
             }
             Body::Exists(a, part, b) => {
                 Ok(Doing::Evaluate(Purpose::Elements(positive, *part, b), a))
+            }
+            Body::SeekAny(a, lookup, b) => {
+                Ok(Doing::Evaluate(Purpose::Under(positive, lookup, b), a))
             }
             _ => Ok(Doing::Evaluate(Purpose::Formula(positive), body)),
         }
@@ -351,11 +354,14 @@ impl<'a> Forming<'a> {
             Purpose::Elements(positive, part, body) => {
                 self.elements(store, positive, part, body, value.node())
             }
+            Purpose::Under(positive, lookup, body) => {
+                self.elements_under(alloc, store, positive, lookup, body, value.node())
+            }
         }
     }
 
     /// The formula is a value.
-    fn known(&mut self, value: bool) -> Result<Doing<'a>, AllocError>
+    pub(crate) fn known(&mut self, value: bool) -> Result<Doing<'a>, AllocError>
         ensures { IfOk result (λ d. (d ≡ Made) × (self.new ≡ record self.old { pile = Known (Truth value) ∷ self.old.pile })) }
     {
         self.pile.push_known(value)?;
@@ -505,7 +511,7 @@ impl<'a> Forming<'a> {
     }
 
     /// Does with the formula on top what is left to do.
-    fn made(&mut self, task: Task<'a>) -> Result<Doing<'a>, AllocError>
+    fn made(&mut self, alloc: Global, task: Task<'a>) -> Result<Doing<'a>, AllocError>
         requires typed { (meant : Meant) × (at : ClassAt ℕ) × Continues meant at self.old task }
         ensures does { IfOk result (λ d. CarriesOn (λ meant. completed meant self.old.start (task.entry ∷ self.old.tasks) self.old.pile (place_of self.old))
             (cost task.entry) self.old d self.new) }
@@ -523,6 +529,10 @@ impl<'a> Forming<'a> {
             Task::Element(positive, body, others) => {
                 let _ = self.bound.pop();
                 self.decide(positive, body, others)
+            }
+            Task::Among(positive, mark, body, others) => {
+                let _ = self.bound.pop();
+                self.decide_among(alloc, positive, mark, body, &others)
             }
         }
     }
@@ -570,7 +580,7 @@ impl<'a> Forming<'a> {
     }
 
     /// Keeps the formula on top as the left side; a value that leaves the right side to decide isn't kept.
-    fn keep(&mut self, conjunction: bool) -> Result<(), AllocError>
+    pub(crate) fn keep(&mut self, conjunction: bool) -> Result<(), AllocError>
         requires { HasTop self.old.pile }
         ensures same { (meant : Meant) (r : Run ℕ (Meaning ℕ)) → OnOk result
             (joining meant self.old conjunction r ≡ followed meant self.new r) }

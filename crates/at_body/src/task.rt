@@ -1,9 +1,10 @@
 //! What is left to do for a formula.
 
+use super::candidates::Candidates;
 use super::inst::Inst;
 use super::todo::Asking;
 use super::value::{FaultKind, Value};
-use at_rules::{AttrId, Body};
+use at_rules::{AttrId, Body, Lookup};
 use at_store::Node;
 
 /// What the value of an expression is for, in a place that is positive, or (false) that is not.
@@ -19,6 +20,8 @@ pub enum Purpose<'a> {
     Argument(Box<Asking>, &'a [Body]),
     /// It is the node over whose elements in a component it is asked whether there is one.
     Elements(bool, usize, &'a Body),
+    /// It is the node over those of whose elements it is asked whether there is one that are looked for.
+    Under(bool, &'a Lookup, &'a Body),
 }
 
 /// What is left to do with a formula.
@@ -30,6 +33,8 @@ pub enum Task<'a> {
     Join(bool),
     /// It is that of one element; others follow.
     Element(bool, &'a Body, &'a [Node]),
+    /// It is that of one element; others that stand under the mark follow.
+    Among(bool, u32, &'a Body, Box<Candidates<'a>>),
 }
 
 /// What is done next for a formula.

@@ -1,9 +1,10 @@
 //! What is left to do.
 
 use super::arguments::Arguments;
+use super::candidates::Candidates;
 use super::value::{FaultKind, Value};
 use at_class::ClassId;
-use at_rules::{AttrId, Body, Operator, Order};
+use at_rules::{AttrId, Body, Lookup, Operator, Order};
 use at_store::Node;
 
 /// What is done with one value.
@@ -42,6 +43,28 @@ pub enum Fold {
     Sum(i32),
 }
 
+/// A fold over those elements alone that are looked for.
+#[derive(Clone, Copy)]
+pub enum Search {
+    Any,
+    First,
+}
+
+impl Search {
+    ghost use Rattle.std.specs.Prelude.{◌≡◌};
+    ghost use Rattle.at_body.specs.Seeking.{fold_of};
+
+    /// The fold.
+    pub(crate) fn fold(&self) -> Fold
+        ensures { result ≡ fold_of self.now }
+    {
+        match self {
+            Search::Any => Fold::Exists,
+            Search::First => Fold::First,
+        }
+    }
+}
+
 /// A call of an attribute, with the arguments that are there.
 #[derive(Drop)]
 pub struct Asking {
@@ -70,6 +93,10 @@ pub enum Todo<'a> {
     Elements(Fold, usize, &'a Body),
     /// It is what the fold's expression gives at this element; others follow.
     Element(Fold, &'a Body, Node, &'a [Node]),
+    /// It is the node over those elements of which the search goes that are looked for.
+    Under(Search, &'a Lookup, &'a Body),
+    /// It is what the search's expression gives at the element that was bound last; others that stand under the mark follow.
+    Among(Search, u32, &'a Body, Candidates<'a>),
 }
 
 /// What an evaluation does next.

@@ -26,7 +26,7 @@ use super::arguments::Arguments;
 use super::inst::Inst;
 use super::reads::Reads;
 use super::stack::Stack;
-use super::todo::{Asking, Binary, Fold, Now, Todo, Unary};
+use super::todo::{Asking, Binary, Fold, Now, Search, Todo, Unary};
 use super::using::{int_value, text_value};
 use super::value::{FaultKind, Value};
 use at_rules::{AttrId, Body, Rules};
@@ -242,6 +242,8 @@ impl<'a> Trial<'a> {
             Body::Exists(a, part, b) => self.over(Fold::Exists, a, *part, b),
             Body::First(a, part, b) => self.over(Fold::First, a, *part, b),
             Body::Sum(a, part, b) => self.over(Fold::Sum(0), a, *part, b),
+            Body::SeekAny(a, lookup, b) => self.under(Search::Any, a, lookup, b),
+            Body::SeekFirst(a, lookup, b) => self.under(Search::First, a, lookup, b),
             Body::TokenOf(_, _) => unreachable!(),
             Body::Arithmetic(_, _, _) => unreachable!(),
             Body::Call(_, _, _) => unreachable!(),
@@ -476,6 +478,12 @@ impl<'a> Trial<'a> {
             Todo::Element(fold, body, node, others) => {
                 let _ = self.bound.pop();
                 self.decide(fold, body, node, others, &value)
+            }
+            Todo::Under(search, lookup, body) => {
+                self.elements_under(store, search, lookup, body, value.node())
+            }
+            Todo::Among(search, mark, body, others) => {
+                self.behind(search, mark, body, &others, &value)
             }
         }
     }

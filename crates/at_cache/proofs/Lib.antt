@@ -11,5 +11,6 @@ pub mod Testing
 pub mod Showing
 pub mod Shown
 pub mod Naming
+pub mod Drawers
 pub mod Came
 pub mod of_cut

@@ -1,5 +1,5 @@
 -- A flush begins at the nodes that places name.
-use Rattle.std.proofs.Common.{◌≡◌, ◌⊎◌, inl, inr, ℕ, ◌+◌, ◌<◌, List, [], ◌∷◌, ◌++◌, ◌||◌, Bool, true, false, true≢false, Option, None, Some, Contains, take, slice_get, get_or, length, nat_eq, refl, sym, ap, ◌∙◌, subst, eqb-true, cond, ◌≤◌, arith}
+use Rattle.std.proofs.Common.{◌≡◌, ◌⊎◌, inl, inr, ℕ, ◌+◌, ◌<◌, List, [], ◌∷◌, ◌++◌, ◌||◌, Bool, true, false, true≢false, Option, None, Some, Contains, take, slice_get, get_or, length, nat_eq, refl, sym, ap, ◌∙◌, subst, eqb-true, cond}
 use Rattle.std.specs.List.{list_any}
 use Rattle.std.proofs.lemmas.Bool.{cases_eq, eq-eqb, and_from, or_cases}
 use Rattle.std.proofs.lemmas.List.{take_more}
@@ -7,11 +7,9 @@ use Rattle.std.proofs.lemmas.List.Elements.{Contains-append_cases, Contains-appe
 use Rattle.smallvec.specs.SmallVec.{SmallVec}
 use Rattle.at_model.specs.Run.{Location, Is, Tok, Slot, Up, Idx, Drawer}
 use Rattle.at_model.specs.Touches.{node_of}
-use Rattle.at_store.specs.declared.node.Loc.{Loc}
-use Rattle.at_store.specs.declared.node.Loc.TheVariants as loc
 use Rattle.at_store.specs.declared.places.Changing.{Changing}
 use Rattle.at_store.specs.declared.places.Places.{Places}
-use Rattle.at_store.specs.Places.{is_index_among, is_node, named, names_around}
+use Rattle.at_store.specs.Places.{is_drawer_at, is_index_among, is_node, named, names_around}
 use Rattle.at_cache.specs.declared.cut.Cut.{Cut}
 use Rattle.at_cache.specs.declared.cut.Loss.TheVariants as loss
 use Rattle.at_index.specs.declared.edge.Edge.{Edge}
@@ -19,16 +17,14 @@ use Rattle.at_index.specs.declared.facet.Readers.{Readers}
 use Rattle.at_index.specs.declared.run.AllReaders.{AllReaders}
 use Rattle.at_index.specs.declared.scope.Scope.{Scope}
 use Rattle.at_index.specs.declared.scope.Scope.TheVariants as scope
-use Rattle.at_index.specs.Asking.{AreNoted, Asked, looks_at, sees, Answers}
-use Rattle.at_cache.specs.Marking.{GoesOn, GoesOver}
+use Rattle.at_index.specs.Asking.{AreNoted, Asked, looks_at, sees}
+use Rattle.at_cache.specs.Marking.{GoesOn}
 use Rattle.at_index.specs.Finding.{edges_to}
 use Rattle.at_cache.specs.Flushing.{Begins}
-use Rattle.at_cache.specs.Kept.{AreNamed}
 use Rattle.at_index.specs.Sameness.{node_at}
 use Rattle.at_index.specs.Readers.{edges_among, edges_at}
 use Rattle.at_index.proofs.Beginning.{among_others}
-use Rattle.at_index.proofs.of_runs.Drawers.{unread}
-use Rattle.at_index.proofs.of_runs.Over.{beyond, either_empty, not_seen, on_nowhere, over_at, over_none as seat_none, seen_node as seen_at}
+use Rattle.at_index.proofs.of_runs.Over.{either_empty, not_seen, on_nowhere, over_at, over_none as seat_none, seen_node as seen_at}
 use Rattle.at_index.specs.Readers.{is_of_index}
 use Rattle.at_index.specs.Runs.{edges_on, edges_over, is_seen}
 use Rattle.at_index.specs.declared.run.Run.{Run}
@@ -182,10 +178,11 @@ module _ {says : Location ℕ → Bool → Type 0} {lists : Location ℕ → Lis
   goes_around_none changing is first c = goes_nowhere first c (λ l h. absurd (true≢false (sym h ∙ ap (λ o. names_around o l) is)))
 
   -- all that is named
-  pub goes_to_named : (p : Places) {f0 f1 f2 f3 f4 : Option ℕ} {m0 m1 m2 m3 m4 : Cut}
+  pub goes_to_named : (p : Places) {f0 f1 f2 f3 f4 f5 : Option ℕ} {m0 m1 m2 m3 m4 m5 : Cut}
       → GoesOn says (λ l. list_any (λ k. sees scope.All k l) p.leaving.now) lists f0 m0 f1 m1 → GoesOn says (λ l. is_node p.moved (node_of l)) lists f1 m1 f2 m2
-      → GoesOn says (names_around p.target) lists f2 m2 f3 m3 → GoesOn says (names_around p.source) lists f3 m3 f4 m4 → GoesOn says (named p) lists f0 m0 f4 m4
-  goes_to_named p a b c d = goes_further (goes_further (goes_further (goes_to_nodes p.leaving.now a) b) c) d
+      → GoesOn says (names_around p.target) lists f2 m2 f3 m3 → GoesOn says (names_around p.source) lists f3 m3 f4 m4
+      → GoesOn says (is_drawer_at p.keyed) lists f4 m4 f5 m5 → GoesOn says (named p) lists f0 m0 f5 m5
+  goes_to_named p a b c d e = goes_further (goes_further (goes_further (goes_further (goes_to_nodes p.leaving.now a) b) c) d) e
 
 module _ {says : Location ℕ → Bool → Type 0} {seen : Location ℕ → Bool} {lists : Location ℕ → List Edge} {start : List Edge} where
   -- what isn't seen has the answer `false`, or no edge
@@ -197,20 +194,6 @@ module _ {says : Location ℕ → Bool → Type 0} {seen : Location ℕ → Bool
       by : (l : Location ℕ) (b : Bool) → seen l ≡ b → says l false ⊎ ((x : Edge) → Contains (lists l) x → Contains start x)
       by l true s = a.all l s
       by l false s = elim (others l s) [ inl said ↦ inl said | inr none ↦ inr (λ x c. absurd (none x c)) ]
-
--- what isn't named has the answer `false`; a drawer has no edge
-pub begins_named : {post : Loc → Bool → Type 0} (rs : AllReaders) {later : Option ℕ} {a b : Cut} (p : Places)
-    → AreNamed p post → GoesOn (Answers post) (named p) (edges_to rs) None a later b
-    → (start : List Edge) × GoesOver loss.Both start None a later b × Begins (Answers post) (edges_to rs) start
-begins_named {post = post} rs p answers (start, done, asked) = (start, done, begins_by asked by)
-  where
-    by : (l : Location ℕ) → named p l ≡ false → Answers post l false ⊎ ((x : Edge) → Contains (edges_to rs l) x → ⊥)
-    by (Is n) h = inl (loc.Is n, refl, answers (loc.Is n) h)
-    by (Tok n part) h = inl (loc.Tok n part, refl, answers (loc.Tok n part) h)
-    by (Slot n part) h = inl (loc.Slot n part, refl, answers (loc.Slot n part) h)
-    by (Up n) h = inl (loc.Up n, refl, answers (loc.Up n) h)
-    by (Idx n) h = inl (loc.Idx n, refl, answers (loc.Idx n) h)
-    by (Drawer n part key mark) h = inr (λ x c. none_in x (subst (λ es. Contains es x) (unread n part key mark rs) c))
 
 -- a node that sits nowhere, or whose index is looked at there, has no edge that is seen
 pub goes_past_seat : {says : Location ℕ → Bool → Type 0} (s : Scope) (seats : List Seat) (runs : List Run) (node : ℕ)
@@ -231,10 +214,7 @@ pub goes_both : {says : Location ℕ → Bool → Type 0} {seen : Location ℕ �
     → ((l : Location ℕ) → all l ≡ lists l ++ more l) → GoesOn says seen lists first a mid b → GoesOn says seen more mid b later c → GoesOn says seen all first a later c
 goes_both is (edges, done, asked) (rest, ended, then_asked) = (edges ++ rest, over_then loss.Both done ended, asked_both is asked then_asked)
 
-module _ {says : Location ℕ → Bool → Type 0} (rs : AllReaders) where
-  -- no node was ever looked at
-  pub goes_unread : (count : ℕ) → length rs.own.items ≤ count → length rs.seats.items ≤ count → count ≡ 0
-      → {seen : Location ℕ → Bool} (first : Option ℕ) (c : Cut) → GoesOn says seen (edges_to rs) first c first c
-  goes_unread count own seats none first c = goes_nowhere first c (λ l h x c.
-      let all : count ≤ node_at l = omega (arith, none) in
-      none_in x (subst (λ es. Contains es x) (beyond rs count own seats l all) c))
+-- nothing was ever looked at
+pub goes_unread : {says : Location ℕ → Bool → Type 0} (rs : AllReaders) → ((l : Location ℕ) → edges_to rs l ≡ [])
+    → {seen : Location ℕ → Bool} (first : Option ℕ) (c : Cut) → GoesOn says seen (edges_to rs) first c first c
+goes_unread rs none first c = goes_nowhere first c (λ l h x c. none_in x (subst (λ es. Contains es x) (none l) c))

@@ -1,6 +1,6 @@
 //! An edit takes the traces of what reads a touched location, and marks what is kept of it.
 
-ghost use Rattle.std.specs.Prelude.{◌≡◌, ◌≤◌, ◌∷◌, ◌^◌, ℕ, [], MatchBool, Option, length, true, false};
+ghost use Rattle.std.specs.Prelude.{◌≡◌, ◌∷◌, ℕ, [], IsTrue, MatchBool, Option, true, false};
 ghost use Rattle.at_model.specs.Run.{Location};
 ghost use Rattle.at_index.specs.declared.edge.Edge.{Edge};
 ghost use Rattle.at_index.specs.Edges.{edges_in};
@@ -13,6 +13,7 @@ ghost use Rattle.at_index.specs.Finding.{edges_to};
 ghost use Rattle.at_index.specs.Runs.{edges_on, edges_over, edges_past};
 
 use crate::cut::{Cut, Loss, take_trace};
+use crate::desks::begin_drawers;
 use at_index::edge::{Edge, Edges, Slot};
 use at_index::facet::{Facet, Facets, Readers};
 use at_index::row::Row;
@@ -200,16 +201,20 @@ pub fn begin_node<F: Fn(Loc) -> bool>(
     requires { F.IsAlwaysCallable touched.now }
     ensures { GoesOn (Answers (F.post touched.now)) (sees scope node) (edges_to readers.now) first cut.old result cut.new }
 {
-    let own = begin_own(cut, first, node, readers.own.as_slice(), scope, touched);
+    let drawers = begin_drawers(cut, first, &readers.desks, node, scope, touched);
+    let own = begin_own(cut, drawers, node, readers.own.as_slice(), scope, touched);
     begin_over(cut, own, node, readers, scope, touched)
 }
 
-/// How many nodes were looked at, by the greatest number of one.
-pub fn count_of(readers: &AllReaders) -> usize
-    ensures own { length readers.now.own.items ≤ result }
-    ensures seats { length readers.now.seats.items ≤ result }
-    ensures short { result ≤ 2 ^ 32 }
+/// Whether no node was ever looked at.
+pub fn is_unread(readers: &AllReaders) -> bool
+    ensures { IsTrue result → (l : Location ℕ) → edges_to readers.now l ≡ [] }
 {
-    let (own, seats) = (readers.own.len(), readers.seats.len());
-    if own < seats { seats } else { own }
+    if !readers.own.is_empty() {
+        return false;
+    }
+    if !readers.seats.is_empty() {
+        return false;
+    }
+    readers.desks.is_empty()
 }

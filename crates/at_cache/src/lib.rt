@@ -10,9 +10,9 @@
 //!
 //! **Where to begin:** the trait in `keeper.rt`, then `keep_recorded.rt`: `table.rt` holds the entries, `cut.rt` and `standing.rt` how they
 //! stand, `slots.rt` what is done to them, and `using.rt` adds an edge to one that used them. `renewing.rt` is `put`, with `putting.rt`;
-//! `cutting.rt` is a flush, over what `forgetting.rt` and, by places, `places.rt` mark; `settling.rt` and `blocking.rt` are what a question keeps
-//! again. What isn't kept leaves memory by `shedding.rt`. Where that isn't enough for a bound, entries are folded by what `folding.rt` asks for,
-//! which is `at_evict`. `keep_in_turns.rt` is a keeper over another one, of which turns keep values again, too.
+//! `cutting.rt` is a flush, over what `forgetting.rt`, of drawers `desks.rt`, and, by places, `places.rt` mark; `settling.rt` and `blocking.rt`
+//! are what a question keeps again. What isn't kept leaves memory by `shedding.rt`. Where that isn't enough for a bound, entries are folded by
+//! what `folding.rt` asks for, which is `at_evict`. `keep_in_turns.rt` is a keeper over another one, of which turns keep values again, too.
 //!
 //! **What it keeps true:** what an entry read is said by the edges of locations alone; each entry is found from those
 //! that it used, and what is found so used them. An edge whose entry is gone means nothing: its `put`'s number is no other
@@ -24,6 +24,7 @@ mod attributes;
 mod blocking;
 mod cut;
 mod cutting;
+mod desks;
 pub mod entry;
 pub mod folding;
 mod forgetting;

@@ -3,13 +3,14 @@
 ghost use Rattle.std.specs.Prelude.{None};
 ghost use Rattle.std.specs.List.{list_any};
 ghost use Rattle.at_model.specs.Touches.{node_of};
-ghost use Rattle.at_store.specs.Places.{is_index_among, is_node, named, names_around};
+ghost use Rattle.at_store.specs.Places.{is_drawer_at, is_index_among, is_node, named, names_around};
 ghost use Rattle.at_index.specs.Asking.{AreNoted, sees, Answers};
 ghost use Rattle.at_cache.specs.Marking.{GoesOn};
 ghost use Rattle.at_index.specs.Finding.{edges_to};
 
 use crate::cut::Cut;
-use crate::forgetting::{begin_node, count_of};
+use crate::desks::begin_desks;
+use crate::forgetting::{begin_node, is_unread};
 use at_index::edge::Slot;
 use at_index::run::AllReaders;
 use at_index::scope::Scope;
@@ -95,6 +96,23 @@ fn begin_moved<F: Fn(Loc) -> bool>(
     }
 }
 
+// What reads a touched drawer of the node goes, if there is one.
+fn begin_keyed<F: Fn(Loc) -> bool>(
+    cut: &mut Cut,
+    first: Option<Slot>,
+    readers: &AllReaders,
+    keyed: Option<Node>,
+    touched: &F,
+) -> Option<Slot>
+    requires { F.IsAlwaysCallable touched.now }
+    ensures { GoesOn (Answers (F.post touched.now)) (is_drawer_at keyed) (edges_to readers.now) first cut.old result cut.new }
+{
+    match keyed {
+        Some(node) => begin_desks(cut, first, &readers.desks, node, touched),
+        None => first,
+    }
+}
+
 /// What reads a touched location that the places name goes: the first one that goes.
 pub fn begin_named<F: Fn(Loc) -> bool>(
     cut: &mut Cut,
@@ -107,11 +125,12 @@ pub fn begin_named<F: Fn(Loc) -> bool>(
     requires noted { AreNoted (edges_to readers.now) index_read.now }
     ensures { GoesOn (Answers (F.post touched.now)) (named places.now) (edges_to readers.now) None cut.old result cut.new }
 {
-    if count_of(readers) == 0 {
+    if is_unread(readers) {
         return None;
     }
     let left = begin_nodes(cut, None, readers, places.leaving, Scope::All, touched);
     let moved = begin_moved(cut, left, readers, places.moved, touched);
     let come = begin_around(cut, moved, readers, index_read, &places.target, touched);
-    begin_around(cut, come, readers, index_read, &places.source, touched)
+    let gone = begin_around(cut, come, readers, index_read, &places.source, touched);
+    begin_keyed(cut, gone, readers, places.keyed, touched)
 }

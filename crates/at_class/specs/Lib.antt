@@ -13,3 +13,4 @@ pub mod Token
 pub mod TreeView
 pub mod Fixing
 pub mod Codes
+pub mod Keys

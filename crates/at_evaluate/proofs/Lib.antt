@@ -3,6 +3,7 @@ mod Compared
 mod Nearby
 mod Passed
 pub mod Sameness
+mod Sought
 pub mod Entered
 pub mod Tests
 pub mod LeadingOn

@@ -5,3 +5,4 @@ pub mod ByForm
 pub mod Looping
 pub mod AtOnce
 pub mod PassedBy
+pub mod Searching

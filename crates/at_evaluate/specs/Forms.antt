@@ -7,7 +7,7 @@ use Rattle.at_rules.specs.declared.body.Body.{Body}
 use Rattle.at_body.specs.Comparing.{IsComparison}
 use Rattle.at_body.specs.Rest.{ev}
 use Rattle.at_body.specs.Standing.{Place}
-use Rattle.at_evaluate.specs.Parts.{call_of, either_of, fold_of, one_of, two_of}
+use Rattle.at_evaluate.specs.Parts.{call_of, either_of, fold_of, one_of, search_of, two_of}
 use Rattle.at_evaluate.specs.declared.form.Form.{Form}
 use Rattle.at_evaluate.specs.declared.form.Form.TheVariants as form
 
@@ -19,6 +19,7 @@ run_of classes p body (form.Compared o a b) = two_of classes p o a.now b.now
 run_of classes p body (form.Either test chosen other) = either_of classes p test.now chosen other
 run_of classes p body (form.Call a attribute passed) = call_of classes p a.now attribute passed.now
 run_of classes p body (form.Over f a part b) = fold_of classes p f a.now part b.now
+run_of classes p body (form.Under f a look b) = search_of classes p f a.now look.now b.now
 run_of classes p body form.Plain = ev classes (body_view body) p
 
 -- what is told to be a comparison is one
@@ -29,4 +30,5 @@ Compares (form.Compared o a b) = IsComparison o
 Compares (form.Either test chosen other) = ⊤
 Compares (form.Call a attribute passed) = ⊤
 Compares (form.Over f a part b) = ⊤
+Compares (form.Under f a look b) = ⊤
 Compares form.Plain = ⊤

@@ -1,13 +1,16 @@
 -- Expressions, by their parts.
 use Rattle.std.specs.Prelude.{ℕ, Bool, true, false, cond, List, Option, Some, None}
 use Rattle.std.specs.Borrow.{Bor}
-use Rattle.at_model.specs.Bodies.{Expr, truth_of, demand_of, elements_of}
+use Rattle.at_model.specs.Bodies.{Expr, truth_of, demand_of, drawer_of, elements_of}
 use Rattle.at_model.specs.Classes.{Classes}
 use Rattle.at_model.specs.Run.{Value, Text, Truth, Run, Gives, ◌>>=◌}
 use Rattle.at_rules.specs.Bodies.{body_view, bodies_view}
+use Rattle.at_class.specs.Keys.{key_view}
 use Rattle.at_rules.specs.declared.body.Body.{Body}
+use Rattle.at_rules.specs.declared.body.Lookup.{Lookup}
 use Rattle.at_body.specs.Rest.{ev, ev_all, over, with_one, with_two}
-use Rattle.at_body.specs.Standing.{Place}
+use Rattle.at_body.specs.Seeking.{sought_in}
+use Rattle.at_body.specs.Standing.{Place, scope}
 use Rattle.at_body.specs.Values.{value_view}
 use Rattle.at_body.specs.declared.todo.Unary.{Unary}
 use Rattle.at_body.specs.declared.todo.Binary.{Binary}
@@ -44,6 +47,14 @@ call_of classes p a attribute bs = ev classes (body_view a) p >>= λ v. ev_all c
 -- a fold over the elements in a component of a node
 abbrev pub fold_of : Classes → Place → Fold → Body → ℕ → Body → Run ℕ (Value ℕ)
 fold_of classes p f a part b = ev classes (body_view a) p >>= λ v. elements_of part v >>= over classes f (body_view b) p
+
+-- the elements of the node that a value is that are looked for
+abbrev pub found_of : Place → Lookup → Value ℕ → Run ℕ (List ℕ)
+found_of p look v = drawer_of look.part (key_view look.key) v (sought_in look.sought (scope p).names)
+
+-- a fold over those
+abbrev pub search_of : Classes → Place → Fold → Body → Lookup → Body → Run ℕ (Value ℕ)
+search_of classes p f a look b = ev classes (body_view a) p >>= λ v. found_of p look v >>= over classes f (body_view b) p
 
 -- a fold goes on, or has ended with a value
 abbrev pub next_of : Classes → Expr → Place → List ℕ → Next → Run ℕ (Value ℕ)

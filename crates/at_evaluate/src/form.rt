@@ -8,7 +8,7 @@ ghost use Rattle.at_body.specs.Standing.{Place};
 ghost use Rattle.at_evaluate.specs.Forms.{Compares, run_of};
 
 use at_body::{Binary, Fold, Unary};
-use at_rules::{AttrId, Body};
+use at_rules::{AttrId, Body, Lookup};
 
 /// An expression by its parts.
 #[derive(Drop)]
@@ -25,6 +25,8 @@ pub enum Form<'b> {
     Call(&'b Body, AttrId, &'b [Body]),
     /// A fold over the elements in a component of the node that an expression is.
     Over(Fold, &'b Body, usize, &'b Body),
+    /// A fold over those elements of the node that an expression is that are looked for.
+    Under(Fold, &'b Body, &'b Lookup, &'b Body),
     /// It has no parts.
     Plain,
 }
@@ -60,6 +62,8 @@ pub fn form_of(body: &Body) -> Form<'_>
         Body::Exists(a, part, b) => Form::Over(Fold::Exists, a, *part, b),
         Body::First(a, part, b) => Form::Over(Fold::First, a, *part, b),
         Body::Sum(a, part, b) => Form::Over(Fold::Sum(0), a, *part, b),
+        Body::SeekAny(a, lookup, b) => Form::Under(Fold::Exists, a, lookup, b),
+        Body::SeekFirst(a, lookup, b) => Form::Under(Fold::First, a, lookup, b),
         _ => Form::Plain,
     }
 }

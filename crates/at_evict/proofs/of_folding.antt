@@ -1,4 +1,5 @@
 -- Entries that are folded into others.
+pub mod AtDesks
 pub mod Distinct
 pub mod Folded
 pub mod Gathering

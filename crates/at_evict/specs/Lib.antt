@@ -1,3 +1,4 @@
 pub mod Folding
 pub mod Rerunning
 pub mod Joining
+pub mod Desks

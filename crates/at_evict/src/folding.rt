@@ -16,6 +16,7 @@ ghost use Rattle.at_cache.specs.Standings.{held};
 ghost use Rattle.at_cache.specs.declared.standing.Standing.{Standing};
 
 use crate::checking::is_sound;
+use crate::desks::rewrite_desks;
 use crate::lone::lone_of;
 use crate::relinking::{links_of, relink, remove_folded};
 use crate::rerunning::rerun;
@@ -111,6 +112,7 @@ pub fn fold(
     let links = links_of(alloc, entries, plan, slots)?;
     let mut room = Room::new(alloc, plan.len())?;
     rewrite(alloc, entries, plan, &lone, &mut room, &mut readers.own)?;
+    rewrite_desks(alloc, entries, plan, &lone, &mut room, &mut readers.desks)?;
     rerun(alloc, entries, plan, &mut readers.runs)?;
     relink(
         alloc,

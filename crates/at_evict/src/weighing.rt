@@ -7,6 +7,7 @@
 //! Entries are looked at by their places, from the oldest to the newest: what one used stands before it.
 
 use at_cache::entry::Entry;
+use at_index::desk::{AllDesks, Desks};
 use at_index::edge::{Edge, Edges, Slot};
 use at_index::facet::{Facets, Readers, small};
 use at_index::row::Row;
@@ -197,6 +198,23 @@ fn count_node(places: &[u32], items: &mut [Item], readers: &[Readers]) {
 pub fn count_nodes(places: &[u32], items: &mut [Item], readers: &[Facets]) {
     for facets in readers {
         count_node(places, items, facets.as_slice());
+    }
+}
+
+fn count_drawers(places: &[u32], items: &mut [Item], desks: &Desks) {
+    for place in 0..desks.len() {
+        if let Some((_, edges)) = desks.spots.get_index(place) {
+            count_edges(places, items, edges);
+        }
+    }
+}
+
+/// The same of edges of drawers, each of which is one location.
+pub fn count_desks(places: &[u32], items: &mut [Item], all: &AllDesks) {
+    for place in 0..all.len() {
+        if let Some((_, desks)) = all.get_index(place) {
+            count_drawers(places, items, desks);
+        }
     }
 }
 

@@ -49,7 +49,7 @@ module _ {tells : Edge → Bool} {x : Edge} where
     ];
   }
 
-  lists_if : (b : Bool) {old new : List Edge} → Lists tells x old new → Lists tells x (cond b old []) (cond b new [])
+  pub lists_if : (b : Bool) {old new : List Edge} → Lists tells x old new → Lists tells x (cond b old []) (cond b new [])
   lists_if true h = h
   lists_if false h = lists_same refl
 

@@ -6,4 +6,3 @@ pub mod Passed
 pub mod Reaching
 pub mod Seats
 pub mod Stretches
-pub mod Drawers

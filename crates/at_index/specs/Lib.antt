@@ -4,5 +4,6 @@ pub mod Edges
 pub mod Readers
 pub mod Asking
 pub mod Runs
+pub mod Desks
 pub mod Finding
 pub mod Linking

@@ -88,7 +88,7 @@ fn component(part: usize) -> Result<Facet, AllocError>
 }
 
 impl Facet {
-    /// The location without its node; want of memory where its part is too great a number for a facet.
+    /// The location without its node; want of memory where its part is too great a number for a facet. A drawer has none.
     #[inline(always)]
     pub fn of(location: Loc) -> Result<Facet, AllocError>
         ensures { (l : Location ℕ) → IfOk result (λ facet. stands_for (node_at (loc_view location)) facet l ≡ same_location l (loc_view location)) }
@@ -99,6 +99,7 @@ impl Facet {
             Loc::Tok(_, part) => token(part),
             Loc::Slot(_, part) => component(part),
             Loc::Idx(_) => Ok(Facet::Idx),
+            Loc::Drawer { .. } => Err(AllocError),
         }
     }
 

@@ -9,7 +9,8 @@ use crate::facet::Facet;
 use at_store::Loc;
 use std::alloc::AllocError;
 
-/// The facet of the location and of all of its node behind it for which there is one; with what is left of the others.
+/// The facet of the location, and of those of its node behind it that have one with it; with what is left of the others. An error where
+/// the location has none.
 #[inline(always)]
 pub fn first_facet(location: Loc, others: &[Loc]) -> Result<(Facet, &[Loc]), AllocError>
     ensures { IfOk result (λ r. IsFirst (loc_view location ∷ map loc_view others.now) (node_at (loc_view location)) r.0 (map loc_view r.1.now)) }
@@ -21,7 +22,10 @@ pub fn first_facet(location: Loc, others: &[Loc]) -> Result<(Facet, &[Loc]), All
         if next.node() != node {
             return Ok((facet, rest));
         }
-        let Some(wider) = facet.with(Facet::of(*next)?) else {
+        let Ok(alone) = Facet::of(*next) else {
+            return Ok((facet, rest));
+        };
+        let Some(wider) = facet.with(alone) else {
             return Ok((facet, rest));
         };
         facet = wider;

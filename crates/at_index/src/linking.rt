@@ -12,9 +12,10 @@ ghost use Rattle.at_index.specs.Edges.{edges_in};
 ghost use Rattle.at_index.specs.Rows.{edges_along, edges_of};
 ghost use Rattle.at_index.specs.Linking.{AreListed, Keeps, Lists, Reads, HasAdded, HasChanged, ListsAt, with_edges};
 ghost use Rattle.at_index.specs.Readers.{edges_among, edges_at, stands_for};
-ghost use Rattle.at_index.specs.Finding.{edges_to};
+ghost use Rattle.at_index.specs.Finding.{edges_to, own_edges};
 ghost use Rattle.at_index.specs.Runs.{ListsBut, Stays};
 
+use crate::desk::{AllDesks, Spot, add_drawer};
 use crate::edge::{Edge, Edges, Many};
 use crate::facet::{Facet, Facets, Readers};
 use crate::facets::first_facet;
@@ -428,27 +429,97 @@ fn add_reader<T: Tells>(
     add_among(alloc, teller, list, facet, edge)
 }
 
+// One more edge of the location, which is no drawer, and of those of its node behind it that have one facet with it; what is left of the
+// others. The node is noted if its index is among them.
+#[inline(always)]
+fn add_near<'a, T: Tells>(
+    alloc: Global,
+    teller: &T,
+    readers: &mut Vec<Facets>,
+    index_read: &mut Vec<Node>,
+    location: Loc,
+    others: &'a [Loc],
+    edge: Edge,
+) -> Result<&'a [Loc], AllocError>
+    ensures reads { Reads (T.tells teller.now) edge (loc_view location ∷ map loc_view others.now) (edges_at readers.old.items) (edges_at readers.new.items) }
+    ensures stay { OnOk result (Stays edge (edges_at readers.old.items) (edges_at readers.new.items)) }
+    ensures listed { IfOk result (λ left. ListsBut edge (loc_view location ∷ map loc_view others.now) (map loc_view left.now) (edges_at readers.new.items)) }
+    ensures noted { AreNoted (edges_at readers.old.items) index_read.old.items → AreNoted (edges_at readers.new.items) index_read.new.items }
+    ensures short { length readers.old.items ≤ 2 ^ 32 → length readers.new.items ≤ 2 ^ 32 }
+    ensures fewer { IfOk result (λ left. length (map loc_view left.now) < length (loc_view location ∷ map loc_view others.now)) }
+{
+    note(readers.as_slice(), index_read, location)?;
+    let (facet, left) = first_facet(location, others)?;
+    add_reader(alloc, teller, readers, location.node(), facet, edge)?;
+    Ok(left)
+}
+
+// One more edge of the location, or of that and others of its node behind it; what is left of these.
+#[inline(always)]
+fn add_first<'a, T: Tells>(
+    alloc: Global,
+    teller: &T,
+    desks: &mut AllDesks,
+    readers: &mut Vec<Facets>,
+    index_read: &mut Vec<Node>,
+    location: Loc,
+    others: &'a [Loc],
+    edge: Edge,
+) -> Result<&'a [Loc], AllocError>
+    ensures reads { Reads (T.tells teller.now) edge (loc_view location ∷ map loc_view others.now)
+        (own_edges desks.old.entries readers.old.items) (own_edges desks.new.entries readers.new.items) }
+    ensures stay { OnOk result (Stays edge (own_edges desks.old.entries readers.old.items) (own_edges desks.new.entries readers.new.items)) }
+    ensures listed { IfOk result (λ left. ListsBut edge (loc_view location ∷ map loc_view others.now) (map loc_view left.now)
+        (own_edges desks.new.entries readers.new.items)) }
+    ensures noted { AreNoted (edges_at readers.old.items) index_read.old.items → AreNoted (edges_at readers.new.items) index_read.new.items }
+    ensures short { length readers.old.items ≤ 2 ^ 32 → length readers.new.items ≤ 2 ^ 32 }
+    ensures fewer { IfOk result (λ left. length (map loc_view left.now) < length (loc_view location ∷ map loc_view others.now)) }
+{
+    match location {
+        Loc::Drawer {
+            node,
+            part,
+            first,
+            token,
+            classes,
+            mark,
+        } => {
+            let spot = Spot {
+                part,
+                first,
+                token,
+                classes,
+                mark,
+            };
+            add_drawer(alloc, teller, desks, node, spot, edge)?;
+            Ok(others)
+        }
+        _ => add_near(alloc, teller, readers, index_read, location, others, edge),
+    }
+}
+
 // One more edge of each of these locations, of its own. The nodes whose index is among them are noted.
 fn add_each<T: Tells>(
     alloc: Global,
     teller: &T,
+    desks: &mut AllDesks,
     readers: &mut Vec<Facets>,
     index_read: &mut Vec<Node>,
     locations: &[Loc],
     edge: Edge,
 ) -> Result<(), AllocError>
-    ensures reads { Reads (T.tells teller.now) edge (map loc_view locations.now) (edges_at readers.old.items) (edges_at readers.new.items) }
-    ensures stay { OnOk result (Stays edge (edges_at readers.old.items) (edges_at readers.new.items)) }
-    ensures listed { OnOk result (AreListed edge (map loc_view locations.now) (edges_at readers.new.items)) }
+    ensures reads { Reads (T.tells teller.now) edge (map loc_view locations.now)
+        (own_edges desks.old.entries readers.old.items) (own_edges desks.new.entries readers.new.items) }
+    ensures stay { OnOk result (Stays edge (own_edges desks.old.entries readers.old.items) (own_edges desks.new.entries readers.new.items)) }
+    ensures listed { OnOk result (AreListed edge (map loc_view locations.now) (own_edges desks.new.entries readers.new.items)) }
     ensures noted { AreNoted (edges_at readers.old.items) index_read.old.items → AreNoted (edges_at readers.new.items) index_read.new.items }
     ensures short { length readers.old.items ≤ 2 ^ 32 → length readers.new.items ≤ 2 ^ 32 }
 {
     let mut rest = locations;
     while let Some((location, others)) = rest.split_first() {
-        note(readers.as_slice(), index_read, *location)?;
-        let (facet, left) = first_facet(*location, others)?;
-        add_reader(alloc, teller, readers, location.node(), facet, edge)?;
-        rest = left;
+        rest = add_first(
+            alloc, teller, desks, readers, index_read, *location, others, edge,
+        )?;
     }
     Ok(())
 }
@@ -467,17 +538,27 @@ fn add_own<T: Tells>(
     ensures listed { OnOk result (AreListed edge (map loc_view locations.now) (edges_to readers.new)) }
     ensures noted { AreNoted (edges_to readers.old) index_read.old.items → AreNoted (edges_to readers.new) index_read.new.items }
 {
-    add_each(alloc, teller, &mut readers.own, index_read, locations, edge)
+    add_each(
+        alloc,
+        teller,
+        &mut readers.desks,
+        &mut readers.own,
+        index_read,
+        locations,
+        edge,
+    )
 }
 
-// How many locations at the front have one facet.
+// How many locations at the front have one facet; one, where the first has none.
 fn first_width(locations: &[Loc]) -> Result<usize, AllocError>
     ensures { IfOk result (λ width. width ≤ length locations.now) }
 {
     let Some((location, others)) = locations.split_first() else {
         return Ok(0);
     };
-    let (_, left) = first_facet(*location, others)?;
+    let Ok((_, left)) = first_facet(*location, others) else {
+        return Ok(1);
+    };
     Ok(locations.len() - left.len())
 }
 

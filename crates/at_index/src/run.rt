@@ -3,8 +3,10 @@
 ghost use Rattle.std.specs.Prelude.{◌≡◌, ◌≤◌, ◌^◌, [], length};
 ghost use Rattle.at_index.specs.Runs.{AreSeated, lies};
 
+use crate::desk::AllDesks;
 use crate::edge::Edge;
 use crate::facet::{Facet, Facets};
+use indexmap::IndexMap;
 use std::alloc::Global;
 
 /// Where a node sits in a run, at which place, from 1 on, and what is looked at of it there. At place 0 it sits nowhere.
@@ -35,6 +37,8 @@ pub struct Run {
 pub struct AllReaders {
     /// Edges of one location each, by the numbers of nodes.
     pub own: Vec<Facets>,
+    /// Edges of drawers, by nodes.
+    pub desks: AllDesks,
     /// Where nodes sit, by their numbers.
     pub seats: Vec<Seat>,
     pub runs: Vec<Run>,
@@ -69,10 +73,12 @@ impl AllReaders {
     /// None yet.
     pub fn new(alloc: Global) -> AllReaders
         ensures own { result.own.items ≡ [] }
+        ensures desks { result.desks.entries ≡ [] }
         ensures seats { result.seats.items ≡ [] }
     {
         AllReaders {
             own: Vec::new(alloc),
+            desks: IndexMap::new(alloc),
             seats: Vec::new(alloc),
             runs: Vec::new(alloc),
         }

@@ -205,7 +205,9 @@ pub fn sit_all<T: Tells>(
 {
     let mut rest = locations;
     while let Some((location, others)) = rest.split_first() {
-        let (facet, left) = first_facet(*location, others)?;
+        let Ok((facet, left)) = first_facet(*location, others) else {
+            return Ok(());
+        };
         if !facet.is_of_element() {
             return Ok(());
         }

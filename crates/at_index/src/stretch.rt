@@ -88,7 +88,9 @@ fn follow<'a>(
     let mut last = behind;
     let mut rest = locations;
     while let Some((location, others)) = rest.split_first() {
-        let (facet, left) = first_facet(*location, others)?;
+        let Ok((facet, left)) = first_facet(*location, others) else {
+            return Ok((last, rest));
+        };
         let Some(place) = last.checked_add(1) else {
             return Ok((last, rest));
         };

@@ -7,6 +7,9 @@ use Rattle.at_rules.specs.declared.body.Operator.{Operator}
 use Rattle.at_rules.specs.declared.body.Operator.TheVariants as operator
 use Rattle.at_rules.specs.declared.body.Order.{Order}
 use Rattle.at_rules.specs.declared.body.Order.TheVariants as order
+use Rattle.at_class.specs.Keys.{key_view}
+use Rattle.at_rules.specs.declared.body.Sought.{Sought}
+use Rattle.at_rules.specs.declared.body.Sought.TheVariants as sought
 use Rattle.at_rules.specs.declared.body.Kind.{Kind}
 use Rattle.at_rules.specs.declared.body.Kind.TheVariants as kind
 use Rattle.at_rules.specs.declared.body.Body.{Body, Row_of-Body, end_of-Body, more_of-Body}
@@ -36,6 +39,11 @@ abbrev pub is_numeric : Kind → Bool
 is_numeric kind.Int = true
 is_numeric kind.Bool = true
 is_numeric k = false
+
+-- the text that is looked for
+abbrev pub sought_view : Sought → Expr
+sought_view (sought.Text text) = TextLiteral (string_bytes text)
+sought_view (sought.Name i) = model.Name i
 
 abbrev mutual
   pub body_view : Body → Expr
@@ -70,6 +78,8 @@ abbrev mutual
   body_view (body.Exists' p a part q b) = model.Exists (body_view a) part (body_view b)
   body_view (body.First' p a part q b) = model.First (body_view a) part (body_view b)
   body_view (body.Sum' p a part q b) = model.Sum (body_view a) part (body_view b)
+  body_view (body.SeekAny' p a look q b) = model.SeekAny (body_view a) look.value.part (key_view look.value.key) (sought_view look.value.sought) (body_view b)
+  body_view (body.SeekFirst' p a look q b) = model.SeekFirst (body_view a) look.value.part (key_view look.value.key) (sought_view look.value.sought) (body_view b)
 
   pub row_view : {m : _} → Row_of-Body m → Exprs
   row_view end_of-Body = no_exprs

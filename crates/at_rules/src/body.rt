@@ -1,7 +1,7 @@
 //! The bodies of equations, and the kinds of their values.
 
 use crate::attribute::AttrId;
-use at_class::ClassId;
+use at_class::{ClassId, Key};
 
 /// The operators on two ints that give an int.
 #[derive(Clone, Copy, Debug, PartialEq, Eq)]
@@ -29,6 +29,21 @@ pub enum Kind {
     Bool,
     Text,
     Class(ClassId),
+}
+
+/// A text that elements are looked for by: a literal, or what a name stands for.
+#[derive(Drop)]
+pub enum Sought {
+    Text(String),
+    Name(usize),
+}
+
+/// Which elements of a list are looked for: those of the component that stand under the mark of the text.
+#[derive(Drop)]
+pub struct Lookup {
+    pub part: u8,
+    pub key: Key,
+    pub sought: Sought,
 }
 
 /// The body of an equation, all of whose kinds are right. A component, an attribute and a class are
@@ -82,4 +97,8 @@ pub enum Body {
     First(Box<Body>, usize, Box<Body>),
     /// The sum of what the body is for the elements of a list.
     Sum(Box<Body>, usize, Box<Body>),
+    /// Whether the body is true of an element that is looked for.
+    SeekAny(Box<Body>, Box<Lookup>, Box<Body>),
+    /// The first element that is looked for of which the body is true, or null.
+    SeekFirst(Box<Body>, Box<Lookup>, Box<Body>),
 }

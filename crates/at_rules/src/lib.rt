@@ -25,7 +25,7 @@ mod names;
 mod rules;
 
 pub use attribute::AttrId;
-pub use body::{Body, Kind, Operator, Order};
+pub use body::{Body, Kind, Lookup, Operator, Order, Sought};
 pub use first_named::FirstNamed;
 pub use names::{number_for, number_of};
 pub use rules::{Attribute, Equations, Rules};

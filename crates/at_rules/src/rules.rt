@@ -163,6 +163,26 @@ impl Rules {
         }
     }
 
+    /// The classes, the names by their numbers, and the attributes and equations: what rules are made of.
+    pub fn into_parts(self) -> (ClassTable, IndexSet<String>, Equations)
+        ensures classes { result.0 ≡ self.classes }
+        ensures attributes { map (attribute_view result.1.keys) result.2.attributes.entries ≡ self.attributes }
+        ensures own { map own_view result.2.own.entries ≡ self.own }
+        ensures inherited { map (inherited_view result.1.keys) (named result.1.keys result.2.inherited.entries) ≡ self.inherited }
+    {
+        let Rules {
+            classes,
+            names,
+            guesses: _,
+            equations,
+            bodies: _,
+            declared: _,
+            holders: _,
+            counted: _,
+        } = self;
+        (classes, names, equations)
+    }
+
     /// The classes.
     pub fn classes(&self) -> &ClassTable
         ensures { result.now ≡ self.now.classes }

@@ -3,6 +3,7 @@
 ghost use Rattle.at_store.specs.Shown.{IsIdle};
 
 use crate::rows::holds_at;
+use crate::samples::{GRAMMAR, TREE};
 use crate::stores::{classes, loaded};
 use at_body::{Arguments, Binary, Fold, Reads, Stack, Value};
 use at_evaluate::{Here, Next, Stop, asked_of_each, compare, settle, with_two};
@@ -165,8 +166,8 @@ fn look_at_calls(rt: &impl Abort, alloc: Global) {
 
 #[test]
 fn values_are_as_the_rows_tell(rt: HostRuntime) {
-    let classes = classes(&rt, rt.alloc());
-    let store = loaded(&rt, rt.alloc(), &classes);
+    let classes = classes(&rt, rt.alloc(), GRAMMAR);
+    let store = loaded(&rt, rt.alloc(), &classes, TREE);
     look_at_ints(&rt, rt.alloc(), &store);
     look_at_elements(&rt, rt.alloc(), &store);
     look_at_tokens(&rt, rt.alloc(), &store);

@@ -5,7 +5,7 @@ use crate::keepers::compared::KeepCompared;
 use crate::keeping::{Act, How, Of, Sight, is_done};
 use crate::rows::holds_at;
 use Act::{Blocked, Look, Put, Refuse, See, Settle, Touch, Worked};
-use Of::{Class, Index, Parent, Slot, Token};
+use Of::{Class, Drawer, Index, Parent, Slot, Token};
 use Sight::{Kept, Nothing, Stands};
 use at_cache::{KeepInTurns, KeepRecorded, Order};
 use at_evict::Bounded;
@@ -91,6 +91,31 @@ const LINKS: &[Act] = &[
 /// Twice as many as a keeper of few has.
 const LONG_CHAIN: &[Act] = &[
     Put(0, Some(0), &[]),
+    Put(1, Some(1), &[0]),
+    Put(2, Some(2), &[1]),
+    Put(3, Some(3), &[2]),
+    Put(4, Some(4), &[3]),
+    Put(5, Some(5), &[4]),
+    Put(6, Some(6), &[5]),
+    Put(7, Some(7), &[6]),
+];
+
+/// The same of drawers as of few others, among more that one node has.
+const DRAWERS: &[Act] = &[
+    Look(
+        0,
+        &[Class, Drawer(0, 1), Drawer(0, 2), Drawer(1, 3), Token(2)],
+        &[],
+    ),
+    Look(1, &[Drawer(0, 2)], &[]),
+];
+
+/// The first looked at a drawer, and the second uses it.
+const DRAWN: &[Act] = &[Look(0, &[Drawer(0, 1)], &[]), Put(1, Some(6), &[0])];
+
+/// The first of a long chain looked at drawers alone.
+const DRAWN_CHAIN: &[Act] = &[
+    Look(0, &[Drawer(0, 2)], &[]),
     Put(1, Some(1), &[0]),
     Put(2, Some(2), &[1]),
     Put(3, Some(3), &[2]),
@@ -448,6 +473,79 @@ const SCRIPTS: &[Script] = &[
     },
 ];
 
+/// The same of drawers: a table of its own, since one with all rows takes the prover too long.
+const OF_DRAWERS: &[Script] = &[
+    // What is looked at of drawers rests on those alone, by component and mark, however an edit names them.
+    Script {
+        ways: KEEPING,
+        front: DRAWERS,
+        ends: &[
+            &[Touch(0, Class), See(&[Nothing, Kept(7)])],
+            &[Touch(0, Drawer(0, 1)), See(&[Nothing, Kept(7)])],
+            &[Touch(0, Drawer(0, 2)), See(&[Nothing, Kept(7)])],
+            &[Touch(0, Drawer(1, 3)), See(&[Nothing, Kept(7)])],
+            &[Touch(0, Token(2)), See(&[Nothing, Kept(7)])],
+            &[Touch(1, Drawer(0, 2)), See(&[Kept(7), Nothing])],
+            &[
+                Touch(0, Drawer(1, 1)),
+                Touch(0, Drawer(0, 3)),
+                Touch(0, Slot),
+                Touch(1, Drawer(0, 1)),
+                See(&[Kept(7), Kept(7)]),
+            ],
+        ],
+    },
+    // What entries are folded into goes with the drawers at which these looked.
+    Script {
+        ways: FEW_AT_MOST,
+        front: DRAWN_CHAIN,
+        ends: &[
+            &[
+                Touch(0, Drawer(0, 1)),
+                Touch(0, Drawer(1, 2)),
+                See(&[
+                    Nothing,
+                    Nothing,
+                    Kept(2),
+                    Nothing,
+                    Nothing,
+                    Kept(5),
+                    Nothing,
+                    Kept(7),
+                ]),
+            ],
+            &[
+                Touch(0, Drawer(0, 2)),
+                See(&[
+                    Nothing, Nothing, Nothing, Nothing, Nothing, Nothing, Nothing, Nothing,
+                ]),
+            ],
+        ],
+    },
+    // What is kept again, where what it used looked at a drawer.
+    Script {
+        ways: AGAIN,
+        front: DRAWN,
+        ends: &[
+            &[
+                Touch(0, Drawer(0, 1)),
+                See(&[Nothing, Nothing]),
+                Look(0, &[Drawer(0, 1)], &[]),
+                Settle(1),
+                Worked(1),
+                See(&[Kept(7), Kept(6)]),
+            ],
+            &[
+                Touch(0, Drawer(0, 1)),
+                Put(0, Some(5), &[]),
+                Settle(1),
+                Worked(0),
+                See(&[Kept(5), Nothing]),
+            ],
+        ],
+    },
+];
+
 /// A bound, if it is one, acts on a keeper with it, and how many entries are in memory then.
 const COUNTS: &[(Option<usize>, &[Act], &[Act], usize)] = &[
     (None, CHAIN, &[], 3),
@@ -563,19 +661,25 @@ fn count_of(
     None
 }
 
-#[test]
-fn keepers_keep_and_forget_what_they_are_said_to(rt: HostRuntime) {
-    for (row, script) in SCRIPTS.iter().enumerate() {
+/// Each row goes as told with each of its keepers.
+fn go_over(rt: &impl Abort, alloc: Global, scripts: &[Script]) {
+    for (row, script) in scripts.iter().enumerate() {
         for way in script.ways {
             for end in script.ends {
-                holds_at(
-                    &rt,
-                    row,
-                    goes_with(&rt, rt.alloc(), *way, script.front, end),
-                );
+                holds_at(rt, row, goes_with(rt, alloc, *way, script.front, end));
             }
         }
     }
+}
+
+#[test]
+fn keepers_keep_and_forget_what_they_are_said_to(rt: HostRuntime) {
+    go_over(&rt, rt.alloc(), SCRIPTS);
+}
+
+#[test]
+fn keepers_keep_and_forget_by_drawers(rt: HostRuntime) {
+    go_over(&rt, rt.alloc(), OF_DRAWERS);
 }
 
 #[test]

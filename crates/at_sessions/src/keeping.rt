@@ -4,6 +4,7 @@ ghost use Rattle.std.specs.Prelude.{◌≡◌, true};
 
 use at_body::{Arguments, Inst, Value};
 use at_cache::{Keeper, Order};
+use at_class::Key;
 use at_evict::Bounded;
 use at_rules::AttrId;
 use at_store::{Loc, Node, Places};
@@ -18,6 +19,8 @@ pub enum Of {
     Slot,
     Parent,
     Index,
+    /// The drawer of that component under that mark.
+    Drawer(u8, u32),
 }
 
 /// An entry: its node, its value, if it has one, and what it looked at there; and the nodes of those that it uses.
@@ -31,6 +34,16 @@ struct Entry<'a> {
 
 /// What an entry of a row looks at of its node.
 const OWN: &[Of] = &[Of::Token(0)];
+
+/// What the elements in drawers have.
+const KEY: Key = Key {
+    first: 0,
+    token: 0,
+    classes: 1,
+};
+
+/// The drawers under this mark are flushed as those of a node in whose elements a token changes; others with all of their node.
+const KEYED: u32 = 1;
 
 /// What is seen of a node.
 #[derive(Clone, Copy, PartialEq, Eq)]
@@ -87,6 +100,15 @@ pub fn location(node: usize, of: Of) -> Loc {
         Of::Slot => Loc::Slot(node, 0),
         Of::Parent => Loc::Up(node),
         Of::Index => Loc::Idx(node),
+        Of::Drawer(part, mark) => Loc::drawer(node, part, KEY, mark),
+    }
+}
+
+/// The node of which a flush goes over the drawers alone, where it does so.
+fn keyed(touched: &Loc) -> Option<Node> {
+    match touched {
+        Loc::Drawer { node, mark, .. } if *mark == KEYED => Some(*node),
+        _ => None,
     }
 }
 
@@ -116,11 +138,17 @@ pub fn flush_one<K: Bounded>(keeper: &mut K, most: Option<usize>, touched: Loc) 
     if let Some(most) = most {
         keeper.fit(most);
     }
+    let keyed = keyed(&touched);
     let places = Places {
         leaving: &[],
-        moved: Some(touched.node()),
+        moved: if keyed.is_some() {
+            None
+        } else {
+            Some(touched.node())
+        },
         target: None,
         source: None,
+        keyed,
     };
     keeper.flush(
         &places,

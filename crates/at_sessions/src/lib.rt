@@ -1,5 +1,5 @@
 //! Tests of what no session of the program shows: lines and turns one by one, a writer that can't flush, reads that are
-//! counted, aspects as they are read, a store; keepers by themselves, and beside plain models, also over lines by chance;
+//! counted, aspects as they are read, a store and its drawers; keepers by themselves, and beside plain models, also over lines by chance;
 //! what is derived, components, and searches over formulas, found by hand.
 //!
 //! **Where to begin:** `turns.rt` has lines and turns as rows of a table. A test that a page can show stands on a page,
@@ -17,6 +17,8 @@ mod circular_texts;
 mod constant_texts;
 #[cfg(test)]
 mod cutting;
+#[cfg(test)]
+mod drawers;
 #[cfg(test)]
 mod failing;
 #[cfg(test)]

@@ -86,6 +86,7 @@ pub fn files(rt: &impl Abort, alloc: Global, sample: &Sample) -> Files {
         aspects,
         nodes: USUAL_NODES,
         language: Language::Profile(Forms::NONE),
+        index: false,
     }
 }
 

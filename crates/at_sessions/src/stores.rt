@@ -21,13 +21,14 @@ const NUMBERS: u32 = 12;
 
 /// How an edit that is accepted ends.
 #[derive(Clone, Copy)]
-enum End {
+pub enum End {
     Done,
     GivenUp,
 }
 
-pub fn classes(rt: &impl Abort, alloc: Global) -> ClassTable {
-    let text = from_utf8(GRAMMAR).expect(rt, "a text");
+/// The classes of a grammar.
+pub fn classes(rt: &impl Abort, alloc: Global, grammar: &[u8]) -> ClassTable {
+    let text = from_utf8(grammar).expect(rt, "a text");
     let Ok(grammar) = parse_ast(alloc, text) else {
         panic!(rt; "no grammar");
     };
@@ -38,19 +39,25 @@ pub fn classes(rt: &impl Abort, alloc: Global) -> ClassTable {
     classes
 }
 
-/// The store of the calculator's tree.
-pub fn loaded(rt: &impl Abort, alloc: Global, classes: &ClassTable) -> Store
+/// The store of a tree.
+pub fn loaded(rt: &impl Abort, alloc: Global, classes: &ClassTable, tree: &str) -> Store
     ensures idle { IsIdle result }
     ensures conforming { conforms classes.now (tree_shown result) 0 ≡ true }
 {
-    let Ok(tree) = read_tree(alloc, classes, TREE, classes.start()) else {
+    let Ok(tree) = read_tree(alloc, classes, tree, classes.start()) else {
         panic!(rt; "no tree");
     };
     Store::load(alloc, classes, tree, USUAL_NODES as usize).expect(rt, "a store")
 }
 
 /// The node of that path.
-fn node_at(rt: &impl Abort, alloc: Global, classes: &ClassTable, store: &Store, text: &str) -> Node
+pub fn node_at(
+    rt: &impl Abort,
+    alloc: Global,
+    classes: &ClassTable,
+    store: &Store,
+    text: &str,
+) -> Node
     requires idle { IsIdle store.now }
     ensures { is_some (path_shown store.now result) ≡ true }
 {
@@ -98,7 +105,7 @@ fn touched(
 }
 
 /// Which of the locations the edit touches, before it is done or given up; or why it is refused.
-fn tried(
+pub fn tried(
     alloc: Global,
     classes: &ClassTable,
     store: &mut Store,
@@ -136,8 +143,8 @@ struct Dropped {
 /// Drops the declaration, or gives that up. Where it is dropped, the children of the block, the indexes of its elements, and all of
 /// the declaration and its number is touched; and the other statement's class and parent aren't.
 fn drop_declaration(rt: &impl Abort, alloc: Global, end: End) -> Dropped {
-    let classes = classes(rt, alloc);
-    let mut store = loaded(rt, alloc, &classes);
+    let classes = classes(rt, alloc, GRAMMAR);
+    let mut store = loaded(rt, alloc, &classes, TREE);
     let before = shown(rt, alloc, &classes, &store);
     let block = node_at(rt, alloc, &classes, &store, "/Block");
     let number = node_at(rt, alloc, &classes, &store, "/Block/Stmt:0/Init");

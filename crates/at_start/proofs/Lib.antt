@@ -21,6 +21,9 @@ mod SpreadForms
 mod ApartInts
 mod JavaFits
 mod RulesTyped
+mod SameRuns
+mod Served
+mod Opened
 pub mod WholeLemmas
 mod OneMeaning
 mod OneOutput

@@ -15,9 +15,10 @@ use Rattle.at_engine.specs.Taking.{wants}
 use Rattle.at_engine.specs.declared.engine.Engine.{Engine}
 use Rattle.at_engine.specs.declared.stream.desk.Report.{Report}
 use Rattle.at_engine.specs.declared.stream.desk.RunFault.{RunFault}
-use Rattle.at_start.specs.Starts.{Starts, opening}
+use Rattle.at_start.specs.Starts.{IsStarted, opening}
 use Rattle.at_start.specs.Whole.{Answers, IsWithinMemory, MeansOutput, RunsFiles}
 use Rattle.at_start.specs.declared.files.Files.{Files}
+use Rattle.at_start.proofs.Served.{served_ran}
 use Rattle.at_start.specs.declared.serving.Answered.{Answered}
 
 -- all known bytes were read
@@ -81,23 +82,26 @@ spare_set {K} entries made set is none spare = record {
 
 -- the run over an engine that files make, with so many turns behind each line
 pub answers_by : {K : Type 0} (files : Files) (slice : ℕ) (made set new : Engine K) (run : Result Report RunFault)
-    (readable left before after : Option (List ℕ)) → IsSet made set → slice_of set ≡ slice → Starts files (rules_of made) (state_of made)
+    (readable left before after : Option (List ℕ)) → IsSet made set → slice_of set ≡ slice → IsStarted files (rules_of made) (state_of made)
     → Ran max_reads run (rules_of set) (slice_of set) (state_of set) (state_of new) readable left before after
     → Answers files slice run readable left before after
-answers_by {K} files slice made set new run readable left before after is turns starts ran = record {
-  rules = rules_of set;
-  old = state_of set;
-  new = state_of new;
-  starts = subst (λ (e : Engine K). Starts files (rules_of e) (state_of e)) (sym is) starts;
-  ran = subst (λ (n : ℕ). Ran max_reads run (rules_of set) n (state_of set) (state_of new) readable left before after) turns ran;
-}
+answers_by {K} files slice made set new run readable left before after is turns started ran =
+    let s = subst (λ (e : Engine K). IsStarted files (rules_of e) (state_of e)) (sym is) started in
+    let by = subst (λ (n : ℕ). Ran max_reads run (rules_of set) n (state_of set) (state_of new) readable left before after) turns ran in record {
+      rules = s.rules;
+      old = state_of set;
+      new = state_of new;
+      starts = s.starts;
+      ran = served_ran files.index s.rules (rules_of set) s.served s.well_formed s.classes slice max_reads run (state_of set) (state_of new)
+          readable left before after s.stands by;
+    }
 
 -- so all that the run promises holds of it
 pub runs_by : {K R W : Type 0} (entries : K → Entries) (memories : K → Memories)
     (remaining : R → Option (List ℕ)) (misread ending : R → Option Bool) (count : R → Option ℕ) (contents : W → Option (List ℕ))
     (failure : W → Option Bool) (waiting : W → Bool) (files : Files) (slice : ℕ) (most : Option ℕ) (gathers : Bool) (made set : Engine K)
     (reader left : R) (writer later : W)
-    (answered : Answered K) → IsSet made set → slice_of set ≡ slice → most_of set ≡ most → Starts files (rules_of made) (state_of made)
+    (answered : Answered K) → IsSet made set → slice_of set ≡ slice → most_of set ≡ most → IsStarted files (rules_of made) (state_of made)
     → IsSpare entries made → work_of made ≡ 0 → made_of made ≡ 0
     → RunsFor entries memories remaining misread ending count contents failure waiting max_reads gathers set
     answered.engine reader left writer later answered.run
@@ -106,7 +110,7 @@ pub runs_by : {K R W : Type 0} (entries : K → Entries) (memories : K → Memor
 runs_by {K} entries memories remaining misread ending count contents failure waiting files slice most gathers made set
     reader left writer later answered is turns bound starts spare idle fresh runs = record {
       made = set;
-      starts = subst (λ (e : Engine K). Starts files (rules_of e) (state_of e)) (sym is) starts;
+      starts = subst (λ (e : Engine K). IsStarted files (rules_of e) (state_of e)) (sym is) starts;
       spare = λ none. spare_set entries made set is (bound ∙ none) spare;
       idle = ap work_of is ∙ idle;
       fresh = ap made_of is ∙ fresh;

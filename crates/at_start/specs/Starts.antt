@@ -1,9 +1,13 @@
 -- What files make: an engine, or the first fault in the order grammar, aspects, tree.
-use Rattle.std.specs.Prelude.{◌≡◌, ℕ, ◌+◌, List, [], length, map, Option, Some, None}
+use Rattle.std.specs.Prelude.{◌≡◌, ℕ, ◌+◌, Bool, true, false, List, [], length, map, Option, Some, None}
 use Rattle.at_model.specs.Declarations.{Declarations}
 use Rattle.at_model.specs.Trees.{Tree}
 use Rattle.at_model.specs.Rules.{Rules}
+use Rattle.at_model.specs.WellFormed.{AreWellFormed}
+use Rattle.at_model.specs.Classes.{AreSound}
 use Rattle.at_model.specs.Machine.{State}
+use Rattle.at_seek.specs.Sought.{IsSought}
+use Rattle.at_seek.specs.Standing.{Stands}
 use Rattle.at_text.specs.declared.place.Place.{Place}
 use Rattle.at_cache.specs.Keeping.{recorded_by, remembered_by}
 use Rattle.at_cache.specs.declared.keep_recorded.KeepRecorded.{KeepRecorded}
@@ -30,7 +34,7 @@ opening limit t = record { tree = t; limit = limit; version = 0; marks = []; pos
 abbrev pub IsReady : Engine KeepRecorded → Type 0
 IsReady e = IsSound recorded_by remembered_by e
 
--- the files give these rules, and the engine that they make is in this state
+-- the files give these rules, and an engine that they make is in this state
 pub record Starts (files : Files) (rules : Rules) (state : State) : Type 0 where
   pub declarations : Declarations
   pub grammar : GivesGrammar files.grammar.bytes.items declarations
@@ -38,6 +42,22 @@ pub record Starts (files : Files) (rules : Rules) (state : State) : Type 0 where
   pub opened : Tree
   pub tree : GivesTree rules.classes files.nodes files.tree.bytes.items opened
   pub state_is : state ≡ opening files.nodes opened
+
+-- the rules by which questions are answered: those that files give; or, where names are looked up by key, these with searches in the
+-- place of folds
+abbrev pub AreServed : (index : Bool) → (rules also : Rules) → Type 0
+AreServed false rules also = also ≡ rules
+AreServed true rules also = IsSought rules also
+
+-- The engine that the files make answers by these rules, and is in this state. The rules that they give are well formed, over sound
+-- classes, and so is the state.
+pub record IsStarted (files : Files) (also : Rules) (state : State) : Type 0 where
+  pub rules : Rules
+  pub starts : Starts files rules state
+  pub served : AreServed files.index rules also
+  pub well_formed : AreWellFormed rules
+  pub classes : AreSound rules.classes
+  pub stands : Stands rules.classes state
 
 -- The file of that number is the first that is refused, by the code and at the place; a tree file's fault has none.
 pub data Refuses (files : Files) : (file : ℕ) → Code → Option Place → Type 0 where
@@ -51,7 +71,7 @@ pub data Refuses (files : Files) : (file : ℕ) → Code → Option Place → Ty
 -- all but the bytes of the tree is as it was, and so each name
 abbrev pub AreSameButTree : (before later : Files) → Type 0
 AreSameButTree before later = (later.grammar ≡ before.grammar) × (later.aspects ≡ before.aspects) × (later.tree.name ≡ before.tree.name)
-    × (later.nodes ≡ before.nodes) × (later.language ≡ before.language)
+    × (later.nodes ≡ before.nodes) × (later.language ≡ before.language) × (later.index ≡ before.index)
 
 -- the fault is the first one of the files; of want of memory nothing is said
 abbrev pub IsStartFault : Files → StartFault → Type 0

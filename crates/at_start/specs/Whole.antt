@@ -18,7 +18,7 @@ use Rattle.at_start.specs.AspectFiles.{GivesRules}
 use Rattle.at_cache.specs.Traced.{Memories}
 use Rattle.at_start.specs.GrammarFiles.{GivesGrammar}
 use Rattle.at_start.specs.TreeFiles.{GivesTree}
-use Rattle.at_start.specs.Starts.{Starts, IsStartFault, aspect_bytes, opening}
+use Rattle.at_start.specs.Starts.{Starts, IsStarted, IsStartFault, aspect_bytes, opening}
 use Rattle.at_start.specs.declared.files.Files.{Files}
 use Rattle.at_start.specs.declared.fault.StartFault.{StartFault}
 use Rattle.at_start.specs.declared.serving.Answered.{Answered}
@@ -39,7 +39,7 @@ pub record RunsFiles {K R W : Type 0} (entries : K → Entries) (memories : K �
     (failure : W → Option Bool) (waiting : W → Bool) (files : Files) (slice : ℕ) (most : Option ℕ) (gathers : Bool)
     (reader left : R) (writer later : W) (answered : Answered K) : Type 0 where
   pub made : Engine K
-  pub starts : Starts files (rules_of made) (state_of made)
+  pub starts : IsStarted files (rules_of made) (state_of made)
   pub spare : most ≡ None → IsSpare entries made
   pub idle : work_of made ≡ 0
   pub fresh : made_of made ≡ 0

@@ -34,6 +34,8 @@ pub struct Files {
     pub nodes: u32,
     /// The language that the aspects are written in.
     pub language: Language,
+    /// Whether folds over lists may be searches: what is looked up by a text is then found by key.
+    pub index: bool,
 }
 
 /// The text of a file that may have so many bytes, or the code for a file that is too long, or for one that is no UTF-8.

@@ -22,7 +22,7 @@ ghost use Rattle.at_cache.specs.Keeping.{recorded_by};
 ghost use Rattle.at_engine.specs.Engines.{rules_of, slice_of, state_of, IsSound, KeepsNothing};
 ghost use Rattle.at_engine.specs.Keeping.{IsSpare, work_of};
 ghost use Rattle.at_engine.specs.Making.{made_of};
-ghost use Rattle.at_start.specs.Starts.{AreSameButTree, Starts, IsReady, IsStartFault};
+ghost use Rattle.at_start.specs.Starts.{AreSameButTree, IsReady, IsStartFault, IsStarted};
 
 mod aspects;
 mod code;
@@ -38,6 +38,7 @@ mod null_calls;
 mod overloaded;
 pub mod overloaded_cases;
 mod redeclared;
+mod searches;
 mod serving;
 mod tree;
 
@@ -55,6 +56,7 @@ use fault::{of_file, of_tree};
 pub use files::{Files, MAX_FILE, Source, tree_bytes};
 use grammar::declared_by;
 pub use language::Language;
+use searches::served;
 pub use serving::{Answered, answer};
 use std::alloc::Global;
 use tree::tree_of;
@@ -66,7 +68,7 @@ use tree::tree_of;
 ///
 /// `Refused` for the first file that is refused, `Memory` for want of memory.
 pub fn start(alloc: Global, files: &mut Files) -> Result<Engine<KeepRecorded>, StartFault>
-    ensures started { IfOk result (λ e. Starts files.old (rules_of e) (state_of e)) }
+    ensures started { IfOk result (λ e. IsStarted files.old (rules_of e) (state_of e)) }
     ensures ready { IfOk result IsReady }
     ensures spare { IfOk result (IsSpare recorded_by) }
     ensures work { IfOk result (λ e. work_of e ≡ 0) }
@@ -89,7 +91,7 @@ pub fn start_with<K: Bounded>(
     keeper: K,
 ) -> Result<Engine<K>, StartFault>
     requires { KeepsNothing K.contents K.memories keeper }
-    ensures started { IfOk result (λ e. Starts files.old (rules_of e) (state_of e)) }
+    ensures started { IfOk result (λ e. IsStarted files.old (rules_of e) (state_of e)) }
     ensures ready { IfOk result (IsSound K.contents K.memories) }
     ensures spare { IfOk result (IsSpare K.contents) }
     ensures work { IfOk result (λ e. work_of e ≡ 0) }
@@ -103,6 +105,7 @@ pub fn start_with<K: Bounded>(
         Err(fault) => return Err(of_file(0, fault)),
     };
     let rules = rules_of(alloc, declared, files.language, &files.aspects)?;
+    let rules = served(alloc, rules, files.index);
     let file = files.aspects.len() + 1;
     let tree = match tree_of(alloc, rules.classes(), files.nodes, &files.tree.bytes) {
         Ok(tree) => tree,

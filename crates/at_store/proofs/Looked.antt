@@ -5,12 +5,15 @@ use Rattle.std.specs.List.{slice_get}
 use Rattle.at_model.specs.Trees.{Tree, Cell, One, Many, Empty, Filled, Holds, Token, class_of, cells_of, children, from_cells, from_trees}
 use Rattle.at_model.specs.Trees as trees
 use Rattle.at_model.specs.Paths.{Node, tree_at, cell_at, children_at, parent_of}
+use Rattle.at_model.specs.Drawers.{Key, stands_under}
 use Rattle.at_model.specs.Run.{Is, Tok, Slot, Up, Idx}
+use Rattle.at_model.specs.Seeking.{is_in_drawer}
 use Rattle.at_model.specs.Meaning.{token_in, child_nodes, content}
 use Rattle.at_model.proofs.of_edits.Untouched.{in_cell as kids}
 use Rattle.at_model.proofs.WithinTree.{tree_at-snoc}
 use Rattle.at_store.specs.Numbers.{path_in, number_at, relabel, relabel_cell, contents}
 use Rattle.at_store.specs.Memory.{Info, kept, kept_of, Place, top, place_at, Keeps, class_in, up_in, index_in, numbers_in, token_kept, kids_in, token_in_cell}
+use Rattle.at_store.specs.Marked.{told}
 use Rattle.at_store.proofs.Found.{number_found}
 use Rattle.at_store.proofs.Relabelled.{relabel-class, relabelled-tree_at, relabelled-cell_at, relabelled-children_at}
 
@@ -19,7 +22,7 @@ kept_at [] part = refl
 kept_at (c ∷ cs) zero = refl
 kept_at (c ∷ cs) (suc part) = kept_at cs part
 
-same_token : (f : ℕ → ℕ) (o : Option Cell) → token_kept (option_map kept o) ≡ token_in (option_map (relabel_cell f) o)
+pub same_token : (f : ℕ → ℕ) (o : Option Cell) → token_kept (option_map kept o) ≡ token_in (option_map (relabel_cell f) o)
 same_token f None = refl
 same_token f (Some (One t)) = refl
 same_token f (Some (Many ts)) = refl
@@ -117,3 +120,6 @@ module _ (memory : ℕ → Option Info) (s : Tree) (h : Keeps memory s None) whe
 
   pub index_is : (k : ℕ) → index_in (memory k) ≡ contents s tree (Idx k)
   index_is k = by_path index_in 0 (λ n. content tree (Idx n)) k refl (λ n u i e is number here up index cells. index ∙ index_shown s (parent_of n))
+
+  pub drawn_is : (key : Key) (mark : ℕ) → is_in_drawer (told memory) key mark ≡ is_in_drawer (contents s tree) key mark
+  drawn_is key mark = λ i k. stands_under key mark (class_is k i) (token_is k key.token i)

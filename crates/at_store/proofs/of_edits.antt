@@ -5,6 +5,7 @@ pub mod Moved
 pub mod Lifted
 pub mod Taking
 pub mod Touched
+pub mod Shifted
 pub mod Stored
 pub mod Renumbered
 pub mod Changed
@@ -15,6 +16,7 @@ pub mod Removed
 pub mod Taken
 pub mod Replaced
 pub mod TouchesTold
+pub mod ShiftsTold
 pub mod Checked
 pub mod Accepted
 pub mod Room

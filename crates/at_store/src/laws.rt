@@ -2,15 +2,17 @@
 
 ghost use Rattle.std.specs.Prelude.{◌≡◌, nat_eq, ℕ, Bool, Some, None, Ok, true, option_and_then};
 ghost use Rattle.at_model.specs.Classes.{Classes};
+ghost use Rattle.at_model.specs.Drawers.{Key};
 ghost use Rattle.at_model.specs.Trees.{Tree, class_of, conforms};
 ghost use Rattle.at_model.specs.Paths.{Node, tree_at};
 ghost use Rattle.at_model.specs.Run.{Location};
 ghost use Rattle.at_model.specs.Meaning.{content};
 ghost use Rattle.at_model.specs.Edits.{Edit, carried, edited, left_by};
 ghost use Rattle.at_model.specs.Alike.{AlikeAt, IsInjective, LocationLike, Names};
-ghost use Rattle.at_model.specs.Touches.{touches};
+ghost use Rattle.at_model.specs.Touches.{touches_in};
 ghost use Rattle.at_store.specs.Shown.{IsIdle, Shown, contents as contents_of, path, tree};
-ghost use Rattle.at_store.specs.Touching.{AreMarked, Change, ChangeLike, change_of, touches_by};
+ghost use Rattle.at_store.specs.Shifting.{brings_of, touched_by};
+ghost use Rattle.at_store.specs.Touching.{AreMarked, Change, ChangeLike, change_of};
 ghost use Rattle.at_store.specs.Numbers.{IsApart, IsFresh, contents, path_in, path_in_new, relabel, relabel_edit};
 
 /// A number stands for at most one node, and each node has its number.
@@ -41,11 +43,12 @@ pub fn numbers_are_carried()
         → (k : ℕ) → path_in_new k e ≡ None → path_in k (left_by s e) ≡ option_and_then (carried e) (path_in k s) }
 {}
 
-/// An edit touches by numbers, where those are marked that it removes, what it touches by paths.
+/// An edit touches by numbers, where those are marked that it removes, and where it is told what comes, what it touches by paths.
 pub fn touches_by_marks()
-    ensures { (s : Tree) (class : ℕ → ℕ) → IsApart s → (leaves : ℕ → Bool) (c : Change ℕ) (e : Edit) (l : Location ℕ) (m : Location Node)
-        → ChangeLike (Names (λ k. path_in k s)) c (change_of e) → AreMarked s leaves c → LocationLike (Names (λ k. path_in k s)) l m
-        → touches_by nat_eq (contents s (relabel class s)) leaves c l ≡ touches e m }
+    ensures { (s : Tree) (class : ℕ → ℕ) → IsApart s → (leaves : ℕ → Bool) (brings : Key → ℕ → Bool) (c : Change ℕ) (e : Edit) (l : Location ℕ)
+        (m : Location Node) → ChangeLike (Names (λ k. path_in k s)) c (change_of e) → AreMarked s leaves c
+        → ((key : Key) (mark : ℕ) → brings key mark ≡ brings_of (relabel class s) e key mark) → LocationLike (Names (λ k. path_in k s)) l m
+        → touched_by nat_eq (contents s (relabel class s)) leaves brings c l ≡ touches_in (relabel class s) e m }
 {}
 
 /// The numbers of a store name the nodes of its tree, each one of them, and what it shows at each number is what the tree shows.

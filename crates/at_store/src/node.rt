@@ -1,4 +1,5 @@
 //! Nodes, and the locations that one can look at.
+use at_class::Key;
 use std::marker::Model;
 
 /// A node of a store, by its number. The number stays as long as the node does.
@@ -64,6 +65,15 @@ pub enum Loc {
     Up(Node),
     /// The index among the elements of a list.
     Idx(Node),
+    /// The children in a component that stand under a mark, of those that have a key.
+    Drawer {
+        node: Node,
+        part: u8,
+        first: u8,
+        token: u8,
+        classes: u32,
+        mark: u32,
+    },
 }
 
 impl Default for Loc {
@@ -74,8 +84,24 @@ impl Default for Loc {
 
 impl Loc {
     ghost use Rattle.std.specs.Prelude.{◌≡◌};
+    ghost use Rattle.at_model.specs.Run.{Drawer};
     ghost use Rattle.at_model.specs.Touches.{node_of};
+    ghost use Rattle.at_class.specs.Keys.{key_view};
     ghost use Rattle.at_store.specs.Located.{loc_view};
+
+    /// The children in a component of the node that stand under the mark, of those that have the key.
+    pub fn drawer(node: Node, part: u8, key: Key, mark: u32) -> Loc
+        ensures { loc_view result ≡ Drawer node part (key_view key) mark }
+    {
+        Loc::Drawer {
+            node,
+            part,
+            first: key.first,
+            token: key.token,
+            classes: key.classes,
+            mark,
+        }
+    }
 
     /// The node that is looked at.
     pub fn node(&self) -> Node
@@ -87,6 +113,7 @@ impl Loc {
             Loc::Slot(node, _) => *node,
             Loc::Up(node) => *node,
             Loc::Idx(node) => *node,
+            Loc::Drawer { node, .. } => *node,
         }
     }
 }

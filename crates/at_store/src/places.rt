@@ -1,12 +1,13 @@
 //! Where a prepared edit touches something.
-ghost use Rattle.std.specs.Prelude.{◌≡◌, ℕ, Bool, false, true, nat_eq};
+ghost use Rattle.std.specs.Prelude.{◌≡◌, ℕ, Bool, false, true, nat_eq, option_map};
 ghost use Rattle.std.specs.List.{list_any};
+ghost use Rattle.at_model.specs.Drawers.{Key};
 ghost use Rattle.at_model.specs.Run.{Location};
 ghost use Rattle.at_model.specs.Touches.{node_of};
 ghost use Rattle.at_store.specs.Marked.{change_in, told};
-ghost use Rattle.at_store.specs.Memory.{kids_in};
+ghost use Rattle.at_store.specs.Memory.{kids_in, up_in};
 ghost use Rattle.at_store.specs.Places.{IsChild, NamesAround, NamesComponent, NamesParent, named};
-ghost use Rattle.at_store.specs.Touching.{touches_by};
+ghost use Rattle.at_store.specs.Shifting.{touched_by};
 ghost use Rattle.at_store.specs.View.{memory_of};
 
 use crate::edit::Prepared;
@@ -22,7 +23,7 @@ pub struct Changing<'a> {
 }
 
 /// Nodes whose locations an edit may touch: all of those that leave, of the one that moves and of the two around the change;
-/// and the index of the children there.
+/// and the index of the children there. And a node of which an edit may touch drawers alone.
 #[derive(Clone, Copy, Debug)]
 pub struct Places<'a> {
     pub leaving: &'a [Node],
@@ -31,6 +32,8 @@ pub struct Places<'a> {
     pub target: Option<Changing<'a>>,
     /// Where something is taken away or replaced.
     pub source: Option<Changing<'a>>,
+    /// Where an element stands of which a token changes.
+    pub keyed: Option<Node>,
 }
 
 /// A component that changes: its children may get another index.
@@ -63,6 +66,16 @@ fn parent(slab: &Slab<Entry>, node: Node) -> Option<Changing>
     }
 }
 
+/// The node above a node.
+fn above(slab: &Slab<Entry>, node: Node) -> Option<Node>
+    ensures { result ≡ option_map (λ p. p.0) (up_in (memory_of slab.now node)) }
+{
+    match up_at(slab, node) {
+        Some(place) => Some(place.0),
+        None => None,
+    }
+}
+
 /// A component that changes, where nothing gets another index.
 fn alone<'a>(node: Node) -> Changing<'a>
     ensures { result.node ≡ node }
@@ -79,9 +92,9 @@ pub(crate) fn places_of<'a>(
     prepared: &Prepared,
     leaving: &'a [Node],
 ) -> Places<'a>
-    ensures { (leaves : ℕ → Bool) → ((k : ℕ) → leaves k ≡ true → list_any (nat_eq k) leaving.now ≡ true)
+    ensures { (leaves : ℕ → Bool) → ((k : ℕ) → leaves k ≡ true → list_any (nat_eq k) leaving.now ≡ true) → (brings : Key → ℕ → Bool)
         → (l : Location ℕ) → IsChild (memory_of slab.now) (node_of l) → named result l ≡ false
-        → touches_by nat_eq (told (memory_of slab.now)) leaves (change_in prepared.now) l ≡ false }
+        → touched_by nat_eq (told (memory_of slab.now)) leaves brings (change_in prepared.now) l ≡ false }
 {
     match prepared {
         Prepared::Set { node, .. } => Places {
@@ -89,36 +102,42 @@ pub(crate) fn places_of<'a>(
             moved: None,
             target: None,
             source: parent(slab, *node),
+            keyed: None,
         },
         Prepared::Put { node, .. } => Places {
             leaving,
             moved: None,
             target: Some(alone(*node)),
             source: None,
+            keyed: None,
         },
         Prepared::Drop { node } => Places {
             leaving,
             moved: None,
             target: None,
             source: around(slab, *node),
+            keyed: None,
         },
         Prepared::Insert { node, part, .. } => Places {
             leaving,
             moved: None,
             target: Some(component(slab, *node, *part as usize)),
             source: None,
+            keyed: None,
         },
         Prepared::Token { node, .. } => Places {
             leaving,
             moved: None,
             target: Some(alone(*node)),
             source: None,
+            keyed: above(slab, *node),
         },
         Prepared::Move { node, to, part, .. } => Places {
             leaving,
             moved: Some(*node),
             target: Some(component(slab, *to, *part as usize)),
             source: around(slab, *node),
+            keyed: None,
         },
     }
 }

@@ -32,7 +32,7 @@ only_the_version : takes command_line (codes "--version" ∷ files) ≡ false
 unfolding clap_on_literals
 only_the_version = refl
 
-cut_off : takes command_line (codes "--cut-off" ∷ codes "--gather" ∷ files) ≡ true
+cut_off : takes command_line (codes "--cut-off" ∷ codes "--index" ∷ codes "--gather" ∷ files) ≡ true
 unfolding clap_on_literals
 cut_off = refl
 

@@ -107,6 +107,7 @@ pub record IsFit (s : Shape) : Type 0 where
   pub keep : each_of (codes "keep") (λ r. is_range max_keep (parser_of_value r.parser)) s.rules ≡ true
   pub nodes : each_of (codes "nodes") (λ r. is_range max_nodes_asked (parser_of_value r.parser)) s.rules ≡ true
   pub cut_off : each_of (codes "cut-off") (λ r. is_bool (parser_of_value r.parser)) s.rules ≡ true
+  pub index : each_of (codes "index") (λ r. is_bool (parser_of_value r.parser)) s.rules ≡ true
   pub gather : each_of (codes "gather") (λ r. is_bool (parser_of_value r.parser)) s.rules ≡ true
   pub work : each_of (codes "work") (λ r. is_bool (parser_of_value r.parser)) s.rules ≡ true
   pub grammar : each_of (codes "GRAMMAR") needs_value s.rules ≡ true
@@ -114,10 +115,10 @@ pub record IsFit (s : Shape) : Type 0 where
   pub aspects : each_of (codes "ASPECT") needs_value s.rules ≡ true
 
 fit_before : IsFit command_line.top
-fit_before = record { plain = refl; connections = refl; slice = refl; keep = refl; nodes = refl; cut_off = refl; gather = refl; work = refl; grammar = refl; tree = refl; aspects = refl }
+fit_before = record { plain = refl; connections = refl; slice = refl; keep = refl; nodes = refl; cut_off = refl; index = refl; gather = refl; work = refl; grammar = refl; tree = refl; aspects = refl }
 
 fit_built : IsFit (built command_line).top
-fit_built = record { plain = refl; connections = refl; slice = refl; keep = refl; nodes = refl; cut_off = refl; gather = refl; work = refl; grammar = refl; tree = refl; aspects = refl }
+fit_built = record { plain = refl; connections = refl; slice = refl; keep = refl; nodes = refl; cut_off = refl; index = refl; gather = refl; work = refl; grammar = refl; tree = refl; aspects = refl }
 
 -- a number that is there is spelled within its range
 number_there : (c : Command) (f : Found) (id : Text) (most : ℕ) → ValuesPass c f → groups_of c ≡ [] → (id ≡ [] → ⊥)
@@ -149,6 +150,7 @@ whole_rows old new m same fit builds parses =
       keep = number_there new f (codes "keep") max_keep values none (λ e. cc) fit.keep;
       nodes = number_there new f (codes "nodes") max_nodes_asked values none (λ e. cc) fit.nodes;
       cut_off = flag_there new f (codes "cut-off") values none (λ e. cc) fit.cut_off;
+      index = flag_there new f (codes "index") values none (λ e. cc) fit.index;
       gather = flag_there new f (codes "gather") values none (λ e. cc) fit.gather;
       work = flag_there new f (codes "work") values none (λ e. cc) fit.work;
       grammar = value_there new f (codes "GRAMMAR") values none (λ e. cc) fit.grammar (there (codes "GRAMMAR") refl);

@@ -48,6 +48,7 @@ listed = option (codes "socket") parser.NonEmptyString
     ∷ option (codes "nodes") (parser.Signed (pos 1) (pos 16777216))
     ∷ option (codes "forms") parser.NonEmptyString
     ∷ flag (codes "cut-off")
+    ∷ flag (codes "index")
     ∷ flag (codes "gather")
     ∷ flag (codes "work")
     ∷ files (codes "GRAMMAR") 1

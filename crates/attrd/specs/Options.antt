@@ -65,6 +65,7 @@ pub record HasValues (rows : List Row) (o : Options) : Type 0 where
   pub nodes : o.nodes ≡ option_map number (one_of (codes "nodes") rows)
   pub language : o.language ≡ language_in (first_of (codes "forms") rows)
   pub cut_off : o.cut_off ≡ is_set (one_of (codes "cut-off") rows)
+  pub index : o.index ≡ is_set (one_of (codes "index") rows)
   pub gather : o.gather ≡ is_set (one_of (codes "gather") rows)
   pub work : o.work ≡ is_set (one_of (codes "work") rows)
   pub grammar : Some (string_bytes o.grammar) ≡ first_of (codes "GRAMMAR") rows
@@ -101,6 +102,7 @@ pub record IsWhole (rows : List Row) : Type 0 where
   pub keep : IfSome (one_of (codes "keep") rows) (SpellsUpTo max_keep)
   pub nodes : IfSome (one_of (codes "nodes") rows) (SpellsUpTo max_nodes_asked)
   pub cut_off : IfSome (one_of (codes "cut-off") rows) IsFlag
+  pub index : IfSome (one_of (codes "index") rows) IsFlag
   pub gather : IfSome (one_of (codes "gather") rows) IsFlag
   pub work : IfSome (one_of (codes "work") rows) IsFlag
   pub grammar : is_some (first_of (codes "GRAMMAR") rows) ≡ true

@@ -17,7 +17,7 @@ ghost use Rattle.std.specs.Option.{unwrap_or};
 ghost use Rattle.at_model.specs.Edits.{usual_nodes};
 ghost use Rattle.at_engine.specs.Engines.{most_of, rules_of, slice_of, state_of, IsSound, KeepsNothing};
 ghost use Rattle.at_engine.specs.Keeping.{IsSpare};
-ghost use Rattle.at_start.specs.Starts.{AreSameButTree, IsFaultOf, IsStartFault, Starts};
+ghost use Rattle.at_start.specs.Starts.{AreSameButTree, IsFaultOf, IsStartFault, IsStarted};
 ghost use Rattle.at_start.specs.Whole.{AnswersFiles, RunsFiles};
 
 mod door;
@@ -257,7 +257,7 @@ fn start_asked<K: Bounded>(
     keeper: K,
 ) -> Result<Engine<K>, StartFault>
     requires { KeepsNothing K.contents K.memories keeper }
-    ensures started { IfOk result (λ e. Starts files.old (rules_of e) (state_of e)) }
+    ensures started { IfOk result (λ e. IsStarted files.old (rules_of e) (state_of e)) }
     ensures sound { IfOk result (IsSound K.contents K.memories) }
     ensures slice { IfOk result (λ e. slice_of e ≡ options.now.slice) }
     ensures most { IfOk result (λ e. most_of e ≡ options.now.keep) }
@@ -364,6 +364,7 @@ fn nodes_asked(options: &Options) -> u32
 fn read_files(rt: &HostRuntime, options: &Options) -> Result<Files, Failure>
     ensures nodes { IfOk result (λ files. files.nodes ≡ unwrap_or options.now.nodes usual_nodes) }
     ensures language { IfOk result (λ files. files.language ≡ options.now.language) }
+    ensures index { IfOk result (λ files. files.index ≡ options.now.index) }
 {
     let grammar = read_file(rt, &options.grammar, MAX_FILE)?;
     let mut aspects = Vec::new(rt.alloc());
@@ -378,6 +379,7 @@ fn read_files(rt: &HostRuntime, options: &Options) -> Result<Files, Failure>
         aspects,
         nodes,
         language: options.language,
+        index: options.index,
     })
 }
 

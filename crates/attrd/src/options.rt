@@ -27,6 +27,8 @@ pub struct Options {
     pub language: Language,
     /// Whether values are verified before each turn of a posted question, too.
     pub cut_off: bool,
+    /// Whether names are looked up by key.
+    pub index: bool,
     /// Whether replies to lines that come together are sent on together.
     pub gather: bool,
     /// Whether the engine's work is printed at the end.

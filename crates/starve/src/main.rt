@@ -65,7 +65,8 @@ fn serve(rt: &HostRuntime) -> Result<(), Stop> {
         return Err(Stop::Memory);
     };
     let words: Vec<String> = words.skip(1).collect(rt.alloc())?;
-    let (language, words) = language_of(words.as_slice());
+    let (index, words) = index_of(words.as_slice());
+    let (language, words) = language_of(words);
     let [word, slice, grammar, tree, aspects @ ..] = words else {
         return Err(Stop::Fault);
     };
@@ -76,6 +77,7 @@ fn serve(rt: &HostRuntime) -> Result<(), Stop> {
         return Err(Stop::Fault);
     };
     let mut files = read_files(rt, language, grammar, tree, aspects)?;
+    files.index = index;
     let keeper = KeepRecorded::new(rt.alloc());
     if way.in_turns {
         return serve_with(rt, slice, way.most, &mut files, KeepInTurns { keeper });
@@ -96,6 +98,16 @@ fn way_of(word: &str) -> Option<Way> {
         _ => return None,
     };
     Some(Way { most, in_turns })
+}
+
+/// Whether the words say in front that names are looked up by key, and the words behind that.
+fn index_of(words: &[String]) -> (bool, &[String]) {
+    if let [option, rest @ ..] = words
+        && option.as_str() == "--index"
+    {
+        return (true, rest);
+    }
+    (false, words)
 }
 
 /// The language of aspects that the words name in front, and the words behind these.
@@ -173,6 +185,7 @@ fn read_files(
         aspects: sources,
         nodes: USUAL_NODES,
         language,
+        index: false,
     })
 }
 

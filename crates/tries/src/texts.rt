@@ -108,6 +108,7 @@ fn write_location(world: &World, loc: &Loc, out: &mut Vec<u8>) -> Result<(), All
         Loc::Slot(_, part) => ("slot ", Some(*part)),
         Loc::Up(_) => ("up ", None),
         Loc::Idx(_) => ("index ", None),
+        Loc::Drawer { part, .. } => ("drawer ", Some(*part as usize)),
     };
     out.extend_from_slice(word.as_bytes())?;
     write_node(world, loc.node(), out)?;

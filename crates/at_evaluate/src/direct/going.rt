@@ -33,6 +33,8 @@ use at_rules::{AttrId, Body};
 use at_store::{Loc, Node};
 use std::alloc::{AllocError, Global};
 
+mod seeking;
+
 // How many instances are evaluated at most, one behind the other, so that one which used them may be kept again.
 const IN_THE_WAY: usize = 16;
 
@@ -266,6 +268,9 @@ impl Direct {
             ),
             Form::Over(fold, of, part, each) => {
                 self.over(keeper, basis, level, here, fold, of, part, each, left)
+            }
+            Form::Under(fold, of, lookup, each) => {
+                self.under(keeper, basis, level, here, fold, of, lookup, each, left)
             }
             Form::Plain => here.value(basis.store, &mut level.reads, body),
         }

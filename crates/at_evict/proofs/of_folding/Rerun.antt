@@ -5,10 +5,8 @@ use Rattle.std.proofs.lemmas.Bool.{eq-eqb, le-ltb, ltb-false, and_from}
 use Rattle.std.proofs.lemmas.List.{take_more}
 use Rattle.std.proofs.lemmas.List.Elements.{Contains-append_cases, Contains-append_left, Contains-append_right, Contains-push, Contains-push_cases}
 use Rattle.std.proofs.lemmas.Option.{none-some}
-use Rattle.smallvec.specs.SmallVec.{SmallVec}
 use Rattle.at_model.specs.Run.{Location}
 use Rattle.at_index.specs.declared.edge.Edge.{Edge}
-use Rattle.at_index.specs.declared.facet.Readers.{Readers}
 use Rattle.at_index.specs.declared.run.Reach.{Reach}
 use Rattle.at_index.specs.declared.run.Run.{Run}
 use Rattle.at_index.specs.declared.run.Seat.{Seat}
@@ -17,7 +15,6 @@ use Rattle.at_cache.proofs.Users.{told_of}
 use Rattle.at_cache.specs.Info.{Memory}
 use Rattle.at_index.specs.Sameness.{node_at}
 use Rattle.at_cache.specs.Putting.{is_current}
-use Rattle.at_index.specs.Readers.{edges_at}
 use Rattle.at_index.specs.Edges.{same_edge}
 use Rattle.at_evict.specs.Rerunning.{AreRerun, Covers, GoNoFurther, IsOver, IsRerun, Reaches, is_as_wide, targets_of}
 use Rattle.at_index.specs.Runs.{AreSeated, edges_on, edges_over, edges_past, is_seen, lies}
@@ -220,12 +217,12 @@ module _ (m : Memory) (into : ℕ → List ℕ) where
       by None = refolded_none (is_current m) into
       by (Some s) = either (is_seen (node_at l) s l) (edges_on old s) (edges_on new s) (h s)
 
-  pub all_rerun : (own later : List (SmallVec Readers)) (seats : List Seat) (old new : List Run)
-      → ((l : Location ℕ) → Refolded (is_current m) into (edges_at own l) (edges_at later l))
+  pub all_rerun : (own later : Location ℕ → List Edge) (seats : List Seat) (old new : List Run)
+      → ((l : Location ℕ) → Refolded (is_current m) into (own l) (later l))
       → ((s : Seat) → Refolded (is_current m) into (edges_on old s) (edges_on new s))
-      → (l : Location ℕ) → Refolded (is_current m) into (edges_at own l ++ edges_over seats old l) (edges_at later l ++ edges_over seats new l)
+      → (l : Location ℕ) → Refolded (is_current m) into (own l ++ edges_over seats old l) (later l ++ edges_over seats new l)
   all_rerun own later seats old new h g l =
-      refolded_append (is_current m) into (edges_at own l) (edges_at later l) (edges_over seats old l) (edges_over seats new l) (h l) (over_rerun seats old new g l)
+      refolded_append (is_current m) into (own l) (later l) (edges_over seats old l) (edges_over seats new l) (h l) (over_rerun seats old new g l)
 
 -- one run goes no further
 pub seated_set : {seats : List Seat} (old new : List Run) (k : ℕ) (was v : Run) → slice_get old k ≡ Some was → new ≡ slice_set old k v → v.count ≡ was.count

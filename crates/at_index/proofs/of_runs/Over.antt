@@ -1,12 +1,10 @@
 -- The edges over the seats of nodes, beside those of their own facets.
-use Rattle.std.proofs.Common.{◌≡◌, ◌⊎◌, inl, inr, ℕ, ◌+◌, ◌≤◌, List, [], ◌∷◌, ◌++◌, append-nil, ◌&&◌, Bool, true, false, true≢false, not, cond, Option, None, Some, Contains, slice_get, length, nat_eq, if◌then◌else◌, refl, sym, ap, ◌∙◌, subst, arith, eqb-true}
+use Rattle.std.proofs.Common.{◌≡◌, ◌⊎◌, inl, inr, ℕ, ◌+◌, List, [], ◌∷◌, ◌++◌, append-nil, ◌&&◌, Bool, true, false, true≢false, not, cond, Option, None, Some, Contains, slice_get, nat_eq, if◌then◌else◌, refl, sym, ap, ◌∙◌, subst, arith, eqb-true}
 use Rattle.std.proofs.lemmas.Bool.{cases_Bool, and_from}
-use Rattle.std.proofs.lemmas.Option.{slice_get_past}
 use Rattle.at_model.specs.Run.{Location, Idx}
 use Rattle.smallvec.specs.SmallVec.{SmallVec}
 use Rattle.at_index.specs.declared.edge.Edge.{Edge}
 use Rattle.at_index.specs.declared.facet.Readers.{Readers}
-use Rattle.at_index.specs.declared.run.AllReaders.{AllReaders}
 use Rattle.at_index.specs.declared.run.Reach.{Reach}
 use Rattle.at_index.specs.declared.run.Run.{Run}
 use Rattle.at_index.specs.declared.run.Seat.{Seat}
@@ -15,11 +13,9 @@ use Rattle.at_index.specs.Asking.{AreNoted, Asked, is_index, looks_at, sees}
 use Rattle.at_index.specs.Sameness.{node_at}
 use Rattle.at_index.specs.Edges.{is_listed}
 use Rattle.at_index.specs.Readers.{edges_at, is_of_index, stands_for}
-use Rattle.at_index.specs.Finding.{edges_to}
 use Rattle.at_index.specs.Runs.{edges_on, edges_over, edges_past, is_seen, lies}
 use Rattle.at_model.proofs.Options.{both}
 use Rattle.at_index.proofs.of_runs.Following.{lies_in, no_index}
-use Rattle.at_index.proofs.Listed.{no_edges}
 use Rattle.at_index.proofs.Locations.{stands_at, stands_index}
 use Rattle.at_index.proofs.of_runs.Reaching.{on_are}
 use Rattle.at_index.proofs.Lists.{none_in}
@@ -121,12 +117,3 @@ not_seen n seat l index at = by (is_index l) (stands_for (node_at l) seat.facet 
     by true b e f = ap (λ z. not z && stands_for (node_at l) seat.facet l) e
     by false false e f = ap (λ z. not z && stands_for (node_at l) seat.facet l) e ∙ f
     by false true e f = absurd (true≢false (sym index ∙ sym (stands_index (node_at l) seat.facet l f) ∙ e))
-
--- there is no edge of a node past all that were looked at
-pub beyond : (rs : AllReaders) (number : ℕ) → length rs.own.items ≤ number → length rs.seats.items ≤ number → (l : Location ℕ) → number ≤ node_at l
-    → edges_to rs l ≡ []
-beyond rs number own seats l more =
-    let a : length rs.own.items ≤ node_at l = omega (arith, own, more) in
-    let b : length rs.seats.items ≤ node_at l = omega (arith, seats, more) in
-    ap (λ es. es ++ edges_over rs.seats.items rs.runs.items l) (no_edges rs.own.items l (slice_get_past rs.own.items (node_at l) a))
-    ∙ over_none rs.seats.items rs.runs.items l (slice_get_past rs.seats.items (node_at l) b)

@@ -4,6 +4,8 @@ use Rattle.std.proofs.lemmas.Bool.{eq-eqb, or_left, or_right}
 use Rattle.std.proofs.lemmas.List.{map-append}
 use Rattle.std.proofs.lemmas.List.Elements.{Contains-append_cases, Contains-append_left, Contains-append_right}
 use Rattle.at_model.specs.Run.{Location}
+use Rattle.at_store.specs.declared.node.Loc.{Loc}
+use Rattle.at_store.specs.Located.{loc_view}
 use Rattle.at_index.specs.declared.edge.Edge.{Edge}
 use Rattle.at_index.specs.Linking.{AreListed, Reads}
 use Rattle.at_index.specs.Runs.{AddsReads, ListsBut, Stays, is_live}
@@ -40,6 +42,12 @@ module _ {L : Type 0} {x : Edge} where
   stays_beside old new more a l c = elim (Contains-append_cases (old l) (more l) x c) [
     | inl d ↦ Contains-append_left (new l) (more l) x (a l d)
     | inr d ↦ Contains-append_right (new l) (more l) x d
+  ]
+
+  pub stays_behind : (own : L → List Edge) (old new : L → List Edge) → Stays x old new → Stays x (λ l. own l ++ old l) (λ l. own l ++ new l)
+  stays_behind own old new a l c = elim (Contains-append_cases (own l) (old l) x c) [
+    | inl d ↦ Contains-append_left (own l) (new l) x d
+    | inr d ↦ Contains-append_right (own l) (new l) x (a l d)
   ]
 
   pub listed_beside : (new : L → List Edge) (ls : List L) (more : L → List Edge) → AreListed x ls new → AreListed x ls (λ l. new l ++ more l)
@@ -135,6 +143,16 @@ but_beside {x} {new = new} own b = record {
   all = λ l c. elim (b.all l c) [ inl d ↦ inl (Contains-append_right (own l) (new l) x d) | inr d ↦ inr d ];
   rest = b.rest;
 }
+
+-- locations, by the first of them and the others
+module _ {x : Edge} (y : Loc) (xs ys : List Loc) (is : xs ≡ y ∷ ys) where
+  pub reads_first : {tells : Edge → Bool} {old new : Location ℕ → List Edge} → Reads tells x (loc_view y ∷ map loc_view ys) old new
+      → Reads tells x (map loc_view xs) old new
+  reads_first {tells} {old} {new} r = subst (λ (zs : List Loc). Reads tells x (map loc_view zs) old new) (sym is) r
+
+  pub but_first : {left : List (Location ℕ)} {new : Location ℕ → List Edge} → ListsBut x (loc_view y ∷ map loc_view ys) left new
+      → ListsBut x (map loc_view xs) left new
+  but_first {left} {new} b = subst (λ (zs : List Loc). ListsBut x (map loc_view zs) left new) (sym is) b
 
 -- locations in two parts
 module _ {A L : Type 0} (f : A → L) (n : ℕ) (xs : List A) where

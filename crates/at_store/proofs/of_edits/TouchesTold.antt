@@ -23,7 +23,7 @@ use Rattle.at_store.proofs.Looked.{parent_is}
 use Rattle.at_store.proofs.of_edits.Touched.{touched}
 
 -- the node of which a change speaks
-abbrev changed : Change ℕ → ℕ
+abbrev pub changed : Change ℕ → ℕ
 changed (change.Set node) = node
 changed (change.Put node part) = node
 changed (change.Drop node) = node
@@ -31,7 +31,7 @@ changed (change.Insert node part) = node
 changed (change.Token node part) = node
 changed (change.Move node to part) = node
 
-changed_there : (R : ℕ → Node → Type 0) (c : Change ℕ) (d : Change Node) → ChangeLike R c d → (n : Node) × R (changed c) n
+pub changed_there : (R : ℕ → Node → Type 0) (c : Change ℕ) (d : Change Node) → ChangeLike R c d → (n : Node) × R (changed c) n
 changed_there R _ _ (change.set {m = m} r) = (m, r)
 changed_there R _ _ (change.put {m = m} part r) = (m, r)
 changed_there R _ _ (change.drop {m = m} r) = (m, r)
@@ -82,7 +82,7 @@ module _ (classes : Classes) (old mid : Shown) (e : Edit) where
   abbrev s : Tree
   s = numbers old
 
-  change_is : (q : Prepared) → IsPrepared classes old e (Does q) mid → ChangeLike (Names (path old)) (change_in q) (change_of e)
+  pub change_is : (q : Prepared) → IsPrepared classes old e (Does q) mid → ChangeLike (Names (path old)) (change_in q) (change_of e)
   change_is (plan.Set node new) p = by_place p.does.place
       (ap (λ x. change_of (relabel_edit (class_in (memory_of mid.slab)) x)) p.does.is)
       (ap (λ j. path_in j s) (sym p.does.number) ∙ named s p.keeps.apart p.does.place p.does.gone p.does.there)

@@ -37,7 +37,7 @@ const MAX_KEEP: u32 = 1_000_000_000;
 const MAX_NODES: u32 = 16_777_216;
 
 /// The program's version, which the file `VERSION` holds, too.
-const VERSION: &str = "0.46";
+const VERSION: &str = "0.47";
 
 /// What stands below the words in the help: a session, and the commands.
 const HELP: &str = "A session:
@@ -134,6 +134,14 @@ const WORDS: &[Word] = &[
         value: "",
         parser: ValueParser::Bool,
         help: "Verifies values before each turn, too, so that questions that were posted may take fewer of them",
+    },
+    Word {
+        name: "index",
+        is_option: true,
+        most: 0,
+        value: "",
+        parser: ValueParser::Bool,
+        help: "Looks names up by key, so that an edit of a list makes no value old that was looked up in it by another name",
     },
     Word {
         name: "gather",
@@ -269,6 +277,7 @@ fn options_of(
         nodes: nodes_of(matches),
         language,
         cut_off: has_flag(matches, "cut-off"),
+        index: has_flag(matches, "index"),
         gather: has_flag(matches, "gather"),
         work: has_flag(matches, "work"),
         grammar: file_of(alloc, matches, "GRAMMAR")?,

@@ -4,7 +4,9 @@ use Rattle.at_model.specs.Bodies.{Expr}
 use Rattle.at_rules.specs.Bodies.{bodies_view, body_view}
 use Rattle.at_rules.specs.declared.body.Body.{items_hidden-the_row-Body-0}
 use Rattle.at_body.specs.Rest.{ev}
+use Rattle.at_body.specs.declared.todo.Fold.TheVariants as fold
 use Rattle.at_body.proofs.Entering.{call_view}
+use Rattle.at_evaluate.proofs.Sought.{searched}
 use Rattle.at_evaluate.proofs.form.form_of.Goals as goal
 
 pub returns-in-Negate-clause-means : goal.returns-in-Negate-clause-means
@@ -79,3 +81,13 @@ returns-in-First-clause-means c = λ classes p. rw (c.in-First.is, ← c.deref-i
 
 pub returns-in-Sum-clause-means : goal.returns-in-Sum-clause-means
 returns-in-Sum-clause-means c = λ classes p. rw (c.in-Sum.is, ← c.deref-in-Sum.ensures, ← c.deref-in-Sum-2.ensures) refl
+
+pub returns-in-SeekAny-clause-means : goal.returns-in-SeekAny-clause-means
+returns-in-SeekAny-clause-means c = λ classes p.
+    rw (c.in-SeekAny.is, ← c.deref-in-SeekAny.ensures, ← c.deref-in-SeekAny-2.ensures, ← c.deref-in-SeekAny-3.ensures) (
+    searched classes p fold.Exists c.deref-in-SeekAny.result.now c.deref-in-SeekAny-2.result.now c.deref-in-SeekAny-3.result.now)
+
+pub returns-in-SeekFirst-clause-means : goal.returns-in-SeekFirst-clause-means
+returns-in-SeekFirst-clause-means c = λ classes p.
+    rw (c.in-SeekFirst.is, ← c.deref-in-SeekFirst.ensures, ← c.deref-in-SeekFirst-2.ensures, ← c.deref-in-SeekFirst-3.ensures) (
+    searched classes p fold.First c.deref-in-SeekFirst.result.now c.deref-in-SeekFirst-2.result.now c.deref-in-SeekFirst-3.result.now)

@@ -1,8 +1,10 @@
 use Rattle.std.proofs.Common.{◌≤◌, ◌^◌, subst, sym}
 use Rattle.slab.specs.Slab.{get}
-use Rattle.at_index.specs.Finding.{edges_to}
+use Rattle.at_cache.specs.Putting.{is_current}
+use Rattle.at_index.specs.Finding.{edges_to, own_edges}
 use Rattle.at_evict.specs.Folding.{AreOrdered, AreTaken, Relinks, listed_at, slots_at}
 use Rattle.at_cache.specs.Info.{memory_of}
+use Rattle.at_evict.proofs.of_folding.AtDesks.{own_refolded}
 use Rattle.at_evict.proofs.of_folding.Nodes.{noted_still}
 use Rattle.at_evict.proofs.of_folding.Reheld.{folds_held}
 use Rattle.at_evict.proofs.of_folding.Rerun.{all_rerun}
@@ -35,13 +37,21 @@ pub returns-clause-held : goal.returns-clause-held
 returns-clause-held c standings puts on indexed =
     let relinked = subst (λ ls. Relinks (slots_at c.args.plan.now) (listed_at (get c.args.entries.now.places) ls) (memory_of c.args.entries.now)
     (memory_of c.relink.new.entries)) c.as_slice.ensures.value c.in_ok-relink.ensures.relinked in
-    let lists = all_rerun (memory_of c.args.entries.now) (slots_at c.args.plan.now) _ _ c.args.readers.now.seats.items _ _ c.in_ok-rewrite.ensures.lists
-    c.in_ok-rerun.ensures.edges in
+    let r = c.args.readers.now in
+    let into = slots_at c.args.plan.now in
+    let own = own_refolded (is_current (memory_of c.args.entries.now)) into r.desks.entries c.rewrite_desks.new.all.entries r.own.items c.rewrite.new.readers.items
+    c.in_ok-rewrite_desks.ensures c.in_ok-rewrite.ensures.lists in
+    let lists = all_rerun (memory_of c.args.entries.now) into (own_edges r.desks.entries r.own.items)
+    (own_edges c.rewrite_desks.new.all.entries c.rewrite.new.readers.items) r.seats.items _ _ own c.in_ok-rerun.ensures.edges in
     folds_held standings (edges_to c.args.readers.now) _ puts c.args.entries.now c.remove_folded.new.entries _ (slots_at c.args.plan.now) _ on indexed
     (c.is_sound.ensures c.if-not-is_sound.false) lists c.in_ok-links.ensures relinked c.remove_folded.ensures
 
 pub returns-clause-noted : goal.returns-clause-noted
 returns-clause-noted c nodes h =
-    let lists = all_rerun (memory_of c.args.entries.now) (slots_at c.args.plan.now) _ _ c.args.readers.now.seats.items _ _ c.in_ok-rewrite.ensures.lists
-    c.in_ok-rerun.ensures.edges in
+    let r = c.args.readers.now in
+    let into = slots_at c.args.plan.now in
+    let own = own_refolded (is_current (memory_of c.args.entries.now)) into r.desks.entries c.rewrite_desks.new.all.entries r.own.items c.rewrite.new.readers.items
+    c.in_ok-rewrite_desks.ensures c.in_ok-rewrite.ensures.lists in
+    let lists = all_rerun (memory_of c.args.entries.now) into (own_edges r.desks.entries r.own.items)
+    (own_edges c.rewrite_desks.new.all.entries c.rewrite.new.readers.items) r.seats.items _ _ own c.in_ok-rerun.ensures.edges in
     noted_still _ _ (edges_to c.args.readers.now) _ nodes lists h

@@ -18,8 +18,8 @@ loop-next-preserved c =
     let next = c.in-Some.next.now in
     let left = c.in-Some.left.now in
     let at : node_at (loc_view next) ≡ n = sym c.node.ensures ∙ not_other c.node.result n c.if-ne.ensures in
-    first_wider n all c.loop-next.facet c.in_ok-of.field-0 c.in-Some-with.wider (loc_view next) (map loc_view left)
-    (λ k. subst (λ m. stands_for m c.in_ok-of.field-0 k ≡ same_location k (loc_view next)) at (c.in_ok-of.ensures k))
+    first_wider n all c.loop-next.facet c.in-Ok.alone c.in-Some-with.wider (loc_view next) (map loc_view left)
+    (λ k. subst (λ m. stands_for m c.in-Ok.alone k ≡ same_location k (loc_view next)) at (c.in-Ok.ensures k))
     (λ k. c.in-Some-with.ensures.both n k)
     c.in-Some-with.ensures.near
     (subst (λ (xs : List Loc). IsFirst all n c.loop-next.facet (map loc_view xs)) c.in-Some.ensures.cases.0 c.loop-next.invariant)

@@ -1,7 +1,6 @@
 use Rattle.std.proofs.Common.{◌∙◌, eqb-true, length, map, sym}
 use Rattle.at_store.specs.Located.{loc_view}
-use Rattle.at_index.specs.Finding.{edges_to}
-use Rattle.at_index.specs.Readers.{edges_at}
+use Rattle.at_index.specs.Finding.{edges_to, own_edges}
 use Rattle.at_index.proofs.of_runs.Over.{noted_from, noted_to}
 use Rattle.at_index.proofs.of_runs.Stretches.{adds_beside, both_ok, but_all, but_beside, but_then, in_back, in_front, in_parts, lists_parts, none_left, reads_parts, reads_then, reads_within}
 use Rattle.at_index.proofs.linking.add_fold.Goals as goal
@@ -15,7 +14,7 @@ returns-in_err-rest-clause-reads g c =
     let xs = c.args.locations.now in
     let n = c.before_fold-place.result in
     reads_parts (in_front loc_view n xs) (in_back loc_view n xs) (rw c.split_at.ensures.front at c.add_own.ensures.reads)
-    (adds_beside (edges_at c.add_own.new.readers.own.items) (rw c.split_at.ensures.back at c.add_stretch.ensures.adds))
+    (adds_beside (own_edges c.add_own.new.readers.desks.entries c.add_own.new.readers.own.items) (rw c.split_at.ensures.back at c.add_stretch.ensures.adds))
 
 pub returns-in_err-rest-clause-noted : goal.returns-in_err-rest-clause-noted
 returns-in_err-rest-clause-noted g c h =
@@ -28,7 +27,7 @@ pub loop-init : goal.loop-init
 loop-init g c =
     let xs = c.args.locations.now in
     let n = c.before_fold-place.result in
-    let own = edges_at c.add_own.new.readers.own.items in
+    let own = own_edges c.add_own.new.readers.desks.entries c.add_own.new.readers.own.items in
     let rs = c.add_own.new.readers in
     let nodes = c.add_own.new.index_read.items in
     record {

@@ -1,9 +1,8 @@
 use Rattle.std.proofs.Common.{◌++◌, map}
 use Rattle.std.proofs.lemmas.Result.{IfOk-weaker}
 use Rattle.at_store.specs.Located.{loc_view}
-use Rattle.at_index.specs.Readers.{edges_at}
 use Rattle.at_index.specs.Runs.{ListsBut, Stays, edges_over}
-use Rattle.at_index.specs.Finding.{edges_to}
+use Rattle.at_index.specs.Finding.{edges_to, own_edges}
 use Rattle.at_index.proofs.of_runs.Over.{noted_from, noted_to}
 use Rattle.at_index.proofs.of_runs.Stretches.{adds_beside, but_beside, in_back, in_front, in_parts, lists_parts, reads_parts, reads_within, stays_added}
 use Rattle.at_index.proofs.linking.add_further.Goals as goal
@@ -17,7 +16,7 @@ returns g c =
     let xs = c.args.locations.now in
     let n = c.in_ok-width.width in
     let rs = c.add_own.new.readers in
-    let own = edges_at rs.own.items in
+    let own = own_edges rs.desks.entries rs.own.items in
     let nodes = c.add_own.new.index_read.items in
     let adds = rw c.split_at.ensures.back at c.add_along.ensures.adds in
     record {

@@ -12,5 +12,5 @@ loop-location-preserved c =
     let l = c.loop-location in
     let x = c.in-Some.location.now in
     let ys = c.in-Some.others.now in
-    let first = first_of c.node.result x l.rest.now ys c.node.ensures c.in-Some.ensures.cases.0 c.in_ok-facet.ensures in
+    let first = first_of c.node.result x l.rest.now ys c.node.ensures c.in-Some.ensures.cases.0 c.in-Ok.ensures in
     follows_more c.requires l.invariant first c.in-Some-checked_add.ensures.1 (c.if-not-is_at.ensures refl)

@@ -1,12 +1,15 @@
 use Rattle.std.proofs.Common.{◌≡◌, ◌∙◌, ap, arith, not, refl, sym}
-use Rattle.at_model.specs.Bodies.{And, Or, Choose, Exists}
-use Rattle.at_rules.specs.Bodies.{body_view}
+use Rattle.at_model.specs.Bodies.{And, Or, Choose, Exists, SeekAny}
+use Rattle.at_class.specs.Keys.{key_view}
+use Rattle.at_rules.specs.Bodies.{body_view, sought_view}
 use Rattle.at_rules.specs.declared.body.Body.{items_hidden-the_row-Body-0}
 use Rattle.at_body.specs.Forms.{followed, formed, place_of}
 use Rattle.at_body.proofs.Entering.{call_view}
 use Rattle.at_body.proofs.FormPlain.{others_plain, shape_of}
 use Rattle.at_body.proofs.FormRuns.{as_ever, choice_shape, exists_shape, sides_put}
 use Rattle.at_body.proofs.FormKinds.{and_forms, choose_evaluates, evaluates_it, exists_evaluates, or_forms, sides_typed}
+use Rattle.at_body.proofs.FormSeeks.{seek_evaluates}
+use Rattle.at_body.proofs.Seeks.{seek_shape}
 use Rattle.at_body.proofs.forming.Forming.form.Goals as goal
 
 pub call-requires : goal.call-requires
@@ -52,11 +55,24 @@ returns-in-Exists-clause-typed c = λ at look h.
     rw (c.in-Exists.is, ← c.deref-in-Exists.ensures, ← c.deref-in-Exists-2.ensures) refl in
     exists_evaluates c.args.rules.now at c.args.self.now c.args.positive c.args.body.now c.deref-in-Exists-2.result.now c.in-Exists.part c.deref-in-Exists.result is h
 
+pub returns-in-SeekAny-clause-same : goal.returns-in-SeekAny-clause-same
+returns-in-SeekAny-clause-same c =
+    let is : body_view c.args.body.now ≡ SeekAny (body_view c.deref-in-SeekAny-3.result.now) c.deref-in-SeekAny.result.now.part (key_view c.deref-in-SeekAny.result.now.key) (sought_view c.deref-in-SeekAny.result.now.sought) (body_view c.deref-in-SeekAny-2.result.now) =
+    rw (c.in-SeekAny.is, ← c.deref-in-SeekAny.ensures, ← c.deref-in-SeekAny-2.ensures, ← c.deref-in-SeekAny-3.ensures) refl in
+    ap (λ e. followed c.args.rules.now c.args.self.now (formed c.args.rules.now c.args.self.now.start c.args.positive e (place_of c.args.self.now))) is
+    ∙ seek_shape c.args.rules.now c.args.self.now c.args.positive (body_view c.deref-in-SeekAny-3.result.now) c.deref-in-SeekAny.result c.deref-in-SeekAny-2.result
+
+pub returns-in-SeekAny-clause-typed : goal.returns-in-SeekAny-clause-typed
+returns-in-SeekAny-clause-typed c = λ at look h.
+    let is : body_view c.args.body.now ≡ SeekAny (body_view c.deref-in-SeekAny-3.result.now) c.deref-in-SeekAny.result.now.part (key_view c.deref-in-SeekAny.result.now.key) (sought_view c.deref-in-SeekAny.result.now.sought) (body_view c.deref-in-SeekAny-2.result.now) =
+    rw (c.in-SeekAny.is, ← c.deref-in-SeekAny.ensures, ← c.deref-in-SeekAny-2.ensures, ← c.deref-in-SeekAny-3.ensures) refl in
+    seek_evaluates c.args.rules.now at c.args.self.now c.args.positive c.args.body.now c.deref-in-SeekAny-3.result.now c.deref-in-SeekAny.result c.deref-in-SeekAny-2.result is h
+
 pub returns-in_default : goal.returns-in_default
 returns-in_default c = record {
   same = as_ever c.args.rules.now c.args.self.now c.args.positive (body_view c.args.body.now)
       (shape_of c.args.rules.now c.args.self.now.start c.args.positive (place_of c.args.self.now) c.args.body.now
-      (others_plain c.args.rules.now c.args.self.now.start c.args.positive (place_of c.args.self.now) c.args.body.now c.in_default.not-Not c.in_default.not-And c.in_default.not-Or c.in_default.not-Choose c.in_default.not-Call c.in_default.not-Exists));
+      (others_plain c.args.rules.now c.args.self.now.start c.args.positive (place_of c.args.self.now) c.args.body.now c.in_default.not-Not c.in_default.not-And c.in_default.not-Or c.in_default.not-Choose c.in_default.not-Call c.in_default.not-Exists c.in_default.not-SeekAny));
   less = omega arith;
   reads = refl;
   typed = λ at look h. evaluates_it c.args.rules.now at c.args.self.now c.args.positive c.args.body.now h;

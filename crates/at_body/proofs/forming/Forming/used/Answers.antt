@@ -7,6 +7,7 @@ use Rattle.at_body.specs.TypedForms.{Calls, Folds, IsTypedDoing}
 use Rattle.at_body.specs.Values.{value_view}
 use Rattle.at_body.proofs.FormRuns.{goes_on, lighter_by, one_argument}
 use Rattle.at_body.proofs.FormKinds.{argument_calls, choice_forms, choice_truth, formula_truth, known_typed, node_folds, node_ref, receiver_calls, receiver_ref}
+use Rattle.at_body.proofs.FormSeeks as seeks
 use Rattle.at_body.proofs.forming.Forming.used.Goals as goal
 
 pub turned-requires : goal.turned-requires
@@ -56,9 +57,19 @@ returns-in-Argument-clause-less c = rw c.in-Argument.is (lighter_by c.pass.resul
 pub returns-in-Argument-clause-typed : goal.returns-in-Argument-clause-typed
 returns-in-Argument-clause-typed c = λ rules at over h. let h' = rw c.in-Argument.is at h in c.pass.ensures.typed rules at (contents c.args.store.now) over (argument_calls rules at c.args.self.now c.in-Argument.call c.in-Argument.others (value_view c.args.value) h')
 
+pub returns-in-Elements-clause-same : goal.returns-in-Elements-clause-same
+returns-in-Elements-clause-same c = λ rules. let h = rw c.node-in-Elements.ensures at c.elements.ensures.same rules in rw c.in-Elements.is h
+
+pub returns-in-Elements-clause-typed : goal.returns-in-Elements-clause-typed
+returns-in-Elements-clause-typed c = λ rules at over h. let h' = rw c.in-Elements.is at h in c.elements.ensures.typed rules at over
+    (subst (λ n. Folds rules at c.args.self.now c.in-Elements.part c.in-Elements.body.now n) (sym c.node-in-Elements.ensures) (node_folds rules at c.args.self.now c.in-Elements.positive c.in-Elements.part c.in-Elements.body (value_view c.args.value) h'))
+
+pub node-requires-in-Under : goal.node-requires-in-Under
+node-requires-in-Under c = let (r, a, o, h) = c.requires.typed in let h' = rw c.in-Under.is at h in seeks.node_ref r a c.args.self.now c.in-Under.positive c.in-Under.lookup c.in-Under.body (value_view c.args.value) h'
+
 pub returns-clause-same : goal.returns-clause-same
-returns-clause-same c = λ rules. let h = rw c.node-in-Elements.ensures at c.elements.ensures.same rules in rw c.in-Elements.is h
+returns-clause-same c = λ rules. let h = rw c.node-in-Under.ensures at c.elements_under.ensures.same rules in rw c.in-Under.is h
 
 pub returns-clause-typed : goal.returns-clause-typed
-returns-clause-typed c = λ rules at over h. let h' = rw c.in-Elements.is at h in c.elements.ensures.typed rules at over
-    (subst (λ n. Folds rules at c.args.self.now c.in-Elements.part c.in-Elements.body.now n) (sym c.node-in-Elements.ensures) (node_folds rules at c.args.self.now c.in-Elements.positive c.in-Elements.part c.in-Elements.body (value_view c.args.value) h'))
+returns-clause-typed c = λ rules at over h. let h' = rw c.in-Under.is at h in c.elements_under.ensures.typed rules at over
+    (subst (λ n. Folds rules at c.args.self.now c.in-Under.lookup.now.part c.in-Under.body.now n) (sym c.node-in-Under.ensures) (seeks.node_folds rules at c.args.self.now c.in-Under.positive c.in-Under.lookup c.in-Under.body (value_view c.args.value) h'))

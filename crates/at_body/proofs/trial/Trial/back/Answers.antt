@@ -10,7 +10,10 @@ use Rattle.at_body.specs.Typed.{Calls, Folds}
 use Rattle.at_body.proofs.TypedAnswers.{use_operand, operands_fit}
 use Rattle.at_body.proofs.TypedSteps.{use_told, operates_told}
 use Rattle.at_body.proofs.TypedUses.{operands_there, and_tests, or_tests, choices, receiver_is, receives, passes}
+use Rattle.at_body.specs.Seeking.{fold_of}
 use Rattle.at_body.proofs.TypedFolds.{holder_is, folds_over, is_told, element_told}
+use Rattle.at_body.proofs.TypedSeeks.{folds_under}
+use Rattle.at_body.proofs.TypedSeeks as seeks
 use Rattle.at_body.proofs.trial.Trial.back.Goals as goal
 
 pub returns-in-Right-clause-same : goal.returns-in-Right-clause-same
@@ -25,8 +28,8 @@ returns-in-Argument-clause-same c = rw c.in-Argument.is (followed _ (contents c.
 pub returns-in-Elements-clause-same : goal.returns-in-Elements-clause-same
 returns-in-Elements-clause-same c = let h = rw c.node-in-Elements.ensures at c.elements.ensures.same c.args.rules.now.classes in rw c.in-Elements.is h
 
-pub returns-clause-same : goal.returns-clause-same
-returns-clause-same c = rw c.in-Element.is (unbound _ (contents c.args.store.now) _ c.args.self.now _ c.in-Element.fold c.in-Element.body c.in-Element.node c.in-Element.others (value_view c.args.value) c.pop.new.self c.pop.ensures.left (c.decide.ensures.same c.args.rules.now.classes) c.decide.ensures.reads)
+pub returns-in-Element-clause-same : goal.returns-in-Element-clause-same
+returns-in-Element-clause-same c = rw c.in-Element.is (unbound _ (contents c.args.store.now) _ c.args.self.now _ c.in-Element.fold c.in-Element.body c.in-Element.node c.in-Element.others (value_view c.args.value) c.pop.new.self c.pop.ensures.left (c.decide.ensures.same c.args.rules.now.classes) c.decide.ensures.reads)
 
 pub returns-in-Apply-clause-same : goal.returns-in-Apply-clause-same
 returns-in-Apply-clause-same c = rw c.in-Apply.is (c.binary.ensures.same c.args.rules.now.classes)
@@ -103,5 +106,28 @@ returns-in-Elements-clause-typed c = let h = rw c.in-Elements.is at c.requires.t
 pub decide-requires : goal.decide-requires
 decide-requires c = let h = rw c.in-Element.is at c.requires.typed in record { told = is_told c.args.rules.now (class_shown c.args.store.now) _ c.in-Element.fold c.in-Element.body.now c.in-Element.node c.in-Element.others.now (value_view c.args.value) (element_told c.args.rules.now (class_shown c.args.store.now) c.args.self.now c.in-Element.fold c.in-Element.body c.in-Element.node c.in-Element.others (value_view c.args.value) c.pop.new.self c.pop.ensures.left h) }
 
+pub returns-in-Element-clause-typed : goal.returns-in-Element-clause-typed
+returns-in-Element-clause-typed c = let h = rw c.in-Element.is at c.requires.typed in c.decide.ensures.typed c.args.rules.now (class_shown c.args.store.now) (element_told c.args.rules.now (class_shown c.args.store.now) c.args.self.now c.in-Element.fold c.in-Element.body c.in-Element.node c.in-Element.others (value_view c.args.value) c.pop.new.self c.pop.ensures.left h)
+
+pub returns-in-Under-clause-same : goal.returns-in-Under-clause-same
+returns-in-Under-clause-same c = let h = rw c.node-in-Under.ensures at c.elements_under.ensures.same c.args.rules.now.classes in rw c.in-Under.is h
+
+pub node-requires-in-Under : goal.node-requires-in-Under
+node-requires-in-Under c = let h = rw c.in-Under.is at c.requires.typed in seeks.holder_is c.args.rules.now (class_shown c.args.store.now) c.args.self.now c.in-Under.search c.in-Under.lookup c.in-Under.body (value_view c.args.value) h
+
+pub returns-in-Under-clause-typed : goal.returns-in-Under-clause-typed
+returns-in-Under-clause-typed c = let h = rw c.in-Under.is at c.requires.typed in c.elements_under.ensures.typed c.args.rules.now (class_shown c.args.store.now) c.requires.over
+    (subst (λ n. Folds c.args.rules.now (class_shown c.args.store.now) c.args.self.now (fold_of c.in-Under.search) c.in-Under.lookup.now.part c.in-Under.body.now n) (sym c.node-in-Under.ensures)
+    (folds_under c.args.rules.now (class_shown c.args.store.now) c.args.self.now c.in-Under.search c.in-Under.lookup c.in-Under.body (value_view c.args.value) h))
+
+pub behind-requires : goal.behind-requires
+behind-requires c = let h = rw c.in-Among.is at c.requires.typed in record { typed = (c.args.rules.now, class_shown c.args.store.now, h) }
+
+pub returns-clause-same : goal.returns-clause-same
+returns-clause-same c = rw c.in-Among.is (followed _ (contents c.args.store.now) _ _ _ _ _ refl (c.behind.ensures.same c.args.rules.now.classes) c.behind.ensures.reads)
+
+pub returns-clause-less : goal.returns-clause-less
+returns-clause-less c = rw c.in-Among.is c.behind.ensures.less
+
 pub returns-clause-typed : goal.returns-clause-typed
-returns-clause-typed c = let h = rw c.in-Element.is at c.requires.typed in c.decide.ensures.typed c.args.rules.now (class_shown c.args.store.now) (element_told c.args.rules.now (class_shown c.args.store.now) c.args.self.now c.in-Element.fold c.in-Element.body c.in-Element.node c.in-Element.others (value_view c.args.value) c.pop.new.self c.pop.ensures.left h)
+returns-clause-typed c = let h = rw c.in-Among.is at c.requires.typed in c.behind.ensures.typed c.args.rules.now (class_shown c.args.store.now) h

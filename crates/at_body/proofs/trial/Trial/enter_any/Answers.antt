@@ -1,19 +1,23 @@
 use Rattle.at_store.specs.Shown.{contents}
-use Rattle.std.proofs.Common.{◌+◌, refl, arith, pos}
+use Rattle.std.proofs.Common.{◌≡◌, ◌∙◌, ◌+◌, ap, refl, arith, pos}
 use Rattle.at_body.specs.declared.todo.Unary.TheVariants as unary
 use Rattle.at_body.specs.declared.todo.Binary.TheVariants as binary
 use Rattle.at_body.specs.declared.todo.Fold.TheVariants as fold
-use Rattle.at_body.specs.declared.todo.Todo.TheVariants.{Use, Right, And, Or, Choose, Elements}
-use Rattle.at_body.specs.Rest.{load}
+use Rattle.at_body.specs.declared.todo.Search.TheVariants as search
+use Rattle.at_body.specs.declared.todo.Todo.TheVariants.{Use, Right, And, Or, Choose, Elements, Under}
+use Rattle.at_body.specs.Rest.{ev, load, place_of}
 use Rattle.at_body.specs.Size.{size}
 use Rattle.at_rules.specs.Bodies.{body_view}
 use Rattle.at_body.proofs.Entering.{bounded, brought, entered}
 use Rattle.at_body.proofs.Uses.{followed, kept}
-use Rattle.at_model.specs.Bodies.{Negate, Not, InstanceOf, CastTo, Child, Count, Has, Passed, Compare, Join, JoinInt, Same, Differ, Equals, Element, Exists, First, Sum}
+use Rattle.at_model.specs.Bodies.{Negate, Not, InstanceOf, CastTo, Child, Count, Has, Passed, Compare, Join, JoinInt, Same, Differ, Equals, Element, Exists, First, Sum, SeekAny, SeekFirst}
 use Rattle.at_model.specs.Bodies as model
-use Rattle.at_rules.specs.Bodies.{order_view}
+use Rattle.at_class.specs.Keys.{key_view}
+use Rattle.at_rules.specs.Bodies.{order_view, sought_view}
 use Rattle.at_body.specs.Typed.{class_shown}
 use Rattle.at_body.proofs.TypedParts.{part_enters, put_typed, negates, opposes, tests, casts, asks_child, asks_count, asks_has, passes, compares, joins, joins_int, same, differs, equals, asks_element, conjoins, disjoins, chooses, exists, first, sums}
+use Rattle.at_body.proofs.Seeks.{any_shape, first_shape}
+use Rattle.at_body.proofs.TypedSeeks.{seeks_any, seeks_first}
 use Rattle.at_body.proofs.TypedAnswers.{at_hand_takes}
 use Rattle.at_body.proofs.TypedSteps.{entered_same, entered_told, index_there, name_there}
 use Rattle.at_body.proofs.trial.Trial.enter_any.Goals as goal
@@ -243,3 +247,35 @@ index-requires-clause-child c = index_there c.args.rules.now (class_shown c.args
 
 pub returns-in-IndexName-clause-typed : goal.returns-in-IndexName-clause-typed
 returns-in-IndexName-clause-typed c = entered_told c.args.rules.now (class_shown c.args.store.now) (contents c.args.store.now) c.requires.over c.args.self.now _ c.args.body.now _ c.requires.typed (rw c.in-IndexName.is c.index.ensures.told)
+
+pub returns-in-SeekAny-clause-same : goal.returns-in-SeekAny-clause-same
+returns-in-SeekAny-clause-same c =
+    let is : body_view c.args.body.now ≡ SeekAny (body_view c.deref-in-SeekAny.result.now) c.deref-in-SeekAny-2.result.now.part (key_view c.deref-in-SeekAny-2.result.now.key) (sought_view c.deref-in-SeekAny-2.result.now.sought) (body_view c.deref-in-SeekAny-3.result.now) =
+    rw (c.in-SeekAny.is, ← c.deref-in-SeekAny.ensures, ← c.deref-in-SeekAny-2.ensures, ← c.deref-in-SeekAny-3.ensures) refl in
+    entered c.args.rules.now.classes _ _ c.args.self.now _ (body_view c.args.body.now) c.deref-in-SeekAny.result (Under search.Any c.deref-in-SeekAny-2.result c.deref-in-SeekAny-3.result) c.under.ensures refl
+    (ap (λ e. ev c.args.rules.now.classes e (place_of c.args.self.now)) is ∙ any_shape c.args.rules.now.classes (place_of c.args.self.now) (body_view c.deref-in-SeekAny.result.now) c.deref-in-SeekAny-2.result.now (body_view c.deref-in-SeekAny-3.result.now))
+
+pub returns-in-SeekAny-clause-typed : goal.returns-in-SeekAny-clause-typed
+returns-in-SeekAny-clause-typed c =
+    let is : body_view c.args.body.now ≡ SeekAny (body_view c.deref-in-SeekAny.result.now) c.deref-in-SeekAny-2.result.now.part (key_view c.deref-in-SeekAny-2.result.now.key) (sought_view c.deref-in-SeekAny-2.result.now.sought) (body_view c.deref-in-SeekAny-3.result.now) =
+    rw (c.in-SeekAny.is, ← c.deref-in-SeekAny.ensures, ← c.deref-in-SeekAny-2.ensures, ← c.deref-in-SeekAny-3.ensures) refl in
+    put_typed c.args.rules.now (class_shown c.args.store.now) _ c.args.self.now _ c.deref-in-SeekAny.result (Under search.Any c.deref-in-SeekAny-2.result c.deref-in-SeekAny-3.result) c.under.ensures
+    (part_enters c.args.rules.now (class_shown c.args.store.now) c.args.self.now c.args.body.now c.deref-in-SeekAny.result.now (Under search.Any c.deref-in-SeekAny-2.result c.deref-in-SeekAny-3.result)
+    (SeekAny (body_view c.deref-in-SeekAny.result.now) c.deref-in-SeekAny-2.result.now.part (key_view c.deref-in-SeekAny-2.result.now.key) (sought_view c.deref-in-SeekAny-2.result.now.sought) (body_view c.deref-in-SeekAny-3.result.now)) is
+    (λ s k x h. seeks_any c.args.rules.now (class_shown c.args.store.now) s (body_view c.deref-in-SeekAny.result.now) c.deref-in-SeekAny-2.result c.deref-in-SeekAny-3.result k c.args.self.now.todo x h) c.requires.typed)
+
+pub returns-in-SeekFirst-clause-same : goal.returns-in-SeekFirst-clause-same
+returns-in-SeekFirst-clause-same c =
+    let is : body_view c.args.body.now ≡ SeekFirst (body_view c.deref-in-SeekFirst.result.now) c.deref-in-SeekFirst-2.result.now.part (key_view c.deref-in-SeekFirst-2.result.now.key) (sought_view c.deref-in-SeekFirst-2.result.now.sought) (body_view c.deref-in-SeekFirst-3.result.now) =
+    rw (c.in-SeekFirst.is, ← c.deref-in-SeekFirst.ensures, ← c.deref-in-SeekFirst-2.ensures, ← c.deref-in-SeekFirst-3.ensures) refl in
+    entered c.args.rules.now.classes _ _ c.args.self.now _ (body_view c.args.body.now) c.deref-in-SeekFirst.result (Under search.First c.deref-in-SeekFirst-2.result c.deref-in-SeekFirst-3.result) c.under-in-SeekFirst.ensures refl
+    (ap (λ e. ev c.args.rules.now.classes e (place_of c.args.self.now)) is ∙ first_shape c.args.rules.now.classes (place_of c.args.self.now) (body_view c.deref-in-SeekFirst.result.now) c.deref-in-SeekFirst-2.result.now (body_view c.deref-in-SeekFirst-3.result.now))
+
+pub returns-in-SeekFirst-clause-typed : goal.returns-in-SeekFirst-clause-typed
+returns-in-SeekFirst-clause-typed c =
+    let is : body_view c.args.body.now ≡ SeekFirst (body_view c.deref-in-SeekFirst.result.now) c.deref-in-SeekFirst-2.result.now.part (key_view c.deref-in-SeekFirst-2.result.now.key) (sought_view c.deref-in-SeekFirst-2.result.now.sought) (body_view c.deref-in-SeekFirst-3.result.now) =
+    rw (c.in-SeekFirst.is, ← c.deref-in-SeekFirst.ensures, ← c.deref-in-SeekFirst-2.ensures, ← c.deref-in-SeekFirst-3.ensures) refl in
+    put_typed c.args.rules.now (class_shown c.args.store.now) _ c.args.self.now _ c.deref-in-SeekFirst.result (Under search.First c.deref-in-SeekFirst-2.result c.deref-in-SeekFirst-3.result) c.under-in-SeekFirst.ensures
+    (part_enters c.args.rules.now (class_shown c.args.store.now) c.args.self.now c.args.body.now c.deref-in-SeekFirst.result.now (Under search.First c.deref-in-SeekFirst-2.result c.deref-in-SeekFirst-3.result)
+    (SeekFirst (body_view c.deref-in-SeekFirst.result.now) c.deref-in-SeekFirst-2.result.now.part (key_view c.deref-in-SeekFirst-2.result.now.key) (sought_view c.deref-in-SeekFirst-2.result.now.sought) (body_view c.deref-in-SeekFirst-3.result.now)) is
+    (λ s k x h. seeks_first c.args.rules.now (class_shown c.args.store.now) s (body_view c.deref-in-SeekFirst.result.now) c.deref-in-SeekFirst-2.result c.deref-in-SeekFirst-3.result k c.args.self.now.todo x h) c.requires.typed)

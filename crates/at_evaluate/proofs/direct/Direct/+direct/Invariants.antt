@@ -1,5 +1,8 @@
 use Rattle.std.proofs.Common.{◌≡◌, ◌+◌, ◌*◌, ◌++◌, None, length, map}
+use Rattle.at_model.specs.Seeking.{is_in_drawer, those}
+use Rattle.at_class.specs.Keys.{key_view}
 use Rattle.at_rules.specs.Bodies.{bodies_view, body_view}
+use Rattle.at_store.specs.Shown.{contents}
 use Rattle.at_body.specs.Rest.{ev_all, over}
 use Rattle.at_body.specs.Values.{value_view}
 use Rattle.at_evaluate.specs.Place.{place_at}
@@ -34,6 +37,12 @@ decreases-each g l = 16 * l.above + 3
 
 abbrev pub decreases-over : goal.decreases-over
 decreases-over g l = 16 * l.above + 4
+
+abbrev pub decreases-each_under : goal.decreases-each_under
+decreases-each_under g l = 16 * l.above + 3
+
+abbrev pub decreases-under : goal.decreases-under
+decreases-under g l = 16 * l.above + 4
 
 abbrev pub decreases-compared : goal.decreases-compared
 decreases-compared g l = 16 * l.above + 4
@@ -95,3 +104,19 @@ invariant-each-loop-node g l = record {
 
 abbrev pub decreases-each-loop-node : goal.decreases-each-loop-node
 decreases-each-loop-node g l = length l.rest
+
+abbrev pub invariant-each_under-loop-found : goal.invariant-each_under-loop-found
+invariant-each_under-loop-found g l = record {
+  place : place_at l.inside ≡ place_at l.here;
+  goes : GoesOn l.basis.rules.now l.basis.store.now
+      (held (g.K.Keeper.contents l.initial.keeper) (g.K.Keeper.memories l.initial.keeper) l.initial.self.found.entries
+      l.initial.self.work l.initial.self.made)
+      (held (g.K.Keeper.contents l.keeper) (g.K.Keeper.memories l.keeper) l.self.found.entries l.self.work l.self.made)
+      l.initial.level l.level (over l.basis.rules.now.classes l.initial.going (body_view l.body) (place_at l.here)
+      (those (is_in_drawer (contents l.basis.store.now) (key_view l.key) l.mark) l.nodes))
+      (over l.basis.rules.now.classes l.going (body_view l.body) (place_at l.here)
+      (those (is_in_drawer (contents l.basis.store.now) (key_view l.key) l.mark) l.rest)) (λ v. v);
+}
+
+abbrev pub decreases-each_under-loop-found : goal.decreases-each_under-loop-found
+decreases-each_under-loop-found g l = length l.rest

@@ -1,0 +1,10 @@
+use Rattle.std.proofs.Common.{length}
+use Rattle.at_index.specs.Linking.{Keeps}
+use Rattle.at_index.specs.Rows.{edges_of}
+use Rattle.at_index.proofs.desk.is_idle_row.Given as goal
+
+abbrev pub invariant-loop-edge : goal.invariant-loop-edge
+invariant-loop-edge g l = Keeps (g.T.Tells.tells l.teller) (edges_of l.fn.row) (edges_of l.rest)
+
+abbrev pub decreases-loop-edge : goal.decreases-loop-edge
+decreases-loop-edge g l = length (edges_of l.rest)

@@ -1,0 +1,11 @@
+use Rattle.std.proofs.Common.{ℕ, ◌-◌, length}
+use Rattle.at_model.specs.Run.{Location}
+use Rattle.at_index.specs.Desks.{edges_in_desks}
+use Rattle.at_index.specs.Linking.{Keeps}
+use Rattle.at_index.proofs.desk.purge.Given as goal
+
+abbrev pub invariant-loop-place : goal.invariant-loop-place
+invariant-loop-place g l = (n : ℕ) (k : Location ℕ) → Keeps (g.T.Tells.tells l.teller) (edges_in_desks n l.fn.desks.spots.entries k) (edges_in_desks n l.desks.spots.entries k)
+
+abbrev pub decreases-loop-place : goal.decreases-loop-place
+decreases-loop-place g l = length l.desks.spots.entries - l.place

@@ -1,0 +1,13 @@
+pub mod Entries
+pub mod EquationsKept
+pub mod Found
+pub mod KindsKept
+pub mod Narrowed
+pub mod Narrowing
+pub mod SameAnswers
+pub mod SameCircles
+pub mod SameEnds
+pub mod SameMachine
+pub mod Scopes
+pub mod Tests
+pub mod Turned
