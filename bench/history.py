@@ -23,7 +23,7 @@ PAGE = ROOT / "docs" / "PERFORMANCE.md"
 HEAD = "version\tscript\trow\tvalue\tunit\tproved\tbound"
 BEGIN, END = "<!-- bounds: written by bench/history.py, never by hand -->", "<!-- end of bounds -->"
 # Options that make other rows of a script.
-TELLING = ("--cut-off", "--quarter")
+TELLING = ("--cut-off", "--index", "--quarter")
 UNIT = re.compile(r"^(.*?), (?:in )?((?:millions of )?instructions(?: an? \w+)?|MiB(?: a second)?|MB|GB|KiB|bytes|seconds|microseconds"
                   r"|ms|us|s|%)$")
 NODES = re.compile(r"^(.*?), ([\d,]+) nodes(.*)$")

@@ -2,13 +2,13 @@
 """A realistic program: how fast all errors are told of a program as people write them, and after each keystroke, beside Java.
 
     python3 bench/realistic.py [PROGRAM] [--nodes N ..] [--rounds N] [--seed N] [--row NAME] [--cut-off]
-        [--keep N] [--quarter] [--instructions] [--before PROGRAM] [--hold]
+        [--index] [--keep N] [--quarter] [--instructions] [--before PROGRAM] [--hold]
 
 PROGRAM is ./attrd where none is given; the programs have 1,000, 10,000 and 60,000 nodes of the tutorial's language. The Java program has
 the form that JastAdd2 generates, forgets all at each edit, and is warm, in one process; where there is no `javac`, attrd is measured
 alone. All answers of the two are compared. Times are processor times, the least of several rounds by turns; values are those of lazy
 attributes that --work counts; instructions are counted where there is `valgrind`, of keystrokes only with --instructions, which takes
-minutes. --row measures the rows whose names have that in them; --cut-off and --keep give the program these options. With --quarter the
+minutes. --row measures the rows whose names have that in them; --cut-off, --index and --keep give the program these options. With --quarter the
 rows are measured with --keep, too, for a quarter of the values that the first question evaluates, foldings with them. With --before that
 program, of version 0.23, is measured by turns with the other one, and a keystroke is held to what it takes and not to the multiples of
 Java's time that it took once. What is wanted is told beside what was measured, for the programs of the first seed; with --hold the status
@@ -82,6 +82,20 @@ MOST_TIMES: Dict[str, Tuple[float, ...]] = {
     "a class in or out at the top": (2, 2.5, 4),
     "a class in or out at the end": (2, 2.5, 4),
 }
+# And where names are looked up by key.
+MOST_INDEXED: Dict[str, Tuple[float, ...]] = {
+    "a number that nothing rests on": (0.6, 0.05, 0.05),
+    "a use mistyped and corrected": (0.6, 0.05, 0.05),
+    "a statement in or out at the front of a method": (0.6, 0.05, 0.05),
+    "a declaration in or out at the front of a method": (0.6, 0.05, 0.05),
+    "a declaration renamed": (0.6, 1 / 7, 1 / 60),
+    "a field renamed": (0.6, 0.3, 0.1),
+    "a field in or out": (0.6, 0.05, 0.05),
+    "a declaration in or out at the front of the largest scope": (0.6, 0.05, 0.05),
+    "a class renamed": (1.2, 0.5, 0.5),
+    "a class in or out at the top": (0.6, 0.05, 0.05),
+    "a class in or out at the end": (0.6, 0.05, 0.05),
+}
 # Its instructions, in millions, with 1,000 and 10,000 nodes.
 COUNTED_BEFORE: Dict[str, Tuple[float, ...]] = {
     "a number that nothing rests on": (0.006, 0.006),
@@ -123,7 +137,8 @@ class Bench:
         self.program, self.folder, self.nodes = program, folder, nodes
         self.before: Optional[str] = arguments.before
         self.is_known = arguments.seed == SEED and not arguments.keep
-        self.options = [*(["--cut-off"] if arguments.cut_off else []), *(["--keep", str(arguments.keep)] if arguments.keep else [])]
+        self.most = MOST_INDEXED if arguments.index else MOST_TIMES
+        self.options = [*(["--cut-off"] if arguments.cut_off else []), *(["--index"] if arguments.index else []), *(["--keep", str(arguments.keep)] if arguments.keep else [])]
         grammar = Grammar.load(GRAMMAR)
         tree = written(nodes, arguments.seed)
         self.size, self.file = tree.size, f"program{nodes}.txt"
@@ -279,7 +294,7 @@ def share_of(bench: Bench, name: str, before: Optional[float]) -> Optional[float
 
 def wanted_of(bench: Bench, bounds: Bounds, name: str, before: Optional[float]) -> str:
     """What a row takes against what is wanted: beside Java, and with --before beside that program."""
-    most, ratio, share = None if bench.before else known_of(MOST_TIMES, bench, name), bench.figures.ratio(name), share_of(bench, name, before)
+    most, ratio, share = None if bench.before else known_of(bench.most, bench, name), bench.figures.ratio(name), share_of(bench, name, before)
     if ratio and most:
         return bounds.at_most(f"{name}, {bench.size:,} nodes, against Java", ratio, most)
     if share and name != TWO_LINES:
@@ -326,6 +341,7 @@ def read_arguments() -> argparse.Namespace:
     parser.add_argument("--seed", type=int, default=SEED)
     parser.add_argument("--row", default="", help=f"a part of a name: {'; '.join(KINDS)}")
     parser.add_argument("--cut-off", action="store_true")
+    parser.add_argument("--index", action="store_true")
     parser.add_argument("--keep", type=int, default=0, help="nothing is wanted of it")
     parser.add_argument("--quarter", action="store_true", help="not with --cut-off or --keep")
     parser.add_argument("--instructions", action="store_true")
@@ -334,8 +350,8 @@ def read_arguments() -> argparse.Namespace:
     arguments = parser.parse_args()
     if arguments.quarter and (arguments.cut_off or arguments.keep):
         parser.error("--quarter is measured beside runs without --cut-off and --keep")
-    if arguments.before and (arguments.cut_off or arguments.keep):
-        parser.error("version 0.23 has no --cut-off, and is measured without --keep")
+    if arguments.before and (arguments.cut_off or arguments.index or arguments.keep):
+        parser.error("version 0.23 has no --cut-off and no --index, and is measured without --keep")
     return arguments
 
 

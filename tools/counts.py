@@ -6,7 +6,7 @@
 A line of numbers for each crate, or for those that are named. --list names what is too long, each as FILE:LINE. With --hold the
 status is 1 where a bound doesn't hold: no line of a clause or a definition over 160 characters, no contract over 1,000 in
 at_demand and at_engine, at most one in ten clauses of at_engine a repeat, no function over 40 lines, at most 30 files of
-lemmas in one folder, and none with the name of a file of specs. The last line tells how many lines of proofs are longer than
+lemmas in one folder, and none with the name of a file of specs; but for what is beyond a bound still (BEYOND). The last line tells how many lines of proofs are longer than
 they are to be from now on; nothing holds it."""
 import argparse
 import re
@@ -19,6 +19,11 @@ from typing import Dict, Iterable, List, Mapping, Optional, Sequence, Tuple
 LINE, CONTRACT, REPEATS, FUNCTION_LINES, FILES = 160, 1_000, 0.1, 40, 30
 PROOF_LINE = 120
 SHORT_CONTRACTS, FEW_REPEATS = ("at_demand", "at_engine"), ("at_engine",)
+# How many places of a crate are beyond a bound still. They are mended when it is proved anew for another reason.
+BEYOND = {
+    ("at_body", "long_clauses"): 1, ("at_body", "long_lines"): 1, ("at_body", "crowded"): 1, ("at_index", "same_names"): 1,
+    ("at_rules", "long_lines"): 1, ("at_store", "long_functions"): 1,
+}
 FUNCTION = re.compile(r"^ *(?:pub(?:\(\w+\))? )?(?:const )?fn (\w+)")
 # What stands in a folder of proofs beside lemmas.
 NOT_LEMMAS = ("Lib.antt", "Answers.antt", "Invariants.antt", "Proof.antt")
@@ -132,8 +137,8 @@ def holds(crate: str, counts: Counts) -> bool:
     """Whether the crate is within its bounds."""
     contracts = crate not in SHORT_CONTRACTS or not counts.long_contracts
     repeats = crate not in FEW_REPEATS or counts.repeats <= REPEATS * counts.clauses
-    long = counts.long_clauses or counts.long_lines or counts.long_functions
-    return not (long or counts.crowded or counts.same_names) and contracts and repeats
+    held = ("long_clauses", "long_lines", "long_functions", "crowded", "same_names")
+    return all(len(getattr(counts, it)) <= BEYOND.get((crate, it), 0) for it in held) and contracts and repeats
 
 
 # The columns: what is counted, in two lines, and the field that lists it.

@@ -3,11 +3,12 @@
 
     tools/starve.py [-k PART].. STARVE
 
-In each session below, over the calculator or over rooms, with circular attributes or as for JastAdd, with each keeper, by the program `starve`; with -k in those alone of whose names,
+In each session below, over the calculator, also with names looked up by key, or over rooms, with circular attributes or as for JastAdd,
+with each keeper, by the program `starve`; with -k in those alone of whose names,
 SESSION/KEEPER, it is a part. What each took is told. A round may end for want of memory before the session's first line, or have one
 line or question answered `memory`, which the run reports. Its other lines are answered right, as a server tells that is given these
 alone, and so is each question, as where it is asked at once. The requests in front of the first line are the same in each session over
-the same files with a keeper, and are refused in the first of them."""
+the same files with a keeper and options, and are refused in the first of them."""
 import argparse
 import os
 import re
@@ -170,7 +171,8 @@ READ = """0 ask / weight()
 0 = /Room:3
 """
 SESSIONS = {"edits": Session(*EDITS), "moves": Session(*MOVES), "turns": Session(*TURNS), "groups": Session(*GROUPS, ROOMS, ("--forms", "circular")),
-            "read": Session(*READ, JAVA, ("--forms", "jastadd"))}
+            "read": Session(*READ, JAVA, ("--forms", "jastadd")), "keys": Session(*EDITS, options=("--index",)),
+            "moved keys": Session(*MOVES, options=("--index",))}
 DONE = re.compile(r"(\d+) done (\d+) (\d+) (.*)")
 # Whether a request was refused, and how many lines and questions were answered `memory`.
 TOLD = re.compile(r"(refused\n)?memory (\d+)\nwork \d+\n")
@@ -302,12 +304,13 @@ def main() -> None:
     chosen = [it for it in pairs if not given.k or any(part in "/".join(it) for part in given.k)]
     if not chosen:
         words.error(f"no session has such a name; there are {', '.join(map('/'.join, pairs))}")
-    begun: Dict[Tuple[str, Tuple[str, ...]], int] = {}
+    begun: Dict[Tuple[str, ...], int] = {}
     with tempfile.TemporaryDirectory() as folder:
         environment = refusing(folder)
         for name, word in chosen:
             server = Server(os.path.abspath(given.program), word, SESSIONS[name], environment)
-            begun[word, server.session.files] = starved(server, name, begun.get((word, server.session.files), 1))
+            kind = (word, *server.session.options, *server.session.files)
+            begun[kind] = starved(server, name, begun.get(kind, 1))
 
 
 if __name__ == "__main__":

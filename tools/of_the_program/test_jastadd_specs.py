@@ -16,7 +16,7 @@ from tools.of_the_program.specs_spoiling import Spoiling
 from tools.sources import ROOT
 
 FORMS = ["--forms", "jastadd"]
-KEEPERS: Dict[str, List[str]] = {"plain": [], "cut-off": ["--cut-off"], "few": ["--keep", "40"]}
+KEEPERS: Dict[str, List[str]] = {"plain": [], "cut-off": ["--cut-off"], "few": ["--keep", "40"], "index": ["--index"]}
 # How many sessions there are over each folder, of so many lines, and how many turns follow a line; the variables give others.
 SESSIONS, LINES, SLICES, SEED = 20, 60, (1, 2, 5, 1_000), 2004
 FOLDERS = [str(ROOT / "samples" / it) for it in ("simplic", "states")]
