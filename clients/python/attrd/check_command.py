@@ -1,11 +1,11 @@
-"""`python -m attrd check [--tree FILE] GRAMMAR ASPECT..`: all faults of a grammar and its aspects in one go."""
+"""`python -m attrd check [--index] [--tree FILE] GRAMMAR ASPECT..`: all faults of a grammar and its aspects in one go."""
 from __future__ import annotations
 
 import argparse
 import sys
 from typing import Dict, List
 
-from .authoring import Source, check, check_tree, circles
+from .authoring import Source, check, check_tree, circles, searches
 from .errors import AttrdError
 from .grammar import read_file
 from .server import FORMS_HELP
@@ -32,6 +32,8 @@ def _options(words: List[str]) -> argparse.Namespace:
     reader.add_argument("--program", default="attrd", help="the program (attrd on the PATH, where none is given)")
     reader.add_argument("--forms", metavar="WORDS", default="", help=FORMS_HELP)
     reader.add_argument("--tree", metavar="FILE", help="a tree file, of which the fault is told, too")
+    reader.add_argument("--index", action="store_true", help="tell of each exists and each first over a list, too, whether the program's "
+                        "--index makes it a search for a name, and if not, why")
     reader.add_argument("--nodes", metavar="N", type=int, help="how many nodes the tree may have (65536, where none is given)")
     reader.add_argument("--version", action="version", version=f"python -m attrd check {VERSION}")
     return reader.parse_args(words)
@@ -48,6 +50,8 @@ def _tell(given: argparse.Namespace, files: Dict[str, bytes]) -> int:
         print(it)
     for note in circles(grammar, aspects, given.forms):
         print(note)
+    for fold in searches(grammar, aspects, given.forms) if given.index else []:
+        print(fold)
     left_out = f", and {following} left out that only follow{'s' if following == 1 else ''}" if following else ""
     print(f"{len(told)} fault{'' if len(told) == 1 else 's'}{left_out}")
     return 1 if told else 0

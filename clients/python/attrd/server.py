@@ -162,9 +162,10 @@ def kept_for(nodes: int) -> int:
 
 
 def lasting_options(known: FrozenSet[str], values: int = KEPT) -> List[str]:
-    """The options by which a program that runs long keeps at most about so many values, with those that an edit may have changed, where it
-    knows them."""
-    return [*(["--cut-off"] if TOGETHER in known else []), *(["--keep", str(values)] if "--keep" in known else [])]
+    """The options by which a program that runs long keeps at most about so many values, with those that an edit may have changed, and looks
+    names up by key, where it knows them."""
+    return [*(["--cut-off"] if TOGETHER in known else []), *(["--index"] if "--index" in known else []),
+            *(["--keep", str(values)] if "--keep" in known else [])]
 
 
 def _run(words: List[str]) -> Program:

@@ -1,7 +1,7 @@
 """The version of this library, which is that of the program it belongs to."""
 from typing import Optional
 
-VERSION = "0.46"
+VERSION = "0.47"
 
 
 class VersionWarning(UserWarning):

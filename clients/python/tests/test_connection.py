@@ -245,7 +245,7 @@ class Starts(unittest.TestCase):
         self.assertLessEqual({"--socket", "--connections", "--slice", "--cut-off", "--work", "--help"}, known)
         self.assertEqual(attrd.lasting_options(frozenset(["--keep"]), 7), ["--keep", "7"])
         self.assertEqual(attrd.lasting_options(frozenset(["--cut-off", "--keep"]), 7), ["--keep", "7"])
-        self.assertEqual(attrd.lasting_options(known, 7), ["--cut-off", "--keep", "7"])
+        self.assertEqual(attrd.lasting_options(known, 7), ["--cut-off", "--index", "--keep", "7"])
         self.assertEqual(attrd.lasting_options(frozenset(["--work"])), [])
         self.assertEqual(attrd.gathering_options(known), ["--gather"])
         self.assertEqual(attrd.gathering_options(frozenset(["--work"])), [])

@@ -4,8 +4,9 @@ from .circles import Note, circles
 from .completing import completions
 from .finding import Finding
 from .meaning import Meaning, Names, Place
+from .searches import FoldNote, searches
 from .specification import Source, Specification
 from .tree_checking import check_tree
 
-__all__ = ["Checked", "Finding", "Meaning", "Names", "Note", "Place", "Source", "Specification", "check", "check_tree", "checking",
-           "circles", "completions"]
+__all__ = ["Checked", "Finding", "FoldNote", "Meaning", "Names", "Note", "Place", "Source", "Specification", "check", "check_tree",
+           "checking", "circles", "completions", "searches"]

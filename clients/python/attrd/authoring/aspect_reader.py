@@ -84,7 +84,9 @@ class AspectReader(JavaReader):
         self.parameters(declared)
 
     def attribute(self, declared: Declaration) -> None:
+        begun = self.at
         self.front()
+        declared.is_lazy = any((it.kind, it.text) == ("reserved", "lazy") for it in self.words[begun:self.at])
         declared.kind = self.kind("kind")
         declared.of = self.want("name")
         self.want("sign", ".")
