@@ -28,6 +28,14 @@ def path_of(uri: str) -> Optional[Path]:
     return path if parts.scheme == "file" and path.suffix in SUFFIXES and "\0" not in parts.path else None
 
 
+def entries(folder: Path) -> List[Path]:
+    """What is in a folder; nothing where it can't be read, or is gone."""
+    try:
+        return list(folder.iterdir())
+    except OSError:
+        return []
+
+
 @dataclass
 class Folder:
     """A folder. `forms` are those of aspects that are read, and left out else. `texts` are those of its files that are open in the editor,
@@ -63,7 +71,7 @@ class Folder:
             listed = []
         if listed:
             return [self.path / it for it in listed]
-        there = sorted({*self.texts, *(it for it in self.path.glob("*") if it.suffix in SUFFIXES)})
+        there = sorted({*self.texts, *(it for it in entries(self.path) if it.suffix in SUFFIXES)})
         grammars = [it for it in there if it.suffix == ".ast"]
         if len(grammars) != 1:
             raise NoGrammar(f"{self.path} has {len(grammars)} grammars: a file {LISTED} there may name one, and the aspects that belong to it, a line each")
