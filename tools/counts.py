@@ -20,10 +20,7 @@ LINE, CONTRACT, REPEATS, FUNCTION_LINES, FILES = 160, 1_000, 0.1, 40, 30
 PROOF_LINE = 120
 SHORT_CONTRACTS, FEW_REPEATS = ("at_demand", "at_engine"), ("at_engine",)
 # How many places of a crate are beyond a bound still. They are mended when it is proved anew for another reason.
-BEYOND = {
-    ("at_body", "long_clauses"): 1, ("at_body", "long_lines"): 1, ("at_body", "crowded"): 1, ("at_index", "same_names"): 1,
-    ("at_rules", "long_lines"): 1, ("at_store", "long_functions"): 1,
-}
+BEYOND: Dict[Tuple[str, str], int] = {}
 FUNCTION = re.compile(r"^ *(?:pub(?:\(\w+\))? )?(?:const )?fn (\w+)")
 # What stands in a folder of proofs beside lemmas.
 NOT_LEMMAS = ("Lib.antt", "Answers.antt", "Invariants.antt", "Proof.antt")

@@ -44,9 +44,9 @@ use Rattle.at_body.specs.Typed as typed
 use Rattle.at_body.specs.Forms.{place_of, stepped}
 use Rattle.at_body.specs.TypedForms.{AreTasks, Calls, Completes, Continues, Decides, Evaluates, Folds, Forms, GoesOver, IsForm, IsPurpose, IsTypedDoing, Stands, Uses}
 use Rattle.at_body.specs.TypedForms as kinds
-use Rattle.at_body.proofs.TypedUses.{is_truth, is_ref, node_of_class}
-use Rattle.at_body.proofs.TypedAnswers.{evaluated, scope_typed}
-use Rattle.at_body.proofs.TypedSteps.{none_more}
+use Rattle.at_body.proofs.of_typing.TypedUses.{is_truth, is_ref, node_of_class}
+use Rattle.at_body.proofs.of_typing.TypedAnswers.{evaluated, scope_typed}
+use Rattle.at_body.proofs.of_typing.TypedSteps.{none_more}
 use Rattle.at_body.proofs.FormRuns.{alone_there}
 use Rattle.at_body.specs.TypedStart.{IsEquation}
 use Rattle.at_model.proofs.Everywhere.{found}

@@ -32,7 +32,7 @@ use Rattle.at_body.specs.Typed.{AreBound, IsOver, IsPlaceOf, PlaceKinds, kinds_i
 use Rattle.at_body.specs.TypedForms.{AreTasks, Continues, Decides, Evaluates, Folds, Forms, GoesOver, IsPurpose, Uses}
 use Rattle.at_body.specs.TypedForms as kinds
 use Rattle.at_body.specs.ValueKinds.{IsRef}
-use Rattle.at_body.proofs.TypedUses.{is_ref, node_of_class}
+use Rattle.at_body.proofs.of_typing.TypedUses.{is_ref, node_of_class}
 
 module _ (rules : Rules) (at : ClassAt ℕ) where
   abbrev Is : Kind → Value ℕ → Type 0

@@ -19,16 +19,6 @@ pub mod Formed
 pub mod FormKinds
 pub mod SamenessLemmas
 pub mod ShortTexts
-pub mod TypedParts
-pub mod TypedUses
-pub mod TypedFolds
-pub mod TypedAnswers
-pub mod TypedSteps
-pub mod TypedShown
 pub mod Seeks
-pub mod TypedSeeks
 pub mod FormSeeks
-pub mod TypedAbove
-pub mod TypedStarting
-pub mod TypedInstances
-pub mod TypedBegins
+pub mod of_typing

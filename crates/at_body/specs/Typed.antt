@@ -178,7 +178,8 @@ pub data IsTodo (rules : Rules) (at : ClassAt ℕ) : PlaceKinds → Kind → Tod
       IsFold rules.classes at b f k m → HasKind rules (scope_kinds (kinds_inside s b)) (body_view e.now) k →
       IsNodeOf rules.classes at n b → AllByRecursion (λ m. IsNodeOf rules.classes at m b) ns.now →
       IsTodo rules at (kinds_inside s b) k (Element f e n ns) s m
-  under : (s : PlaceKinds) (c b : ℕ) (f : Search) (k m : Kind) (look : Bor Lookup) (e : Bor Body) → shape_of_part rules.classes c look.now.part ≡ Some (Many b) →
+  under : (s : PlaceKinds) (c b : ℕ) (f : Search) (k m : Kind) (look : Bor Lookup) (e : Bor Body) →
+      shape_of_part rules.classes c look.now.part ≡ Some (Many b) →
       IsFold rules.classes at b (fold_of f) k m → HasKind rules (scope_kinds (kinds_inside s b)) (body_view e.now) k →
       IsTodo rules at s (Class c) (Under f look e) s m
   among : (s : PlaceKinds) (b : ℕ) (f : Search) (k m : Kind) (mark : ℕ) (e : Bor Body) (ns : Candidates) →

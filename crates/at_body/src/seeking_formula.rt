@@ -63,7 +63,8 @@ impl<'a> Forming<'a> {
         requires idle_store { IsIdle among.now.store.now }
         ensures same { (meant : Meant)
             → IfOk result (λ d. gone_over meant self.old positive (body_view body.now) (candidates among.now mark) ≡ rest meant d self.new) }
-        ensures less { IfOk result (λ d. weight d self.new + 2 ≤ 3 * tests (size (body_view body.now)) (length (candidates among.now mark)) + load self.old.tasks) }
+        ensures less { IfOk result (λ d.
+            weight d self.new + 2 ≤ 3 * tests (size (body_view body.now)) (length (candidates among.now mark)) + load self.old.tasks) }
         ensures reads { IfOk result (λ d. self.new.trial.reads ≡ self.old.trial.reads) }
         ensures typed { (meant : Meant) (at : ClassAt ℕ) (look : Contents ℕ) → GoesOver meant at self.old body.now (candidates among.now mark)
             → IfOk result (λ d. IsTypedDoing meant at look d self.new) }

@@ -27,7 +27,7 @@ use Rattle.at_index.specs.Readers.{edges_at}
 use Rattle.at_index.specs.Runs.{edges_over}
 use Rattle.at_index.specs.Sameness.{node_at, same_location}
 use Rattle.at_index.proofs.Beginning.{asked_both}
-use Rattle.at_index.proofs.Desks.{at_drawer, in_more, of_desk, over_drawer}
+use Rattle.at_index.proofs.DeskEdges.{at_drawer, in_more, of_desk, over_drawer}
 use Rattle.at_index.proofs.Listed.{no_edges}
 use Rattle.at_index.proofs.Lists.{head_of, none_in}
 use Rattle.at_index.proofs.Locations.{same_location-is, same_location-itself}

@@ -24,7 +24,7 @@ use Rattle.at_store.specs.View.{memory_of}
 use Rattle.at_store.proofs.Found.{path_injective}
 use Rattle.at_store.proofs.Relabelled.{contents_alike}
 use Rattle.at_body.specs.Typed.{class_shown}
-use Rattle.at_body.proofs.TypedInstances.{instance_on}
+use Rattle.at_body.proofs.of_typing.TypedInstances.{instance_on}
 use Rattle.at_evaluate.specs.Valued.{meaning}
 
 pub known_typed : (rules : Rules) → AreWellFormed rules → AreBoolean rules → (s : Shown) → IsIdle s → IsTreeSound rules.classes (tree s) → (i : Instance ℕ) (v : Value ℕ) →

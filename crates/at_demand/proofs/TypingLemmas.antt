@@ -8,7 +8,7 @@ use Rattle.at_model.specs.of_fixpoints.Fixpoints.{HasValue}
 use Rattle.at_store.specs.Shown.{IsIdle, Shown, contents, tree}
 use Rattle.at_body.specs.Typed as trial
 use Rattle.at_body.specs.declared.trial.Trial.{Trial}
-use Rattle.at_body.proofs.TypedUses.{told}
+use Rattle.at_body.proofs.of_typing.TypedUses.{told}
 use Rattle.at_evaluate.specs.Valued.{meaning}
 use Rattle.at_demand.proofs.TypedKnown.{known_typed}
 

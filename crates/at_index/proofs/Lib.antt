@@ -7,7 +7,7 @@ pub mod OneEdge
 pub mod Added
 pub mod Gained
 pub mod Beginning
-pub mod Desks
+pub mod DeskEdges
 pub mod Noted
 pub mod RowEdges
 pub mod RowLists

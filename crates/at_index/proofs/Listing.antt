@@ -1,5 +1,5 @@
 -- Lists of edges that lose those that tell of no entry, and gain one.
-use Rattle.std.proofs.Common.{◌≡◌, ◌⊎◌, inl, inr, ℕ, List, [], ◌∷◌, ◌++◌, Bool, true, false, Contains, refl, sym, subst, arith, zero, suc, map, take, length, eqb-true, eq-eqb}
+use Rattle.std.proofs.Common.{◌≡◌, ◌⊎◌, inl, inr, ℕ, List, [], ◌∷◌, ◌++◌, Bool, true, false, Contains, refl, sym, subst, zero, suc, take, eqb-true, eq-eqb}
 use Rattle.std.specs.List.{list_any}
 use Rattle.std.proofs.lemmas.Bool.{and_from}
 use Rattle.std.proofs.lemmas.List.Elements.{Contains-append_left, Contains-push, Contains-push_cases}
@@ -110,12 +110,6 @@ module _ {L : Type 0} {x : Edge} {mid new : L → List Edge} (ls : List L) (come
       by : (b : Bool) → come l ≡ b → Contains (mid l) x → Contains left l ⊎ Contains (new l) x
       by true is d = inr (has l is)
       by false is d = inr (subst (λ es. Contains es x) (sym (others l is)) d)
-
--- none is left
-pub all_listed : {A L : Type 0} (f : A → L) (x : Edge) (lists : L → List Edge) (ls rest : List A) → length rest ≡ 0
-    → ((l : L) → Contains (map f ls) l → Contains (map f rest) l ⊎ Contains (lists l) x) → AreListed x (map f ls) lists
-all_listed f x lists ls [] none listed l c = elim (listed l c) [ inl d ↦ absurd (none_in l d) | inr d ↦ d ]
-all_listed f x lists ls (y ∷ ys) none listed l c = absurd (omega (arith, none))
 
 pub listed_more : {L : Type 0} (cases : (k l : L) → (k ≡ l) ⊎ (k ≡ l → ⊥)) {x : Edge} {mid new : L → List Edge} (ls : List L) (l : L) → AreListed x ls mid → Contains (new l) x → ((k : L) → (k ≡ l → ⊥) → new k ≡ mid k) → AreListed x (ls ++ l ∷ []) new
 listed_more {L} cases {x} {mid} {new} ls l a has others k c = elim (cases k l) [

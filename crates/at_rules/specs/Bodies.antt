@@ -79,7 +79,8 @@ abbrev mutual
   body_view (body.First' p a part q b) = model.First (body_view a) part (body_view b)
   body_view (body.Sum' p a part q b) = model.Sum (body_view a) part (body_view b)
   body_view (body.SeekAny' p a look q b) = model.SeekAny (body_view a) look.value.part (key_view look.value.key) (sought_view look.value.sought) (body_view b)
-  body_view (body.SeekFirst' p a look q b) = model.SeekFirst (body_view a) look.value.part (key_view look.value.key) (sought_view look.value.sought) (body_view b)
+  body_view (body.SeekFirst' p a look q b) =
+      model.SeekFirst (body_view a) look.value.part (key_view look.value.key) (sought_view look.value.sought) (body_view b)
 
   pub row_view : {m : _} → Row_of-Body m → Exprs
   row_view end_of-Body = no_exprs

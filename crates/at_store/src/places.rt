@@ -96,48 +96,40 @@ pub(crate) fn places_of<'a>(
         → (l : Location ℕ) → IsChild (memory_of slab.now) (node_of l) → named result l ≡ false
         → touched_by nat_eq (told (memory_of slab.now)) leaves brings (change_in prepared.now) l ≡ false }
 {
+    let none = Places {
+        leaving,
+        moved: None,
+        target: None,
+        source: None,
+        keyed: None,
+    };
     match prepared {
         Prepared::Set { node, .. } => Places {
-            leaving,
-            moved: None,
-            target: None,
             source: parent(slab, *node),
-            keyed: None,
+            ..none
         },
         Prepared::Put { node, .. } => Places {
-            leaving,
-            moved: None,
             target: Some(alone(*node)),
-            source: None,
-            keyed: None,
+            ..none
         },
         Prepared::Drop { node } => Places {
-            leaving,
-            moved: None,
-            target: None,
             source: around(slab, *node),
-            keyed: None,
+            ..none
         },
         Prepared::Insert { node, part, .. } => Places {
-            leaving,
-            moved: None,
             target: Some(component(slab, *node, *part as usize)),
-            source: None,
-            keyed: None,
+            ..none
         },
         Prepared::Token { node, .. } => Places {
-            leaving,
-            moved: None,
             target: Some(alone(*node)),
-            source: None,
             keyed: above(slab, *node),
+            ..none
         },
         Prepared::Move { node, to, part, .. } => Places {
-            leaving,
             moved: Some(*node),
             target: Some(component(slab, *to, *part as usize)),
             source: around(slab, *node),
-            keyed: None,
+            ..none
         },
     }
 }

@@ -40,7 +40,7 @@ use Rattle.at_store.specs.View.{memory_of}
 use Rattle.at_store.proofs.Found.{number_found, path_injective}
 use Rattle.at_store.proofs.Relabelled.{contents_alike}
 use Rattle.at_body.specs.Typed.{class_shown}
-use Rattle.at_body.proofs.TypedInstances.{instance_on}
+use Rattle.at_body.proofs.of_typing.TypedInstances.{instance_on}
 use Rattle.at_evaluate.specs.Valued.{meaning}
 use Rattle.at_evaluate.specs.Meant.{AreRightValues}
 use Rattle.at_demand.proofs.Marking.{told_among}

@@ -28,7 +28,7 @@ use Rattle.at_store.specs.View.{memory_of}
 use Rattle.at_store.proofs.Found.{path_injective}
 use Rattle.at_store.proofs.Relabelled.{contents_alike}
 use Rattle.at_body.specs.Typed.{class_shown}
-use Rattle.at_body.proofs.TypedInstances.{instance_on}
+use Rattle.at_body.proofs.of_typing.TypedInstances.{instance_on}
 use Rattle.at_cache.specs.Kept.{Entries}
 use Rattle.at_demand.specs.declared.question.Question.{Question}
 use Rattle.at_demand.specs.Answerable.{IsBasis}

@@ -1,6 +1,6 @@
 use Rattle.at_body.specs.Values.{value_view}
 use Rattle.std.proofs.Common.{false}
-use Rattle.at_body.proofs.TypedUses.{and_enters, and_takes}
+use Rattle.at_body.proofs.of_typing.TypedUses.{and_enters, and_takes}
 use Rattle.at_body.proofs.trial.and.Goals as goal
 
 pub returns-then-truth-clause-typed : goal.returns-then-truth-clause-typed

@@ -2,7 +2,7 @@ use Rattle.at_body.proofs.Entering.{demands}
 use Rattle.std.proofs.Common.{map, refl, Some}
 use Rattle.at_model.proofs.Chained.{chained}
 use Rattle.at_body.specs.Values.{value_view}
-use Rattle.at_body.proofs.TypedUses.{demands_call}
+use Rattle.at_body.proofs.of_typing.TypedUses.{demands_call}
 use Rattle.at_body.proofs.trial.asked.Goals as goal
 
 pub returns-clause-same : goal.returns-clause-same

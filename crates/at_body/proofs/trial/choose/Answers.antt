@@ -1,5 +1,5 @@
 use Rattle.at_body.specs.Values.{value_view}
-use Rattle.at_body.proofs.TypedUses.{choices}
+use Rattle.at_body.proofs.of_typing.TypedUses.{choices}
 use Rattle.at_body.proofs.trial.choose.Goals as goal
 
 pub returns-then-truth-clause-typed : goal.returns-then-truth-clause-typed

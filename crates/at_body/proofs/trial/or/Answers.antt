@@ -1,6 +1,6 @@
 use Rattle.at_body.specs.Values.{value_view}
 use Rattle.std.proofs.Common.{true}
-use Rattle.at_body.proofs.TypedUses.{or_enters, or_takes}
+use Rattle.at_body.proofs.of_typing.TypedUses.{or_enters, or_takes}
 use Rattle.at_body.proofs.trial.or.Goals as goal
 
 pub returns-then-truth-clause-typed : goal.returns-then-truth-clause-typed

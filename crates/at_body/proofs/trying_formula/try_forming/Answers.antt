@@ -6,7 +6,7 @@ use Rattle.at_body.specs.Trying.{onward}
 use Rattle.at_body.specs.Typed.{class_shown}
 use Rattle.at_body.specs.Values.{value_view}
 use Rattle.at_body.proofs.OneTry.{goes_on, next_step}
-use Rattle.at_body.proofs.TypedShown.{shown_typed}
+use Rattle.at_body.proofs.of_typing.TypedShown.{shown_typed}
 use Rattle.at_body.proofs.trying_formula.try_forming.Goals as goal
 
 pub loop-progress-init : goal.loop-progress-init

@@ -2,7 +2,7 @@ use Rattle.std.proofs.Common.{rules, ◌≡◌, ◌∙◌, refl, ap, to_z, of_z,
 use Rattle.std.specs.Fmt.{signed_decimal}
 use Rattle.at_model.specs.Bodies.{int_of}
 use Rattle.at_body.specs.Values.{value_view}
-use Rattle.at_body.proofs.TypedSteps.{joined_seen}
+use Rattle.at_body.proofs.of_typing.TypedSteps.{joined_seen}
 use Rattle.at_body.proofs.using.joined_int.Goals as goal
 
 pub returns-clause-told : goal.returns-clause-told

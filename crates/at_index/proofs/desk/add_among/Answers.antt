@@ -2,7 +2,7 @@ use Rattle.std.proofs.Common.{◌∷◌, [], subst, sym}
 use Rattle.std.proofs.lemmas.Result.{on_ok_weaker}
 use Rattle.at_index.specs.Desks.{drawer_at, edges_in_desks}
 use Rattle.at_index.specs.Linking.{Reads}
-use Rattle.at_index.proofs.Desks.{kept_reads, set_has, set_reads}
+use Rattle.at_index.proofs.DeskEdges.{kept_reads, set_has, set_reads}
 use Rattle.at_index.proofs.desk.add_among.Goals as goal
 
 pub returns-in-Some-clause-reads : goal.returns-in-Some-clause-reads

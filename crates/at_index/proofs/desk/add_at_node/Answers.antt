@@ -3,7 +3,7 @@ use Rattle.std.specs.Prelude.{IsSome}
 use Rattle.std.proofs.lemmas.Result.{on_ok_weaker}
 use Rattle.at_index.specs.Desks.{desk_edges, drawer_at}
 use Rattle.at_index.specs.Linking.{Reads}
-use Rattle.at_index.proofs.Desks.{node_changed, node_gains}
+use Rattle.at_index.proofs.DeskEdges.{node_changed, node_gains}
 use Rattle.at_index.proofs.desk.add_at_node.Goals as goal
 
 pub returns-in-Some-clause-reads : goal.returns-in-Some-clause-reads

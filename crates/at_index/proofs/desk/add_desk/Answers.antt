@@ -1,7 +1,7 @@
 use Rattle.std.proofs.Common.{◌∙◌}
 use Rattle.indexmap.proofs.CallerLemmas.{insert_entry-new}
 use Rattle.at_index.specs.contracts.desk.SpotPartialEq.TheImpl.{ghosts}
-use Rattle.at_index.proofs.Desks.{new_has, new_reads}
+use Rattle.at_index.proofs.DeskEdges.{new_has, new_reads}
 use Rattle.at_index.proofs.desk.add_desk.Goals as goal
 
 pub returns-in-Ok-clause-reads : goal.returns-in-Ok-clause-reads

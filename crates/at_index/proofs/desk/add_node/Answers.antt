@@ -1,6 +1,6 @@
 use Rattle.std.proofs.Common.{◌∷◌, []}
 use Rattle.at_index.specs.Desks.{drawer_at}
-use Rattle.at_index.proofs.Desks.{node_comes, node_gains}
+use Rattle.at_index.proofs.DeskEdges.{node_comes, node_gains}
 use Rattle.at_index.proofs.desk.add_node.Goals as goal
 
 pub returns-in-Ok-clause-reads : goal.returns-in-Ok-clause-reads

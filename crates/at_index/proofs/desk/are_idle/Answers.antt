@@ -1,4 +1,4 @@
-use Rattle.at_index.proofs.Desks.{idle_more}
+use Rattle.at_index.proofs.DeskEdges.{idle_more}
 use Rattle.at_index.proofs.desk.are_idle.Goals as goal
 
 pub loop-row-preserved : goal.loop-row-preserved

@@ -1,4 +1,4 @@
-use Rattle.at_index.proofs.Desks.{found}
+use Rattle.at_index.proofs.DeskEdges.{found}
 use Rattle.at_index.proofs.desk.desks_of.Goals as goal
 
 pub returns-clause-some : goal.returns-clause-some

@@ -5,7 +5,7 @@ use Rattle.at_index.specs.Desks.{desk_edges}
 use Rattle.at_index.specs.Finding.{own_edges}
 use Rattle.at_index.specs.Readers.{edges_at}
 use Rattle.at_index.specs.Runs.{ListsBut}
-use Rattle.at_index.proofs.Desks.{but_more, first_in, first_listed}
+use Rattle.at_index.proofs.DeskEdges.{but_more, first_in, first_listed}
 use Rattle.at_index.proofs.of_runs.Stretches.{adds_beside, but_beside, reads_beside, reads_within, stays_behind, stays_beside}
 use Rattle.at_index.proofs.linking.add_first.Goals as goal
 

@@ -6,7 +6,7 @@ use Rattle.at_body.specs.Forms.{reached}
 use Rattle.at_body.specs.Typed.{class_shown}
 use Rattle.at_body.proofs.FormKinds.{equation_forms}
 use Rattle.at_body.proofs.FormRuns.{begun_found}
-use Rattle.at_body.proofs.TypedShown.{shown_typed}
+use Rattle.at_body.proofs.of_typing.TypedShown.{shown_typed}
 use Rattle.at_body.proofs.forming.Forming.restart.Goals as goal
 
 pub advance-requires-clause-over : goal.advance-requires-clause-over

@@ -3,7 +3,7 @@ use Rattle.std.proofs.Common.{◌∙◌, arith}
 use Rattle.at_body.specs.Typed.{class_shown}
 use Rattle.at_body.specs.Values.{value_view}
 use Rattle.at_model.proofs.Chained.{chained}
-use Rattle.at_body.proofs.TypedUses.{taken}
+use Rattle.at_body.proofs.of_typing.TypedUses.{taken}
 use Rattle.at_body.proofs.trial.Trial.advance.Goals as goal
 
 pub returns-in-Fail-clause-found : goal.returns-in-Fail-clause-found

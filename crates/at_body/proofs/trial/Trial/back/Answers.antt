@@ -7,13 +7,13 @@ use Rattle.at_rules.specs.Bodies.{bodies_view}
 use Rattle.at_body.proofs.Uses.{followed, one_more, unbound}
 use Rattle.at_body.specs.Typed.{class_shown}
 use Rattle.at_body.specs.Typed.{Calls, Folds}
-use Rattle.at_body.proofs.TypedAnswers.{use_operand, operands_fit}
-use Rattle.at_body.proofs.TypedSteps.{use_told, operates_told}
-use Rattle.at_body.proofs.TypedUses.{operands_there, and_tests, or_tests, choices, receiver_is, receives, passes}
+use Rattle.at_body.proofs.of_typing.TypedAnswers.{use_operand, operands_fit}
+use Rattle.at_body.proofs.of_typing.TypedSteps.{use_told, operates_told}
+use Rattle.at_body.proofs.of_typing.TypedUses.{operands_there, and_tests, or_tests, choices, receiver_is, receives, passes}
 use Rattle.at_body.specs.Seeking.{fold_of}
-use Rattle.at_body.proofs.TypedFolds.{holder_is, folds_over, is_told, element_told}
-use Rattle.at_body.proofs.TypedSeeks.{folds_under}
-use Rattle.at_body.proofs.TypedSeeks as seeks
+use Rattle.at_body.proofs.of_typing.TypedFolds.{holder_is, folds_over, is_told, element_told}
+use Rattle.at_body.proofs.of_typing.TypedSeeks.{folds_under}
+use Rattle.at_body.proofs.of_typing.TypedSeeks as seeks
 use Rattle.at_body.proofs.trial.Trial.back.Goals as goal
 
 pub returns-in-Right-clause-same : goal.returns-in-Right-clause-same

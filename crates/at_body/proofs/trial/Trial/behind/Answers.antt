@@ -3,7 +3,7 @@ use Rattle.at_model.specs.Run.{Run, Value}
 use Rattle.at_body.specs.Rest.{rest}
 use Rattle.at_body.specs.Values.{value_view}
 use Rattle.at_body.proofs.Seeks.{unbound_among}
-use Rattle.at_body.proofs.TypedSeeks.{is_behind}
+use Rattle.at_body.proofs.of_typing.TypedSeeks.{is_behind}
 use Rattle.at_body.proofs.trial.Trial.behind.Goals as goal
 
 pub decide_among-requires : goal.decide_among-requires

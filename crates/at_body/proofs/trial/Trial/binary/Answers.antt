@@ -1,7 +1,7 @@
 use Rattle.at_store.specs.Shown.{contents}
 use Rattle.std.proofs.Common.{rules, ◌≡◌, refl, to_z, of_z, w32}
 use Rattle.at_body.proofs.Uses.{followed, kept}
-use Rattle.at_body.proofs.TypedSteps.{computed_seen, joined_told}
+use Rattle.at_body.proofs.of_typing.TypedSteps.{computed_seen, joined_told}
 use Rattle.std.specs.Fmt.{signed_decimal}
 use Rattle.at_model.specs.Bodies.{int_of, text_of}
 use Rattle.at_body.specs.Values.{value_view}

@@ -8,8 +8,8 @@ use Rattle.at_body.specs.Size.{size, sizes}
 use Rattle.at_rules.specs.Bodies.{body_view, bodies_view}
 use Rattle.at_body.proofs.Uses.{receiver_seen, puts}
 use Rattle.at_body.proofs.Entering.{Put, lighter, below_more}
-use Rattle.at_body.proofs.TypedParts.{put_typed}
-use Rattle.at_body.proofs.TypedSteps.{receiver_called}
+use Rattle.at_body.proofs.of_typing.TypedParts.{put_typed}
+use Rattle.at_body.proofs.of_typing.TypedSteps.{receiver_called}
 use Rattle.at_body.proofs.trial.Trial.call.Goals as goal
 
 pub returns-in-Some-clause-same : goal.returns-in-Some-clause-same

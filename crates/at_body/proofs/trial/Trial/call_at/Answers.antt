@@ -2,7 +2,7 @@ use Rattle.std.proofs.Common.{refl}
 use Rattle.at_rules.specs.Bodies.{bodies_view}
 use Rattle.at_body.specs.Size.{sizes}
 use Rattle.at_body.proofs.HandedOn.{handed, handed_less}
-use Rattle.at_body.proofs.TypedAnswers.{handed_on}
+use Rattle.at_body.proofs.of_typing.TypedAnswers.{handed_on}
 use Rattle.at_body.proofs.Uses.{kept}
 use Rattle.at_body.proofs.trial.Trial.call_at.Goals as goal
 

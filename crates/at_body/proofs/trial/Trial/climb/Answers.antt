@@ -5,7 +5,7 @@ use Rattle.at_body.proofs.Climbing.{climbs, found}
 use Rattle.at_body.proofs.Formed.{form_climbs, form_found}
 use Rattle.at_body.specs.Typed.{class_shown}
 use Rattle.at_model.specs.Rules.{attribute_name}
-use Rattle.at_body.proofs.TypedStarting.{passed_stands, at_parent, parent_class, has_parent, some_class, goes_on_above}
+use Rattle.at_body.proofs.of_typing.TypedStarting.{passed_stands, at_parent, parent_class, has_parent, some_class, goes_on_above}
 use Rattle.at_body.proofs.trial.Trial.climb.Goals as goal
 
 pub returns-in-Some-inherited_body-clause-same : goal.returns-in-Some-inherited_body-clause-same

@@ -1,6 +1,6 @@
 use Rattle.at_body.specs.Values.{value_view}
 use Rattle.std.proofs.Common.{true}
-use Rattle.at_body.proofs.TypedFolds.{decides_true, decides_here, sum_goes}
+use Rattle.at_body.proofs.of_typing.TypedFolds.{decides_true, decides_here, sum_goes}
 use Rattle.at_body.proofs.trial.Trial.decide.Goals as goal
 
 pub returns-in-Sum-clause-same : goal.returns-in-Sum-clause-same

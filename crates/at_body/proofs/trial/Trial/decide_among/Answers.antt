@@ -6,7 +6,7 @@ use Rattle.at_body.specs.Seeking.{candidates}
 use Rattle.at_body.specs.Typed.{Takes}
 use Rattle.at_body.specs.Values.{value_view}
 use Rattle.at_body.proofs.Seeks.{decided_at, undecided}
-use Rattle.at_body.proofs.TypedSeeks.{decides_found}
+use Rattle.at_body.proofs.of_typing.TypedSeeks.{decides_found}
 use Rattle.at_body.proofs.trial.Trial.decide_among.Goals as goal
 
 pub returns-then-truth-clause-same : goal.returns-then-truth-clause-same

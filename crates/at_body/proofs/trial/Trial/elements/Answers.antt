@@ -1,7 +1,7 @@
 use Rattle.at_store.specs.Shown.{contents}
 use Rattle.at_rules.specs.Bodies.{body_view}
 use Rattle.at_body.proofs.Uses.{elements_in}
-use Rattle.at_body.proofs.TypedSteps.{elements_seen}
+use Rattle.at_body.proofs.of_typing.TypedSteps.{elements_seen}
 use Rattle.at_body.proofs.trial.Trial.elements.Goals as goal
 
 pub returns-in_ok-push-in-Some-clause-same : goal.returns-in_ok-push-in-Some-clause-same

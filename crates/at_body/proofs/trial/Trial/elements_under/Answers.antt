@@ -12,7 +12,7 @@ use Rattle.at_body.specs.Seeking.{sought_in, candidates, fold_of}
 use Rattle.at_body.proofs.Seeks.{candidates_in, few_less}
 use Rattle.at_body.specs.Rest.{load}
 use Rattle.at_body.specs.Size.{size}
-use Rattle.at_body.proofs.TypedSeeks.{candidates_seen}
+use Rattle.at_body.proofs.of_typing.TypedSeeks.{candidates_seen}
 use Rattle.at_body.proofs.trial.Trial.elements_under.Goals as goal
 
 pub returns-in_ok-push-in-Some-clause-same : goal.returns-in_ok-push-in-Some-clause-same

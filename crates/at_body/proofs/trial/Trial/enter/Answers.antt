@@ -10,7 +10,7 @@ use Rattle.at_body.proofs.Entering.{bounded, brought, call_view}
 use Rattle.at_model.specs.Bodies.{TokenOf, Arithmetic, Call}
 use Rattle.at_rules.specs.Bodies.{operator_view}
 use Rattle.at_body.specs.Typed.{class_shown}
-use Rattle.at_body.proofs.TypedParts.{part_enters, asks_token, computes, calls}
+use Rattle.at_body.proofs.of_typing.TypedParts.{part_enters, asks_token, computes, calls}
 use Rattle.at_body.proofs.trial.Trial.enter.Goals as goal
 
 pub returns-in-TokenOf-clause-same : goal.returns-in-TokenOf-clause-same

@@ -15,11 +15,11 @@ use Rattle.at_model.specs.Bodies as model
 use Rattle.at_class.specs.Keys.{key_view}
 use Rattle.at_rules.specs.Bodies.{order_view, sought_view}
 use Rattle.at_body.specs.Typed.{class_shown}
-use Rattle.at_body.proofs.TypedParts.{part_enters, put_typed, negates, opposes, tests, casts, asks_child, asks_count, asks_has, passes, compares, joins, joins_int, same, differs, equals, asks_element, conjoins, disjoins, chooses, exists, first, sums}
+use Rattle.at_body.proofs.of_typing.TypedParts.{part_enters, put_typed, negates, opposes, tests, casts, asks_child, asks_count, asks_has, passes, compares, joins, joins_int, same, differs, equals, asks_element, conjoins, disjoins, chooses, exists, first, sums}
 use Rattle.at_body.proofs.Seeks.{any_shape, first_shape}
-use Rattle.at_body.proofs.TypedSeeks.{seeks_any, seeks_first}
-use Rattle.at_body.proofs.TypedAnswers.{at_hand_takes}
-use Rattle.at_body.proofs.TypedSteps.{entered_same, entered_told, index_there, name_there}
+use Rattle.at_body.proofs.of_typing.TypedSeeks.{seeks_any, seeks_first}
+use Rattle.at_body.proofs.of_typing.TypedAnswers.{at_hand_takes}
+use Rattle.at_body.proofs.of_typing.TypedSteps.{entered_same, entered_told, index_there, name_there}
 use Rattle.at_body.proofs.trial.Trial.enter_any.Goals as goal
 
 pub returns-in-Name-clause-same : goal.returns-in-Name-clause-same

@@ -1,9 +1,9 @@
 use Rattle.std.proofs.Common.{◌∙◌, [], subst, sym, ap, map}
 use Rattle.at_body.specs.Values.{value_view}
 use Rattle.at_body.specs.Typed.{Calls}
-use Rattle.at_body.proofs.TypedParts.{put_typed}
-use Rattle.at_body.proofs.TypedSteps.{none_more}
-use Rattle.at_body.proofs.TypedUses.{next_enters}
+use Rattle.at_body.proofs.of_typing.TypedParts.{put_typed}
+use Rattle.at_body.proofs.of_typing.TypedSteps.{none_more}
+use Rattle.at_body.proofs.of_typing.TypedUses.{next_enters}
 use Rattle.at_model.specs.Bodies.{demand_of, no_exprs}
 use Rattle.at_model.specs.Run.{Ref}
 use Rattle.at_body.specs.Rest.{onto}

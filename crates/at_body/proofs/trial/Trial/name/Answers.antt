@@ -4,7 +4,7 @@ use Rattle.at_body.proofs.Naming.{is_bound, is_behind, behind}
 use Rattle.at_body.specs.Values.{value_view}
 use Rattle.at_model.specs.Run.{Gives}
 use Rattle.at_body.specs.Typed.{ComesTo}
-use Rattle.at_body.proofs.TypedSteps.{behind_there}
+use Rattle.at_body.proofs.of_typing.TypedSteps.{behind_there}
 use Rattle.at_body.proofs.trial.Trial.name.Goals as goal
 
 pub returns-in-Some-clause-same : goal.returns-in-Some-clause-same

@@ -7,9 +7,9 @@ use Rattle.at_body.specs.Seeking.{fold_of}
 use Rattle.at_body.specs.Typed.{GoesOver}
 use Rattle.at_body.proofs.Entering.{enters}
 use Rattle.at_body.proofs.Seeks.{first_candidate}
-use Rattle.at_body.proofs.TypedParts.{put_typed}
-use Rattle.at_body.proofs.TypedSeeks.{candidate_enters}
-use Rattle.at_body.proofs.TypedFolds.{comes_to}
+use Rattle.at_body.proofs.of_typing.TypedParts.{put_typed}
+use Rattle.at_body.proofs.of_typing.TypedSeeks.{candidate_enters}
+use Rattle.at_body.proofs.of_typing.TypedFolds.{comes_to}
 use Rattle.at_body.proofs.trial.Trial.next_among.Goals as goal
 
 pub returns-in_ok-push-in-Some-clause-same : goal.returns-in_ok-push-in-Some-clause-same

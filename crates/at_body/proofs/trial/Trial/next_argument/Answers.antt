@@ -5,9 +5,9 @@ use Rattle.at_body.specs.Values.{value_view}
 use Rattle.at_rules.specs.Bodies.{body_view, bodies_view}
 use Rattle.at_body.proofs.Entering.{completed, enters, first_arg, none_left}
 use Rattle.at_body.specs.Typed.{Calls}
-use Rattle.at_body.proofs.TypedParts.{put_typed}
-use Rattle.at_body.proofs.TypedUses.{complete, next_enters}
-use Rattle.at_body.proofs.TypedSteps.{none_more}
+use Rattle.at_body.proofs.of_typing.TypedParts.{put_typed}
+use Rattle.at_body.proofs.of_typing.TypedUses.{complete, next_enters}
+use Rattle.at_body.proofs.of_typing.TypedSteps.{none_more}
 use Rattle.at_body.proofs.trial.Trial.next_argument.Goals as goal
 
 pub returns-in-Some-clause-same : goal.returns-in-Some-clause-same

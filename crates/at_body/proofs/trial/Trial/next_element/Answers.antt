@@ -5,9 +5,9 @@ use Rattle.std.proofs.Common.{subst}
 use Rattle.at_body.specs.Values.{value_view}
 use Rattle.at_body.specs.Rest.{place_of}
 use Rattle.at_body.specs.Typed.{GoesOver}
-use Rattle.at_body.proofs.TypedParts.{put_typed}
-use Rattle.at_body.proofs.TypedFolds.{element_enters, comes_to}
-use Rattle.at_body.proofs.TypedSteps.{none_more}
+use Rattle.at_body.proofs.of_typing.TypedParts.{put_typed}
+use Rattle.at_body.proofs.of_typing.TypedFolds.{element_enters, comes_to}
+use Rattle.at_body.proofs.of_typing.TypedSteps.{none_more}
 use Rattle.at_body.proofs.trial.Trial.next_element.Goals as goal
 
 pub returns-in_ok-push-in-Some-clause-same : goal.returns-in_ok-push-in-Some-clause-same

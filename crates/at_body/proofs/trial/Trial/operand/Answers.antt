@@ -9,9 +9,9 @@ use Rattle.at_rules.specs.Bodies.{body_view}
 use Rattle.at_body.proofs.Entering.{lighter, settles}
 use Rattle.at_body.specs.Typed.{class_shown}
 use Rattle.at_body.specs.Values.{value_view}
-use Rattle.at_body.proofs.TypedAnswers.{use_operand}
-use Rattle.at_body.proofs.TypedSteps.{hand_uses, use_told}
-use Rattle.at_body.proofs.TypedParts.{put_typed}
+use Rattle.at_body.proofs.of_typing.TypedAnswers.{use_operand}
+use Rattle.at_body.proofs.of_typing.TypedSteps.{hand_uses, use_told}
+use Rattle.at_body.proofs.of_typing.TypedParts.{put_typed}
 use Rattle.at_body.proofs.trial.Trial.operand.Goals as goal
 
 pub returns-in-Some-clause-same : goal.returns-in-Some-clause-same

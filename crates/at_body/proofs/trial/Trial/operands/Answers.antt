@@ -8,8 +8,8 @@ use Rattle.at_body.specs.Size.{size}
 use Rattle.at_rules.specs.Bodies.{body_view}
 use Rattle.at_body.proofs.Entering.{lighter, below_more}
 use Rattle.at_body.specs.Values.{value_view}
-use Rattle.at_body.proofs.TypedSteps.{hand_uses}
-use Rattle.at_body.proofs.TypedParts.{put_typed}
+use Rattle.at_body.proofs.of_typing.TypedSteps.{hand_uses}
+use Rattle.at_body.proofs.of_typing.TypedParts.{put_typed}
 use Rattle.at_body.proofs.trial.Trial.operands.Goals as goal
 
 pub returns-in-Some-clause-same : goal.returns-in-Some-clause-same

@@ -5,7 +5,7 @@ use Rattle.at_body.specs.Values.{value_view}
 use Rattle.at_rules.specs.Bodies.{body_view}
 use Rattle.at_body.proofs.Climbing.{alone}
 use Rattle.at_body.proofs.Formed.{form_own}
-use Rattle.at_body.proofs.TypedStarting.{own_stands}
+use Rattle.at_body.proofs.of_typing.TypedStarting.{own_stands}
 use Rattle.at_body.proofs.trial.Trial.own.Goals as goal
 
 pub returns-clause-same : goal.returns-clause-same

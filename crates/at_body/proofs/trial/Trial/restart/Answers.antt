@@ -1,8 +1,8 @@
 use Rattle.at_store.specs.Shown.{contents}
 use Rattle.std.proofs.Common.{refl, ◌∙◌, ap, sym, map}
 use Rattle.at_body.proofs.Steps.{behind_same}
-use Rattle.at_body.proofs.TypedShown.{shown_typed}
-use Rattle.at_body.proofs.TypedStarting.{equation_enters}
+use Rattle.at_body.proofs.of_typing.TypedShown.{shown_typed}
+use Rattle.at_body.proofs.of_typing.TypedStarting.{equation_enters}
 use Rattle.at_body.specs.Typed.{class_shown}
 use Rattle.at_body.proofs.trial.Trial.restart.Goals as goal
 

@@ -6,8 +6,8 @@ use Rattle.at_body.proofs.Entering.{settles}
 use Rattle.at_store.specs.Shown.{contents}
 use Rattle.at_body.specs.Values.{value_view}
 use Rattle.at_model.specs.Run.{Int}
-use Rattle.at_body.proofs.TypedAnswers.{operands_fit}
-use Rattle.at_body.proofs.TypedSteps.{hand_operates, operates_told}
+use Rattle.at_body.proofs.of_typing.TypedAnswers.{operands_fit}
+use Rattle.at_body.proofs.of_typing.TypedSteps.{hand_operates, operates_told}
 use Rattle.at_body.proofs.trial.Trial.right_operand.Goals as goal
 
 pub returns-in-Int-clause-same : goal.returns-in-Int-clause-same

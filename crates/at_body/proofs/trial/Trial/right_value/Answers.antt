@@ -8,10 +8,10 @@ use Rattle.at_body.proofs.Uses.{instead, puts, right_shape}
 use Rattle.at_body.specs.Size.{size}
 use Rattle.at_rules.specs.Bodies.{body_view}
 use Rattle.at_body.proofs.Entering.{lighter, settles}
-use Rattle.at_body.proofs.TypedAnswers.{operands_fit}
-use Rattle.at_body.proofs.TypedUses.{right_follows}
-use Rattle.at_body.proofs.TypedParts.{put_typed}
-use Rattle.at_body.proofs.TypedSteps.{hand_operates, operates_told}
+use Rattle.at_body.proofs.of_typing.TypedAnswers.{operands_fit}
+use Rattle.at_body.proofs.of_typing.TypedUses.{right_follows}
+use Rattle.at_body.proofs.of_typing.TypedParts.{put_typed}
+use Rattle.at_body.proofs.of_typing.TypedSteps.{hand_operates, operates_told}
 use Rattle.at_body.proofs.trial.Trial.right_value.Goals as goal
 
 pub returns-in-Some-clause-same : goal.returns-in-Some-clause-same

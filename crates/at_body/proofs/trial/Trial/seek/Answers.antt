@@ -8,8 +8,8 @@ use Rattle.at_model.specs.Rules.{start_of}
 use Rattle.at_body.proofs.Formed.{seek_formed, seek_same}
 use Rattle.at_body.specs.Values.{value_view}
 use Rattle.at_model.specs.Run.{Is}
-use Rattle.at_body.proofs.TypedShown.{shown_typed}
-use Rattle.at_body.proofs.TypedBegins.{begins}
+use Rattle.at_body.proofs.of_typing.TypedShown.{shown_typed}
+use Rattle.at_body.proofs.of_typing.TypedBegins.{begins}
 use Rattle.at_body.proofs.trial.Trial.seek.Goals as goal
 
 pub begin-requires-clause-formed : goal.begin-requires-clause-formed

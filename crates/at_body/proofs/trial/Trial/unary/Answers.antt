@@ -4,7 +4,7 @@ use Rattle.at_model.specs.Bodies.{passed}
 use Rattle.at_body.specs.Values.{value_view}
 use Rattle.at_body.specs.Typed.{ComesTo}
 use Rattle.at_body.proofs.Uses.{followed, kept}
-use Rattle.at_body.proofs.TypedSteps.{told_still}
+use Rattle.at_body.proofs.of_typing.TypedSteps.{told_still}
 use Rattle.at_body.proofs.trial.Trial.unary.Goals as goal
 
 pub returns-in-Child-clause-same : goal.returns-in-Child-clause-same

@@ -2,7 +2,7 @@ use Rattle.std.proofs.Common.{rules, ◌≡◌, refl, to_z, of_z, w32}
 use Rattle.at_model.specs.Bodies.{int_of}
 use Rattle.at_body.specs.Values.{value_view}
 use Rattle.at_store.specs.Shown.{contents}
-use Rattle.at_body.proofs.TypedSteps.{computed_seen}
+use Rattle.at_body.proofs.of_typing.TypedSteps.{computed_seen}
 use Rattle.at_body.proofs.trial.Trial.with_int.Goals as goal
 
 pub returns : goal.returns

@@ -4,7 +4,7 @@ use Rattle.at_model.specs.Run.{Instance}
 use Rattle.at_store.specs.Shown.{contents}
 use Rattle.at_body.specs.Values.{value_view}
 use Rattle.at_body.specs.Typed.{IsTypedStep, class_shown}
-use Rattle.at_body.proofs.TypedShown.{shown_typed}
+use Rattle.at_body.proofs.of_typing.TypedShown.{shown_typed}
 use Rattle.at_body.specs.declared.trial.Step.{Step}
 use Rattle.at_demand.specs.declared.evaluation.Recalled.{Recalled}
 use Rattle.at_body.specs.declared.trial.Step.TheVariants as step

@@ -6,7 +6,7 @@ use Rattle.at_store.specs.Shown.{contents}
 use Rattle.at_body.specs.Values.{value_view}
 use Rattle.at_body.specs.Typed.{class_shown}
 use Rattle.at_body.specs.TypedForms.{IsTypedProgress}
-use Rattle.at_body.proofs.TypedShown.{shown_typed}
+use Rattle.at_body.proofs.of_typing.TypedShown.{shown_typed}
 use Rattle.at_body.specs.declared.forming.Progress.{Progress}
 use Rattle.at_body.specs.declared.forming.Progress.TheVariants as progress
 use Rattle.at_demand.specs.declared.evaluation.Demanded.{Demanded}

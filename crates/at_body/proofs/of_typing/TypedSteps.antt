@@ -28,9 +28,9 @@ use Rattle.at_body.specs.Standing.{names, scope}
 use Rattle.at_body.specs.Rest.{ev, place_of, with_one, with_two}
 use Rattle.at_body.specs.Calling.{IsReceiver}
 use Rattle.at_body.specs.Typed.{ComesTo, IsOver, PlaceKinds, name_kinds, scope_kinds, AreBound, Stands, Takes, Enters, Uses, Calls, Operates, GoesOver, Folds, IsTypedNow}
-use Rattle.at_body.proofs.TypedUses.{taken, receives, right_follows, operands_there}
-use Rattle.at_body.proofs.TypedFolds.{elements_there}
-use Rattle.at_body.proofs.TypedAnswers.{evaluated_now, at_hand_takes, use_typed, operates_typed}
+use Rattle.at_body.proofs.of_typing.TypedUses.{taken, receives, right_follows, operands_there}
+use Rattle.at_body.proofs.of_typing.TypedFolds.{elements_there}
+use Rattle.at_body.proofs.of_typing.TypedAnswers.{evaluated_now, at_hand_takes, use_typed, operates_typed}
 
 -- nothing is left of what has no length
 pub none_more : {A : Type 0} (xs : List A) → length xs ≡ 0 → xs ≡ []

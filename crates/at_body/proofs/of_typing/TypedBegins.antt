@@ -13,8 +13,8 @@ use Rattle.at_body.specs.declared.trial.Trial.{Trial}
 use Rattle.at_body.specs.Values.{value_view}
 use Rattle.at_body.specs.Typed.{class_shown}
 use Rattle.at_body.specs.TypedStart.{Begins, HasEquation}
-use Rattle.at_body.proofs.TypedShown.{shown_typed}
-use Rattle.at_body.proofs.TypedInstances.{own_there, above_there}
+use Rattle.at_body.proofs.of_typing.TypedShown.{shown_typed}
+use Rattle.at_body.proofs.of_typing.TypedInstances.{own_there, above_there}
 
 module _ (rules : Rules) (s : Shown) (idle : IsIdle s) (ok : AreWellFormed rules) (sound : IsTreeSound rules.classes (tree s)) (i : Instance ℕ) (w : IsWellTyped rules (class_shown s) AnyText i) where
   inherits : is_inherited rules i.attribute ≡ w.declaration.is_inherited

@@ -32,10 +32,10 @@ use Rattle.at_body.specs.Seeking.{candidates, fold_of, found_by}
 use Rattle.at_body.specs.ValueKinds.{IsRef, IsTruth}
 use Rattle.at_body.specs.Typed.{AreBound, AreTodos, Decides, Enters, Folds, GoesOver, IsFold, IsOver, IsPlaceOf, IsTodo, PlaceKinds, Takes, Uses, kinds_inside, scope_kinds}
 use Rattle.at_body.specs.Typed as typed
-use Rattle.at_body.proofs.TypedFolds.{decides_here, decides_true}
-use Rattle.at_body.proofs.TypedParts.{IsPart}
-use Rattle.at_body.proofs.TypedSteps.{seen_goes}
-use Rattle.at_body.proofs.TypedUses.{is_ref, is_truth, node_of_class}
+use Rattle.at_body.proofs.of_typing.TypedFolds.{decides_here, decides_true}
+use Rattle.at_body.proofs.of_typing.TypedParts.{IsPart}
+use Rattle.at_body.proofs.of_typing.TypedSteps.{seen_goes}
+use Rattle.at_body.proofs.of_typing.TypedUses.{is_ref, is_truth, node_of_class}
 
 -- the node that a search asks is a part of it
 module _ (rules : Rules) (at : ClassAt ℕ) (s : PlaceKinds) where

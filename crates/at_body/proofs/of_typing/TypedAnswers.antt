@@ -25,7 +25,7 @@ use Rattle.at_body.specs.Rest.{ev, ev_all, place_of, with_one, with_two}
 use Rattle.at_body.specs.ValueKinds.{AreAlike}
 use Rattle.at_body.specs.Typed.{IsOperand, AreOperands, ComesTo, IsOver, PlaceKinds, name_kinds, scope_kinds, AreBound, IsPlaceOf, IsUse, IsOperation, IsTodo, AreTodos, Stands, Takes, Enters, Uses, Operates, Calls, IsTypedNow}
 use Rattle.at_body.specs.Typed as typed
-use Rattle.at_body.proofs.TypedUses.{is_int, is_truth, is_text, is_ref}
+use Rattle.at_body.proofs.of_typing.TypedUses.{is_int, is_truth, is_text, is_ref}
 
 any_literal : (bytes : List ℕ) → AnyText bytes
 any_literal bytes = tt

@@ -24,7 +24,7 @@ use Rattle.at_body.specs.Rest.{place_of, over}
 use Rattle.at_body.specs.ValueKinds.{IsRef}
 use Rattle.at_body.specs.Typed.{IsOver, PlaceKinds, name_kinds, scope_kinds, kinds_inside, AreBound, IsPlaceOf, IsFold, IsTodo, AreTodos, Stands, Takes, Enters, Uses, IsTold, GoesOver, Decides, Folds}
 use Rattle.at_body.specs.Typed as typed
-use Rattle.at_body.proofs.TypedUses.{is_int, is_truth, is_ref, backs, node_of_class}
+use Rattle.at_body.proofs.of_typing.TypedUses.{is_int, is_truth, is_ref, backs, node_of_class}
 
 module _ (rules : Rules) (at : ClassAt ℕ) where
   abbrev Is : Kind → Value ℕ → Type 0

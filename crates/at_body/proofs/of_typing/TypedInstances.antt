@@ -24,7 +24,7 @@ use Rattle.at_store.specs.View.{memory_of}
 use Rattle.at_store.proofs.Relabelled.{contents_alike}
 use Rattle.at_body.specs.Typed.{class_shown}
 use Rattle.at_body.specs.TypedStart.{HasEquation}
-use Rattle.at_body.proofs.TypedAbove.{has_above, above_back}
+use Rattle.at_body.proofs.of_typing.TypedAbove.{has_above, above_back}
 
 module _ (rules : Rules) (path : ℕ → Option Node) (at : ClassAt Node) where
   abbrev At : ClassAt ℕ
