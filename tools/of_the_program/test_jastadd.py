@@ -1,4 +1,5 @@
 """JastAdd's own language of aspects: `--forms jastadd`. What it reads row by row is tests/pages/JASTADD.md."""
+import re
 import shlex
 from pathlib import Path
 from typing import List
@@ -24,6 +25,8 @@ REPLIES = b"0 = true\n0 = false\n0 = true\n0 ok 1\n0 = false\n"
 NAMING = "--forms jastadd", "--forms=jastadd", "--forms jastadd,circular", "--forms circular,jastadd", "--forms jastadd,jastadd"
 # Samples whose aspects need no word, or `circular`; what is told of them is the same in either language.
 SAMPLES = "calculator", "grammars", "flow", "machines", "objects"
+# The head of an equation for a component, up to the accessor's name behind `get`.
+FOR_COMPONENT = re.compile(r"(\beq\s+\w+\s*\.\s*)get(?=\w+\s*\((?:int \w+)?\)\s*\.)")
 
 
 def commands(folder: Path) -> List[List[str]]:
@@ -75,3 +78,24 @@ class JastAdd(ProgramTest):
                     self.assertEqual((out, err, run.returncode), ((folder / words[-1]).read_bytes(), b"", 0))
                 count += 1
         self.assertGreaterEqual(count, len(SAMPLES))
+
+    def renamed(self, path: Path) -> Path:
+        """A copy of a file in which equations name components by themselves; the file where it has no such equation."""
+        text, count = FOR_COMPONENT.subn(r"\1", path.read_text(encoding="utf-8"))
+        if count == 0:
+            return path
+        copy = self.folder / f"{path.parent.name}-{path.name}"
+        copy.write_text(text, encoding="utf-8")
+        return copy
+
+    def test_equations_name_components_by_themselves(self) -> None:
+        for folder in (ROOT / "samples" / name for name in SAMPLES):
+            for words in commands(folder):
+                at = words.index("<")
+                written = [folder / it for it in words[:at] if "." in it]
+                files = [self.renamed(it) for it in written]
+                with self.subTest(" ".join(words)):
+                    self.assertNotEqual(files, written)
+                    run = self.begin(["--forms", "jastadd", *files])
+                    out, err = run.communicate((folder / words[at + 1]).read_bytes(), timeout=60)
+                    self.assertEqual((out, err, run.returncode), ((folder / words[-1]).read_bytes(), b"", 0))

@@ -1,5 +1,6 @@
 -- Declarations: attributes, equations and methods (JastAdd2 reference manual, attributes; Java Language Specification 8.4).
-use Rattle.std.specs.Prelude.{[], ◌∷◌, ◌++◌, Bool, true, false, cond, not, ◌&&◌, ◌||◌, Option, Some, None}
+use Rattle.std.specs.Prelude.{[], ◌∷◌, ◌++◌, Bool, true, false, cond, not, ◌&&◌, ◌||◌, nat_eq, Option, Some, None}
+use Rattle.std.specs.List.{starts_with}
 use lib.Chars.{codes}
 use Rattle.at_text.specs.Symbols.{PlacedToken}
 use Rattle.at_text.specs.Rows.{Row, is_sign, is_word, is_name_token, next_is}
@@ -203,10 +204,14 @@ inherited at row = then_read (laziness None row) (λ lazy rest. after_word (code
 abbrev pub own_equation : Place → Target → Row → Read Decl
 own_equation at t row = then_read (body row) (λ b left. got (record { at = at; form = syntax.Equation t.class t.name t.params b }) left)
 
+-- the getter of the child that an equation names: `get..` as it stands, and `get` in front of what is a component's own name
+abbrev pub child_getter : Word → Word
+child_getter w = cond (starts_with nat_eq w.text (codes "get")) w (record { text = codes "get" ++ w.text; at = w.at })
+
 -- of an attribute that the target's child is given
 abbrev pub child_equation : Place → Target → Row → Read Decl
 child_equation at t row = then_read (name row) (λ w paren. then_read (params w.text paren) (λ ps rest. then_read (body rest) (λ b left.
-    got (record { at = at; form = syntax.InheritedEquation t.class t.name (index t.params.items) w ps b }) left)))
+    got (record { at = at; form = syntax.InheritedEquation t.class (child_getter t.name) (index t.params.items) w ps b }) left)))
 
 -- behind its target: behind a getter's, `.` may stand
 abbrev pub equation_of : Place → Target → Row → Read Decl

@@ -11,7 +11,7 @@ ghost use Rattle.at_jrag.specs.View.{params_view, body_view, ending_view, decl_v
 ghost use Rattle.at_jrag.specs.Heads.{is_getter, index};
 ghost use Rattle.at_java.specs.Read.{Read, got, Fails};
 ghost use Rattle.at_java.specs.Seen.{target_view, declared_view};
-ghost use Rattle.at_java.specs.Declarations.{block_body, expression_body, body, ending, synthesized, computed, inherited, own_equation, child_equation};
+ghost use Rattle.at_java.specs.Declarations.{block_body, expression_body, body, ending, synthesized, computed, inherited, own_equation, child_getter, child_equation};
 ghost use Rattle.at_java.specs.Declarations.{equation, heads_method, begins_method, method, other_declared, declared, limited, is_modifier, behind_modifiers, first_declared, declaration};
 
 use super::constants::Declared;
@@ -25,6 +25,7 @@ use at_text::cursor::{is_name_token, is_sign, is_word};
 use at_text::fault::Failure;
 use at_text::place::Place;
 use at_text::placed::Placed;
+use std::alloc::{AllocError, Global};
 
 /// Whether the parameters may stand behind a getter: there are none, or an `int` alone.
 fn is_getter(params: &Params) -> bool
@@ -57,6 +58,20 @@ fn index_of(params: Params) -> Option<Word>
         Some(param) => Some(name_of(param)),
         None => None,
     }
+}
+
+/// The getter of the child that an equation names: `get..` as it stands, and `get` in front of what is a component's own name.
+fn child_getter(alloc: Global, name: Word) -> Result<Word, AllocError>
+    ensures { IfOk result (λ w. word_view w ≡ child_getter (word_view name)) }
+{
+    let text = name.text.as_str();
+    if text.starts_with("get") {
+        return Ok(name);
+    }
+    Ok(Word {
+        text: format!(in alloc; "get{text}")?,
+        at: name.at,
+    })
 }
 
 /// Whether a kind begins with the token.
@@ -271,18 +286,19 @@ impl<'a> Reader<'a> {
         Ok(Decl { at, form })
     }
 
-    /// An equation for the target's child, whose `eq` has this place, behind the getter and its `.`.
+    /// An equation for the target's child, whose `eq` has this place, behind the child's name or getter and its `.`.
     fn child_equation(&mut self, at: Place, target: Target) -> Result<Decl, ReadFault>
         ensures found { IfOk result (λ d. child_equation at (target_view target) (left self.old.cursor.rest.now)
             ≡ got (decl_view d) (left self.new.cursor.rest.now)) }
         ensures fault { IfErr result (λ e. Fails e (left self.new.cursor.rest.now) (child_equation at (target_view target) (left self.old.cursor.rest.now))) }
     {
+        let getter = child_getter(self.alloc, target.name)?;
         let name = self.name()?;
         let params = self.params(name.text.as_str())?;
         let body = self.body()?;
         let form = DeclForm::InheritedEquation {
             class: target.class,
-            getter: target.name,
+            getter,
             index: index_of(target.params),
             name,
             params,
