@@ -204,15 +204,19 @@ class OfStatements(unittest.TestCase):
         self.assertEqual([it["name"] for it in symbols][:3], ["Function.two()", "Function.two(int)", "IdUse.decl"])
 
     def test_constants(self) -> None:
-        """The attribute and the accessor of its component mean the same, and the class tells of it."""
+        """The attribute, the name of its component in an equation, and the accessor of that mean the same."""
         told = self.told("names.jrag", "print().getIdDecl().getID", 0)
         self.assertIn('syn nta Function Program.print() = new Function( new IdDecl("print"), new List<Param>()', told)
         self.assertIn("equations: Program", told)
-        self.assertEqual(self.told("names.jrag", "getprint()", 0), told)
         declared = ["names.jrag:61 print"]
         self.assertEqual(self.lines("definition", "names.jrag", "print().getIdDecl().getID", 0), declared)
-        self.assertEqual(self.lines("definition", "names.jrag", "getprint()", 0), declared)
+        self.assertEqual(self.told("names.jrag", "print().isPredefined", 0), told)
+        self.assertEqual(self.lines("definition", "names.jrag", "print().isPredefined", 0), declared)
         self.assertEqual(self.lines("definition", "names.jrag", "Numeral(0)"), ["simplic.ast:18 Numeral"])
+        self.client.change("names.jrag", "print().isPredefined", "getprint().isPredefined")
+        self.assertEqual(self.client.diagnoses("names.jrag"), [])
+        self.assertEqual(self.told("names.jrag", "getprint()", 0), told)
+        self.assertEqual(self.lines("definition", "names.jrag", "getprint()", 0), declared)
         self.client.change("names.jrag", "new Return(new Numeral(0))", "new Return(new Numeral(false))")
         self.assertEqual([it.split(" ")[1] for it in self.client.diagnoses("names.jrag")], ["J4"])
 

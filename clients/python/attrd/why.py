@@ -242,7 +242,7 @@ class Why:
                 for getter in (f"get{step.part}", "getChild"):
                     for it in found:
                         own = it.declaration
-                        if own.of is not None and own.getter is not None and (own.of.text, own.getter.text) == (name, getter):
+                        if own.of is not None and own.getter is not None and (own.of.text, own.accessor) == (name, getter):
                             return it, path, step.index
         raise NoReason(f"no node above {instance.path} has an equation for {instance.attribute}")
 

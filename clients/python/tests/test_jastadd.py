@@ -149,11 +149,27 @@ CONSTANTS = """aspect A {
   syn nta R P.m() { List<S> l = new List<S>(); return new R(l, new Opt()); } //: J10/11
   inh nta C S.n(); eq P.getChild().n() = null; //: J10/11
   syn C P.o() = new C(1, true); //: J10/11
-  eq P.none().i() = 2; //: J3/11
+  eq P.none().i() = 2; //: J6/0
+  eq P.head().i() = 3; eq R.S(int n).i() { return n; }
+  eq R.head().i() = 4; //: J3/11
+  eq P.nothing().i() = 5; //: J3/0
+  syn nta S P.getOne() = new S("1");
+  eq P.getgetOne().i() = 6;
+  eq P.getOne().i() = 7; //: J3/11
   syn int P.p() = getnix().size(); //: J3/0
   syn int P.q() = gete().i();
 }
 """
+# What is wrong with the name of a component, each alone: an equation, what is said, and the beginning of the hint.
+MISNAMED = [
+    ("eq R.head().i() = 4;", "R has no component head. There is C, S.", "A constant stands in the nodes of its class and of those below it: "
+     "the equation is for one of these, or for all nodes below a node above, by `getChild()`."),
+    ("eq P.heads().i() = 5;", "P has no component heads. There is head, and 2 more.", ""),
+    ("eq R.gets().i() = 7;", "R has no component of the accessor gets. There is getS, getC.", ""),
+    ("syn nta S P.getOne() = new S(\"1\"); eq P.getOne().i() = 8;",
+     "P has no component of the accessor getOne. There is getgetOne, getnone, gethead, getR.",
+     "A name that begins with `get` is that of an accessor: that of this constant is `getgetOne()`."),
+]
 PLANTED = Source("s.ast", "P ::= R; R ::= S* [C]; S ::= <Name>; T : S; C ::= <N:int> <B:boolean>; V ::= <Name>;")
 # Declarations behind `syn nta`, and whether each is a constant.
 WRITTEN = [
@@ -304,7 +320,7 @@ class Reading(unittest.TestCase):
     def test_equations_for_components_name_inherited_attributes(self):
         declared = "aspect Y { inh int B.i(); inh boolean B.on(String n); eq A.getB().i() = 1; syn int B.s() = 2; }"
         for forms in "", "jastadd":
-            for head in "A.getB().|", "A.getB(int i).o|", "A.getChild() . |":
+            for head in "A.getB().|", "A.getB(int i).o|", "A.getChild() . |", *(("A.B().|", "A.B(int i).o|") if forms else ()):
                 with self.subTest(head, forms=forms):
                     self.assertEqual(completed(f"aspect X {{ eq {head} }} {declared}", forms), {"i", "on"})
 
@@ -329,6 +345,29 @@ class Reading(unittest.TestCase):
             self.assertEqual([it.file for it in names.at("x.jrag", text.index(word)).declared] if word != "S>().add" else ["s.ast"], ["s.ast"], word)
         self.assertIn("constants: S none(), R head()", names.told_of_class("P"))
         self.assertEqual([(it.of, it.kind) for name, it in names.specification.accessors("P").items() if name == "gethead"], [("P", "R")])
+
+    def test_constants_are_named_by_themselves(self):
+        text = "aspect A { syn nta S P.none() = new S(\"?\"); inh int S.i(); eq P.none().i() = 1; eq P.R().i() = 2; eq R.S(int n).i() = n; }"
+        self.assertEqual(check(PLANTED, [Source("x.jrag", text)], PROGRAM, "jastadd").findings, [])
+        names = Names(Specification(PLANTED, [Source("x.jrag", text)], "jastadd"))
+        declared = names.at("x.jrag", text.index("none() = new"))
+        meaning = names.at("x.jrag", text.index("none().i"))
+        self.assertEqual((meaning.key, meaning.declared, meaning.told), (declared.key, declared.declared, declared.told))
+        self.assertEqual(names.references(declared), [declared.place, meaning.place])
+        for word, of, part, at in ("R().i", "P", "R", 6), ("S(int n", "R", "S", PLANTED.text.index("S*")):
+            meaning = names.at("x.jrag", text.index(word))
+            self.assertEqual((meaning.key, [it[:2] for it in meaning.declared]), (("component", of, part), [("s.ast", at)]))
+        self.assertEqual(names.at("x.jrag", text.index("i();")).told, "inh int S.i()\nequations: P.none(), P.R(), R.S()")
+        plain = Names(Specification(PLANTED, [Source("x.jrag", text)]))
+        self.assertIsNone(plain.at("x.jrag", text.index("R().i")))
+
+    def test_what_is_said_of_names_of_components(self):
+        text = "aspect A { syn nta S P.none() = new S(\"?\"); syn nta R P.head() = new R(new List(), new Opt()); inh int S.i(); eq P.getChild().i() = 1; }"
+        for equation, said, hint in MISNAMED:
+            with self.subTest(equation):
+                found = check(PLANTED, [Source("x.jrag", f"{text} aspect B {{ {equation} }}")], PROGRAM, "jastadd").findings
+                self.assertEqual([(it.code, it.message) for it in found], [("J3", said)])
+                self.assertTrue(found[0].hint.startswith(hint), found[0].hint)
 
     def test_constants_are_completed(self):
         declared = "aspect Y { syn nta B A.head() = new B(\"x\"); } "

@@ -70,6 +70,13 @@ class Reasons(OverFiles):
         for wrong in ("a(05)", "a(-0)", "a(True)", "a(+1)"):
             self.assertRaises(attrd.SyntaxFault, read_call, wrong)
 
+    def test_a_component_is_named_by_itself(self):
+        aspect = "aspect A { inh int B.a(); eq P.B(int n).a() = n + 1; eq P.getChild().a() = 7; }"
+        session, why = self.open("P ::= B* [C:B]; B ::= <X>;", read_term('P([B("x"),B("y")],B("z"))'), [("a.jrag", aspect)], "jastadd")
+        for path, lines in ("/B:1", ["/B:1.a() = 2", "  a.jrag:1: P.B().a() = n + 1", "  at /", "  with n = 1"]), ("/C", ["/C.a() = 7"]):
+            found = str(run(session, why.reason(Instance(Path.read(path), "a", ())))).splitlines()
+            self.assertEqual(found[:len(lines)], lines)
+
     def test_what_is_not_there(self):
         for path, attribute in (("/Nix", "value"), ("/", "nix")):
             with self.assertRaises(attrd.NoReason):

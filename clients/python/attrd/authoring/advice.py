@@ -180,8 +180,9 @@ class Advice:
         if above is not None:
             return f"The attribute is declared as {self._head(above)}."
         if it.getter is not None and word == it.getter.text and it.of is not None:
-            own = [f"get{part.name}" for part in self._parts(it.of.text)]
-            return f"{it.of.text} has no component of the accessor {word}. {self._near(word, own)}".strip()
+            front = it.accessor[:len(it.accessor) - len(word)]
+            own = [f"get{part.name}"[len(front):] for part in self._parts(it.of.text)]
+            return f"{it.of.text} has no component {'' if front else 'of the accessor '}{word}. {self._near(word, own)}".strip()
         if it.index is not None and word == it.index.text:
             return f"{word} stands for the index of an element, and {it.getter.text if it.getter else 'it'} is no list."
         if refused.code == "J3":

@@ -143,6 +143,7 @@ class AspectReader(JavaReader):
         self.want("sign", ".")
         if self.word(self.at + 1).text == "(" and self._is_for_component():
             declared.getter = self.want("name")
+            declared.accessor = self.accessor(declared.getter.text)
             self.want("sign", "(")
             self.index(declared)
             self.want("sign", ")")
@@ -162,8 +163,12 @@ class AspectReader(JavaReader):
         if self.take("reserved", "int"):
             declared.index = self.want("name")
             self.bound += (Binding(declared.index),)
-            if declared.getter is not None and declared.getter.text == "getChild":
+            if declared.accessor == "getChild":
                 self.left_out(first, "index", "")
+
+    def accessor(self, name: str) -> str:
+        """The accessor of the component that an equation names."""
+        return name
 
     def _is_for_component(self) -> bool:
         at = self.at

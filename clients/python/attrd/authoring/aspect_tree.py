@@ -88,13 +88,13 @@ class Piece:
 class Declaration:
     """A declaration, as far as it could be read, from `start` to before `end`. `form` is syn, inh, eq or other.
 
-    `of` is its class and `name` its attribute; an equation for a component has its accessor in `getter` (`getStmt`), and perhaps the
-    name of an `index`. `is_lazy` is whether it says `lazy`, `is_circular` whether it says `circular [..]`. Where a tree is written down
-    that stands in each node of the class, `constant` is the word `nta`, and the tree is the body. `pieces` are stretches that this
-    profile leaves out (`circular [..]`, `nta`, types of Java). `locals` are the names that are bound in its body, each behind the kind
-    that is written in front of it, and `untaken` the offsets of statements in it that aren't taken. `made` are all expressions that were
-    read, whole ones and those of what could not be read to its end. Of the form other, `sort` says what it is in JastAdd2: method, field,
-    coll and the like, or nothing where that isn't known.
+    `of` is its class and `name` its attribute; an equation for a component has the word that names it in `getter`, the `accessor` for
+    which that stands (`getStmt`), and perhaps the name of an `index`. `is_lazy` is whether it says `lazy`, `is_circular` whether it says
+    `circular [..]`. Where a tree is written down that stands in each node of the class, `constant` is the word `nta`, and the tree is the
+    body. `pieces` are stretches that this profile leaves out (`circular [..]`, `nta`, types of Java). `locals` are the names that are
+    bound in its body, each behind the kind that is written in front of it, and `untaken` the offsets of statements in it that aren't
+    taken. `made` are all expressions that were read, whole ones and those of what could not be read to its end. Of the form other, `sort`
+    says what it is in JastAdd2: method, field, coll and the like, or nothing where that isn't known.
     """
 
     form: str
@@ -104,6 +104,7 @@ class Declaration:
     kind: Optional[Word] = None
     of: Optional[Word] = None
     getter: Optional[Word] = None
+    accessor: str = ""
     index: Optional[Word] = None
     name: Optional[Word] = None
     parameters: List[Binding] = field(default_factory=list)

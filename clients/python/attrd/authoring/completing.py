@@ -19,6 +19,8 @@ _HEAD = re.compile(r"\b(syn|inh|eq)\s+[^;={}]*\Z")
 _JASTADD_HEAD = re.compile(rf"\b(syn|inh|eq|{'|'.join((*PLAIN, *KINDS))})\s+[^;={{}}]*\Z")
 # Where the name of an inherited attribute stands in an equation for a component.
 _GIVEN = re.compile(r"\beq\s+\w+\s*\.\s*get\w+\s*\([^()]*\)\s*\.\s*\Z")
+# The same where a component may be named by itself.
+_JASTADD_GIVEN = re.compile(r"\beq\s+\w+\s*\.\s*\w+\s*\([^()]*\)\s*\.\s*\Z")
 _OWNER = re.compile(r"(\w+)\s*\.\s*\Z")
 # Where the class of a loop's element stands, and where a statement begins.
 _LOOP = re.compile(r"\bfor\s*\(\s*(?:final\s+)?\Z")
@@ -95,7 +97,7 @@ class Completing:
 
     def _in_head(self) -> Dict[str, str]:
         """The names in the head of a declaration: of a class, or behind its dot of what it may declare or have an equation for."""
-        if _GIVEN.search(self.front):
+        if (_JASTADD_GIVEN if self._is_jastadd() else _GIVEN).search(self.front):
             declared = (it.declaration for name in self.specification.attribute_names for it in self.specification.named(name))
             return _told(it for it in declared if it.form == "inh")
         head, owner = (_JASTADD_HEAD if self._is_jastadd() else _HEAD).search(self.front), _OWNER.search(self.front)

@@ -10,8 +10,8 @@ from .aspect_tree import Declaration, Expression, Form, Piece
 from .mending import Refused
 from .specification import NODES, Placed, Specification, is_java_kind
 from .ways import (AT_ROOT, BELOW_ROOT, BY_ACCESSOR, BY_KINDS, COMPUTED, FIFTH, FORMS, IN_JASTADD, JAVA_TYPES, NAMES, NO_VALUE, NUMBERS,
-                   OF_CONSTANTS, OF_JAVA, OF_LISTS, OF_SETS, ONE_LINE, OTHER_KIND, OTHERWISE, OVERLOADED, OVERRIDDEN, TOO_MANY, TWO_FORMS,
-                   TWO_TYPES, Way, way_of_body)
+                   OF_CONSTANTS, OF_JAVA, OF_LISTS, OF_OTHERS, OF_SETS, ONE_LINE, OTHER_KIND, OTHERWISE, OVERLOADED, OVERRIDDEN, TOO_MANY,
+                   TWO_FORMS, TWO_TYPES, Way, way_of_body)
 
 _SEVERAL = re.compile(r"get(\w+)s")
 _OPTIONAL = re.compile(r"get(\w+)Opt")
@@ -115,10 +115,10 @@ class Hints:
     def _of_getter(self, name: str, it: Declaration) -> Optional[Way]:
         """What helps where an equation is for a component that isn't there: for what `nta` declares, or `getStmts`."""
         if any(placed.declaration.constant is not None for placed in self.specification.named(name)):
-            return Way(BY_ACCESSOR.format(f"eq {'' if it.of is None else it.of.text}.get{name}().{'' if it.name is None else it.name.text}() = ..;"), 11)
+            return OF_OTHERS if it.accessor != name else Way(BY_ACCESSOR.format(f"get{name}()"), 11)
         if any(piece.sort == "nta" for placed in self.specification.named(name) for piece in placed.declaration.pieces):
             return Way(f"`{name}()` is made by an equation: make it a child in the grammar, and let the equation be for its accessor.", 11)
-        return self._of_accessor(name, None)
+        return self._of_accessor(it.accessor, None)
 
     def _of_expression(self, code: str, expression: Expression, it: Declaration) -> Optional[Way]:
         unbound = self.unbound(expression, it)
@@ -253,4 +253,4 @@ class Hints:
 def _heads(it: Declaration) -> List[Optional[str]]:
     """What a declaration is for: equations of equal heads are for the same."""
     form = "syn" if it.form in ("syn", "eq") and it.getter is None and it.body is not None else it.form
-    return [form, *(None if word is None else word.text for word in (it.of, it.getter, it.name))]
+    return [form, it.accessor, *(None if word is None else word.text for word in (it.of, it.name))]

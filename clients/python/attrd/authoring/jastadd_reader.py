@@ -49,6 +49,9 @@ class JastAddReader(ConstantReader):
         self.parameters(declared)
         self.body(declared)
 
+    def accessor(self, name: str) -> str:
+        return name if name.startswith("get") else f"get{name}"
+
     def front(self) -> None:
         while self.next.text in ("lazy", "final"):
             self.at += 1

@@ -74,7 +74,7 @@ class Names:
             if word is not None and word.text not in KINDS:
                 yield from self._class(file, word)
         if it.getter is not None and it.of is not None:
-            yield from self._accessor(file, it.getter, it.of.text)
+            yield from self._accessor(file, it.getter, it.accessor, it.of.text)
         if it.name is not None and it.of is not None:
             yield from self._attribute(file, it.name, self._declared(placed, it.name.text, it.of.text))
         for binding in [*it.parameters, *([Binding(it.index)] if it.index is not None else [])]:
@@ -104,7 +104,7 @@ class Names:
     def _call(self, file: str, it: Expression, within: Declaration) -> Iterator[Meaning]:
         of = self.specification.receiver_kind(it, within)
         if of is not None and it.word.text in self.specification.accessors(of):
-            yield from self._accessor(file, it.word, of)
+            yield from self._accessor(file, it.word, it.word.text, of)
         elif of is None or of in self.specification.grammar:
             name, count = it.word.text, len(it.arguments)
             own = None if of is None else self.specification.attribute(of, name, count)
@@ -117,8 +117,9 @@ class Names:
             declared = (Place(self.specification.grammar_file.name, known.name.at, known.name.end),)
             yield Meaning(_place(file, word), ("class", word.text), declared, self.told_of_class(word.text))
 
-    def _accessor(self, file: str, word: Word, of: str) -> Iterator[Meaning]:
-        accessor = self.specification.accessors(of).get(word.text)
+    def _accessor(self, file: str, word: Word, name: str, of: str) -> Iterator[Meaning]:
+        """The meaning of a word that stands for the accessor of that name."""
+        accessor = self.specification.accessors(of).get(name)
         if accessor is not None and accessor.constant is not None:
             yield from self._attribute(file, word, [accessor.constant])
         elif accessor is not None:

@@ -537,7 +537,7 @@ class Mending:
         if code not in IN_BODY:
             return False
         if it.getter is not None and it.getter.at == offset:
-            is_of_constant = it.getter.text.startswith("get") and it.getter.text in before
+            is_of_constant = it.accessor.startswith("get") and it.accessor in before
             return is_of_constant or (it.of is not None and it.of.text in before)
         words = {word.text for word in _words(text[it.start:it.parameters_end or it.end]) if word.at + it.start == offset}
         return bool(words & before) or (code == "J4" and self._is_marred(it))

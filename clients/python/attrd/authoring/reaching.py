@@ -43,7 +43,7 @@ def _equated(specification: Specification, attribute: Declaration) -> Dict[str, 
     for placed in specification.equations(attribute):
         it = placed.declaration
         if it.of is not None and it.getter is not None:
-            found.setdefault(it.of.text, set()).add(it.getter.text)
+            found.setdefault(it.of.text, set()).add(it.accessor)
     return found
 
 

@@ -119,7 +119,9 @@ OF_CONSTANTS: Dict[str, Way] = {
                 "child, `new List()` with `.add(new Y(..))` for a list, `new Opt()` or `new Opt(new Y(..))` for an optional.", 11),
     "kind of tree": Way("The kind of a constant is a class of the grammar.", 11),
     "itself": Way("What is always there can't go on without an end: declare it for classes of which its own tree has none.", 11)}
-BY_ACCESSOR = "An equation for a constant is named by the accessor of its component: `{}`."
+BY_ACCESSOR = "A name that begins with `get` is that of an accessor: that of this constant is `{}`."
+OF_OTHERS = Way("A constant stands in the nodes of its class and of those below it: the equation is for one of these, or for all nodes below a "
+                "node above, by `getChild()`.", 11)
 # What helps where bodies of statements are read.
 IN_JASTADD: Dict[str, Way] = {
     "nta": Way(f"What is always there is written down: {_WRITTEN} What depends on the tree is an attribute that answers what would be asked "
