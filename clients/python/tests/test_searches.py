@@ -176,7 +176,9 @@ class Rows(unittest.TestCase):
             self.assertEqual([it.reason for it in told(body)], reasons, body)
         without = aspect_of("syn boolean Part.isSo(String n); syn boolean Shop.a(String n) = exists (p : getPartList()) { p.isSo(n) };")
         self.assertEqual([it.reason for it in searches(GRAMMAR, [without])], ["the class Item has no equation for `isSo`"])
-        self.assertEqual(searches(Source("shop.ast", GRAMMAR.text + "Shop;"), [ASKED]), [])
+        asking = aspect_of("syn boolean Shop.a(String n) = exists (p : getPartList()) { p.isNamed(n) };")
+        for text, count in ((GRAMMAR.text, 1), (GRAMMAR.text + "Shop;", 0), (GRAMMAR.text + "Other : Nix;", 0), ("Shop ::= <", 0)):
+            self.assertEqual(len(searches(Source("shop.ast", text), [ASKED, asking])), count, text)
 
 
 class Classes(unittest.TestCase):

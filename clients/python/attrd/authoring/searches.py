@@ -42,7 +42,7 @@ def searches(grammar: Source, aspects: Sequence[Source], forms: str = "") -> Lis
     """A note for each `exists` and each `first`, where these forms are read, in the order of the texts; none where the grammar has a
     fault."""
     specification = Specification(grammar, aspects, forms)
-    if specification.whole.grammar is None:
+    if specification.whole.faults:
         return []
     judge = _Judge(specification)
     return [note for placed in specification.declarations for note in judge.notes(placed)]
