@@ -145,6 +145,19 @@ class Rows(unittest.TestCase):
         for body, reasons in BODIES:
             self.assertEqual(tuple(it.reason for it in told(body)), reasons, body)
 
+    def test_by_which_tokens(self):
+        """Each token once, in the order of the grammar's classes; none where it is no search."""
+        for among, test, tokens in (
+                ("Part", "p.isNamed(n)", ("Name",)),
+                ("Part", "p.isMade(n) && p == q", ("Maker",)),
+                ("Part", "p.isItemOrTool(n)", ("Name", "Maker")),
+                ("Part", "p == q && p.isNamed(n)", ()),
+                ("Named", "n.equals(p.getName())", ("Name",)),
+                ("Named", "p.getName().equals(getOwner())", ())):
+            self.assertEqual([it.tokens for it in told(f"exists (p : get{among}List()) {{ {test} }}")], [tokens], test)
+        found = told("exists (p : getPartList()) { p.isItemOrTool(n) }")
+        self.assertEqual([it.told for it in found], ["`exists (p : getPartList())` is a search by the token Name or Maker."])
+
     def test_the_program_takes_them(self):
         """What isn't refused is what the rows are about."""
         folds = [*(f"exists (p : getPartList()) {{ {test} }}" for test, _ in OF_PARTS),
@@ -160,7 +173,7 @@ class Rows(unittest.TestCase):
   inh boolean Part.asked(String n);
   eq Box.getPart().asked(String n) = exists (p : getPartList()) { p.asked(n) };""")
         self.assertEqual([str(it) for it in searches(GRAMMAR, [aspect, ASKED]) if it.file == "x.jrag"], [
-            "x.jrag:3:5: note. `exists (p : // that one getPartList())` is a search.",
+            "x.jrag:3:5: note. `exists (p : // that one getPartList())` is a search by the token Name.",
             f"x.jrag:4:42: note. `first (p : getPartList())` is no search: {TOKEN}.",
             "x.jrag:6:38: note. `exists (p : getPartList())` is no search: `asked` is inherited."])
 
@@ -250,13 +263,14 @@ syn Part Root.c(String n) { for (Part p : getParts()) if (p.is(n + "x")) return 
 syn Part Root.d(String n) = first (p : getParts()) { p.is(n) };
 """ + self.NAMED)
         self.assertEqual([str(it) for it in found], [
-            "x.jrag:4:3: note. `for (Part p : getParts())` is a search.",
+            "x.jrag:4:3: note. `for (Part p : getParts())` is a search by the token Name.",
             "x.jrag:5:3: note. `for (Part p : getPartList())` is no search: the test isn't first.",
             "x.jrag:8:3: note. `for (final Part p : getParts())` is no search: no token of p is compared with a text.",
-            "x.jrag:9:3: note. `for (Part p : getParts())` is a search.",
-            "x.jrag:9:44: note. `exists (s : getParts())` is a search.",
+            "x.jrag:9:3: note. `for (Part p : getParts())` is a search by the token Name.",
+            "x.jrag:9:44: note. `exists (s : getParts())` is a search by the token Name.",
             "x.jrag:12:29: note. `for (Part p : getParts())` is no search: the text isn't a literal or a parameter.",
-            "x.jrag:13:29: note. `first (p : getParts())` is a search."])
+            "x.jrag:13:29: note. `first (p : getParts())` is a search by the token Name."])
+        self.assertEqual([it.end - it.start for it in found], [3, 3, 3, 3, 6, 3, 5])
 
     def test_loops_that_are_not_taken(self):
         """A loop that counts isn't read, and nothing is told of its body."""
@@ -358,7 +372,7 @@ class Command(unittest.TestCase):
         self.assertEqual(status, 1)
         self.assertTrue(lines[0].startswith(f"{aspect}:2:23: J3 unknown name. "), lines[0])
         self.assertEqual(lines[-3:], [
-            f"{files[1]}:4:48: note. `first (s : getStmtList())` is a search.",
+            f"{files[1]}:4:48: note. `first (s : getStmtList())` is a search by the token ID.",
             f"{aspect}:3:37: note. `exists (s : getStmtList())` is no search: no token of s is compared with a text.", "1 fault"])
         self.assertEqual(self.run_check(*files), (1, [*lines[:-3], "1 fault"]))
         self.assertEqual(self.run_check("--index", *files[:2]), (0, [lines[-3], "0 faults"]))

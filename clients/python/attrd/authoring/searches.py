@@ -15,6 +15,8 @@ from .specification import Placed, Source, Specification, component_of
 
 # The folds that may be searches.
 LOOKING = ("exists", "first")
+# The word of a loop that is read as such a fold.
+LOOP = "for"
 # The program notes in 32 bits which classes compare a token, from a number on that is a multiple of four.
 WINDOW, STEP = 32, 4
 TOO_FAR = "the classes stand too far apart in the grammar"
@@ -25,23 +27,36 @@ NOT_REACHED = "isn't reached by names, casts, children and attributes without ar
 
 class FoldNote(NamedTuple):
     """Of an `exists` or a `first`, or a loop that is read as one, at a place of a file: its text up to the braces, and why it is no search.
-    The reason is empty where it is one."""
+    The reason is empty where it is one, and `tokens` are then those by which it looks, by the classes of the list. Its word stands from
+    `start` to before `end`."""
 
     file: str
     line: int
     column: int
+    start: int
+    end: int
     head: str
     reason: str
+    tokens: Tuple[str, ...]
+
+    @property
+    def told(self) -> str:
+        """What there is to tell of it, without its place."""
+        told = f"no search: {self.reason}" if self.reason else f"a search by the token {' or '.join(self.tokens)}"
+        return f"`{self.head}` is {told}."
 
     def __str__(self) -> str:
-        told = f"no search: {self.reason}" if self.reason else "a search"
-        return f"{self.file}:{self.line}:{self.column}: note. `{self.head}` is {told}."
+        return f"{self.file}:{self.line}:{self.column}: note. {self.told}"
 
 
 def searches(grammar: Source, aspects: Sequence[Source], forms: str = "") -> List[FoldNote]:
     """A note for each `exists` and each `first`, where these forms are read, in the order of the texts; none where the grammar has a
     fault."""
-    specification = Specification(grammar, aspects, forms)
+    return searches_of(Specification(grammar, aspects, forms))
+
+
+def searches_of(specification: Specification) -> List[FoldNote]:
+    """The same of what was read already."""
     if specification.whole.faults:
         return []
     judge = _Judge(specification)
@@ -55,8 +70,22 @@ class _Element(NamedTuple):
     of: str
 
 
+class _Token(NamedTuple):
+    """A token that is compared: its name, and where it stands among the components of its class."""
+
+    name: str
+    position: int
+
+
+class _Verdict(NamedTuple):
+    """Why a fold is no search; where it is one the reason is empty, and there are the names of the tokens by which it looks."""
+
+    reason: str
+    tokens: Tuple[str, ...] = ()
+
+
 class _Judge:
-    """Tells why a fold is no search."""
+    """Tells which folds are searches."""
 
     def __init__(self, specification: Specification) -> None:
         self.specification, self.grammar = specification, specification.grammar
@@ -70,7 +99,9 @@ class _Judge:
             at = fold.word.at
             line, begin = text.count("\n", 0, at) + 1, text.rfind("\n", 0, at) + 1
             head = " ".join(text[at:fold.parts[0].end].split()) + ")"
-            yield FoldNote(file, line, at - begin + 1, head, IN_A_CALL if at in called else self._reason(fold, it))
+            end = at + len(LOOP if text.startswith(LOOP, at) else fold.word.text)
+            verdict = _Verdict(IN_A_CALL) if at in called else self._verdict(fold, it)
+            yield FoldNote(file, line, at - begin + 1, at, end, head, verdict.reason, verdict.tokens)
 
     def _within_calls(self, within: Declaration) -> Set[int]:
         """Where the folds begin that stand in what an attribute is asked of, or is passed."""
@@ -83,22 +114,22 @@ class _Judge:
         of = within.of.text if it.receiver is None else self.specification.kind_of(it.receiver, within)
         return of in self.grammar and self.specification.attribute(of or "", it.word.text, len(it.arguments)) is not None
 
-    def _reason(self, fold: Expression, within: Declaration) -> str:
-        """Why a fold is no search; empty where it is one, and so for all reasons here."""
+    def _verdict(self, fold: Expression, within: Declaration) -> _Verdict:
+        """Whether a fold is a search."""
         among, test = fold.parts
         kind = self.specification.kind_of(among, within)
         if among.form is not Form.CALL or kind is None or not kind.endswith("*"):
-            return "it goes over no list"
+            return _Verdict("it goes over no list")
         if not _is_reached(among.receiver):
-            return f"the node with the list {NOT_REACHED}"
+            return _Verdict(f"the node with the list {NOT_REACHED}")
         if not all(_is_reached(it.among.receiver) for it in fold.bound if it.among is not None):
-            return f"the node with the list of a fold around it {NOT_REACHED}"
+            return _Verdict(f"the node with the list of a fold around it {NOT_REACHED}")
         element = _Element(test.bound[-1].name.text, kind.rstrip("*"))
         first, *others = [self._of_test(it, element) for it in _conjuncts(test)]
-        return "the test isn't first" if first and "" in others else first
+        return _Verdict("the test isn't first") if first.reason and any(not it.reason for it in others) else first
 
-    def _of_test(self, test: Expression, element: _Element) -> str:
-        """Why elements aren't looked for by a test."""
+    def _of_test(self, test: Expression, element: _Element) -> _Verdict:
+        """Whether elements are looked for by a test."""
         if test.form is Form.CALL and test.receiver is not None and len(test.arguments) == 1:
             receiver, argument = _plain(test.receiver), _plain(test.arguments[0])
             if _is_name(receiver, element.name):
@@ -108,15 +139,15 @@ class _Judge:
                 return self._of_token(names[0] or names[1] or "", argument if names[0] else receiver, element)
         return _nothing_compared(element)
 
-    def _of_token(self, name: str, text: Expression, element: _Element) -> str:
+    def _of_token(self, name: str, text: Expression, element: _Element) -> _Verdict:
         """The same of a comparison of a token of the element with a text."""
         classes = self.grammar.concrete_below(element.of)
         places = {self._position(it, name) for it in classes}
         if len(places) != 1 or None in places:
-            return f"not each class below {element.of} has the token {name} at one position"
-        return self._too_far(classes) if _is_given(text) else OTHER_TEXT
+            return _Verdict(f"not each class below {element.of} has the token {name} at one position")
+        return self._near(classes, (name,)) if _is_given(text) else _Verdict(OTHER_TEXT)
 
-    def _of_call(self, name: str, text: Expression, element: _Element) -> str:
+    def _of_call(self, name: str, text: Expression, element: _Element) -> _Verdict:
         """The same of an attribute of the element that is asked with a text."""
         placed = self.specification.attribute(element.of, name, 1)
         if placed is None:
@@ -129,30 +160,30 @@ class _Judge:
                                  (it.is_circular, f"`{name}` is circular"),
                                  (not _is_given(text), OTHER_TEXT)):
             if is_wrong:
-                return reason
+                return _Verdict(reason)
         return self._of_equations(name, self._equations(it, above))
 
-    def _of_equations(self, name: str, equations: Dict[str, Optional[Declaration]]) -> str:
+    def _of_equations(self, name: str, equations: Dict[str, Optional[Declaration]]) -> _Verdict:
         """The same of an attribute of which classes have these equations."""
-        compared: Dict[str, int] = {}
+        compared: Dict[str, _Token] = {}
         for of, equation in equations.items():
             if equation is None or equation.of is None or equation.body is None:
-                return f"the class {of} has no equation for `{name}`"
-            place, body = self._compared(equation), _plain(equation.body)
-            if place is not None:
-                compared[of] = place
+                return _Verdict(f"the class {of} has no equation for `{name}`")
+            token, body = self._compared(equation), _plain(equation.body)
+            if token is not None:
+                compared[of] = token
             elif (body.form, body.word.text) != (Form.CONSTANT, "false"):
-                return f"the class {equation.of.text} has another equation for `{name}`"
+                return _Verdict(f"the class {equation.of.text} has another equation for `{name}`")
         if not compared:
-            return f"no equation for `{name}` compares a token with its parameter"
-        if len(set(compared.values())) > 1:
-            return f"the tokens that `{name}` compares don't stand at one position"
-        return self._too_far(compared)
+            return _Verdict(f"no equation for `{name}` compares a token with its parameter")
+        if len({it.position for it in compared.values()}) > 1:
+            return _Verdict(f"the tokens that `{name}` compares don't stand at one position")
+        return self._near(compared, tuple(dict.fromkeys(it.name for it in compared.values())))
 
-    def _too_far(self, classes: Iterable[str]) -> str:
-        """The same of classes that compare, of which there are some."""
+    def _near(self, classes: Iterable[str], tokens: Tuple[str, ...]) -> _Verdict:
+        """The same of classes that compare these tokens, of which there are some."""
         numbers = [self.numbers[it] for it in classes]
-        return TOO_FAR if max(numbers) - min(numbers) // STEP * STEP >= WINDOW else ""
+        return _Verdict(TOO_FAR) if max(numbers) - min(numbers) // STEP * STEP >= WINDOW else _Verdict("", tokens)
 
     def _declared(self, it: Declaration, of: str) -> Tuple[Declaration, str]:
         """The declaration of which this one, asked of nodes of a class, is an equation, or itself, and the class for which that is."""
@@ -172,8 +203,8 @@ class _Judge:
         return {of: next((found[it] for it in self.grammar.ancestors(of) if it in found), default)
                 for of in self.grammar.concrete_below(above)}
 
-    def _compared(self, equation: Declaration) -> Optional[int]:
-        """The position of the token of `this` that an equation compares with its parameter; None where it does something else."""
+    def _compared(self, equation: Declaration) -> Optional[_Token]:
+        """The token of `this` that an equation compares with its parameter; None where it does something else."""
         if equation.body is None or equation.of is None or not equation.parameters:
             return None
         body, parameter = _plain(equation.body), equation.parameters[0].name.text
@@ -183,7 +214,8 @@ class _Judge:
         if _is_name(other, parameter):
             one, other = other, one
         name = _component(other) if _is_name(one, parameter) and _is_this(other.receiver) else ""
-        return self._position(equation.of.text, name)
+        position = self._position(equation.of.text, name)
+        return None if position is None else _Token(name, position)
 
     def _token_of(self, it: Expression, element: _Element) -> Optional[str]:
         """The token of the element that an expression is; None where it is none of any class below."""
@@ -270,5 +302,5 @@ def _component(it: Expression) -> str:
     return name[3:] if it.form is Form.CALL and not it.arguments and name.startswith("get") else ""
 
 
-def _nothing_compared(element: _Element) -> str:
-    return f"no token of {element.name} is compared with a text"
+def _nothing_compared(element: _Element) -> _Verdict:
+    return _Verdict(f"no token of {element.name} is compared with a text")
