@@ -29,12 +29,16 @@ def location_of(folder: Folder, place: Place) -> Json:
 
 
 def hover(folder: Folder, path: Path, offset: int) -> Optional[Json]:
-    """What there is to tell of the name at an offset; None where none stands there."""
-    meaning = folder.names().at(str(path), offset)
-    if meaning is None:
-        return None
-    place = meaning.place
-    return {"contents": {"kind": "plaintext", "value": meaning.told}, "range": range_of(folder.text(path), place.start, place.end)}
+    """What there is to tell of the name at an offset, or of the fold whose word stands there; None where neither does."""
+    meaning, text = folder.names().at(str(path), offset), folder.text(path)
+    if meaning is not None:
+        return _hover(meaning.told, range_of(text, meaning.place.start, meaning.place.end))
+    fold = next((it for it in folder.folds() if it.file == str(path) and it.start <= offset <= it.end), None)
+    return None if fold is None else _hover(f"With --index {fold.told}", range_of(text, fold.start, fold.end))
+
+
+def _hover(told: str, place: Json) -> Json:
+    return {"contents": {"kind": "plaintext", "value": told}, "range": place}
 
 
 def definition(folder: Folder, path: Path, offset: int) -> List[Json]:

@@ -6,7 +6,7 @@ from pathlib import Path
 from typing import Dict, Generator, List, Optional, Set
 from urllib.parse import unquote, urlsplit
 
-from attrd.authoring import Checked, Names, Source, Specification, checking
+from attrd.authoring import Checked, FoldNote, Names, Source, Specification, checking, searches_of
 from attrd_lsp.positions import Text
 
 SUFFIXES = (".ast", ".jrag")
@@ -49,10 +49,11 @@ class Folder:
     check: Optional[Generator[None, None, Checked]] = None
     trouble: str = ""
     _names: Optional[Names] = None
+    _folds: Optional[List[FoldNote]] = None
 
     def changed(self) -> None:
         """Its files have other texts now: what was found out of them goes."""
-        self.check = self._names = None
+        self.check = self._names = self._folds = None
 
     def text(self, path: Path) -> Text:
         """The text of a file, as it stands in the editor or else on the disk; an empty one where it can't be read."""
@@ -87,6 +88,12 @@ class Folder:
             grammar, *aspects = self.sources()
             self._names = Names(Specification(grammar, aspects, self.forms))
         return self._names
+
+    def folds(self) -> List[FoldNote]:
+        """Which folds over lists are searches where names are looked up by key. Raises NoGrammar."""
+        if self._folds is None:
+            self._folds = searches_of(self.names().specification)
+        return self._folds
 
     def begin_check(self, program: str) -> None:
         """Begins to look for faults. Raises NoGrammar."""

@@ -53,6 +53,33 @@ class OfPlaces(unittest.TestCase):
         self.assertEqual(self.told("small.ast", "Stmt;"), "abstract Stmt;\nbelow it: Block, Decl, Show")
         self.assertEqual(self.told("errors.jrag", "aspect"), "")
 
+    def test_folds_that_look_for_a_name(self) -> None:
+        for file in ("names.jrag", "errors.jrag"):
+            self.client.open(file)
+        own = "With --index `first (d : getFieldList())` is a search by the token ID."
+        hover = self.client.ask("textDocument/hover", self.at("names.jrag", "first (d"))
+        self.assertEqual(hover["contents"]["value"], own)
+        line, column = (self.at("names.jrag", "first (d")["position"][it] for it in ("line", "character"))
+        self.assertEqual(hover["range"], {"start": {"line": line, "character": column}, "end": {"line": line, "character": column + 5}})
+        self.assertEqual(self.told("names.jrag", "first (d", 0, 5), own)
+        self.assertEqual(self.told("names.jrag", "first (d", 0, 6), "")
+        self.assertEqual(self.told("errors.jrag", "first (k"),
+                         "With --index `first (k : getKindList())` is no search: no token of k is compared with a text.")
+        self.assertEqual(self.told("errors.jrag", "sum (k"), "")
+
+    def test_folds_as_they_are_typed(self) -> None:
+        """The text in the editor counts; where another body can't be read, too, but not where the grammar has a fault."""
+        self.client.open("small.ast")
+        self.client.open("names.jrag")
+        self.client.change("names.jrag", "{ d.getID().equals(n) }", "{ d == null || d.getID().equals(n) }")
+        self.assertEqual(self.told("names.jrag", "first (d"),
+                         "With --index `first (d : getFieldList())` is no search: no token of d is compared with a text.")
+        self.client.change("names.jrag", "first (d : getFieldList()) { d == null || ", 'exists (d : getFieldList()) { d.getID().equals("x") && ')
+        self.client.change("names.jrag", "= lookup(getID());", "= lookup(getID(;")
+        self.assertEqual(self.told("names.jrag", "exists (d", 0, 2), "With --index `exists (d : getFieldList())` is a search by the token ID.")
+        self.client.change("small.ast", "Program ::=", "Program ::= <")
+        self.assertEqual(self.told("names.jrag", "exists (d"), "")
+
     def test_definitions_equations_and_references(self) -> None:
         for file in ("small.ast", "names.jrag", "types.jrag"):
             self.client.open(file)
@@ -185,6 +212,16 @@ class OfStatements(unittest.TestCase):
                          "Function ::= Param*\nParam getParam(int)\nint getNumParam()\nParam* getParamList()\nParam* getParams()")
         self.assertEqual(self.told("functions.jrag", "f.reaches", 0), "Function f")
         self.assertIn("syn boolean Function.reaches(Function to)", self.told("functions.jrag", "reaches(to)", 0))
+
+    def test_loops_that_look_for_a_name(self) -> None:
+        self.assertEqual(self.told("names.jrag", "for (final"),
+                         "With --index `for (final Param p : getParamList())` is no search: no token of p is compared with a text.")
+        self.client.open("simplic.ast")
+        self.client.change("simplic.ast", "Param ::= IdDecl;", "Param ::= <Key> IdDecl;")
+        self.client.change("names.jrag", "p.getIdDecl().getID().equals(name)", "p.getKey().equals(name)")
+        self.assertEqual(self.told("names.jrag", "for (final", 0, 3),
+                         "With --index `for (final Param p : getParamList())` is a search by the token Key.")
+        self.assertIsNone(self.client.ask("textDocument/hover", self.client.place("names.jrag", "if (p.getKey")))
 
     def test_definitions_and_references(self) -> None:
         self.assertEqual(self.lines("definition", "names.jrag", "f.getIdDecl()", 0), ["names.jrag:14 f"])
