@@ -145,8 +145,9 @@ tries: tools python
 	@python3 tools/examples.py tests/pages/TRIES.md
 
 # Speed, by the proved program, as ratios in one run; what the program takes at its limits; what evaluations, loading, lines and
-# edits cost where everything is kept, and circular attributes, which fails where a bound doesn't hold; a realistic program, beside Java; and trees of up to
-# 2,400,000 nodes, which take five GB. With WRITE=1 what is measured is added to bench/history.tsv, and the table of PERFORMANCE is written.
+# edits cost where everything is kept, and circular attributes, which fails where a bound doesn't hold; a realistic program, beside Java;
+# names looked up by key; and trees of up to 2,400,000 nodes, which take five GB. With WRITE=1 what is measured is added to
+# bench/history.tsv, and the table of PERFORMANCE is written.
 bench: export ATTRD_HISTORY := $(if $(WRITE),$(CURDIR)/bench/history.tsv)
 bench: export ATTRD_PROVED := yes
 bench: build
@@ -156,7 +157,7 @@ bench: build
 	python3 bench/clients.py
 	python3 bench/editor.py
 	python3 bench/hub.py
-	@status=0; for it in evaluation in_flight kept bounded cliff fixpoints jastadd realistic sizes; do python3 bench/$$it.py || status=1; done; \
+	@status=0; for it in evaluation in_flight kept bounded cliff fixpoints jastadd realistic by_key sizes; do python3 bench/$$it.py || status=1; done; \
 	if [ -n "$(WRITE)" ]; then python3 bench/history.py --write || status=1; fi; exit $$status
 
 tools:

@@ -9,7 +9,7 @@ from __future__ import annotations
 import random
 import sys
 from dataclasses import dataclass, field
-from typing import Dict, Iterator, List, Optional, Tuple
+from typing import Callable, Dict, Iterator, List, Optional, Tuple
 
 from figures import ROOT
 
@@ -26,6 +26,8 @@ SMALL_METHODS = ((5, 25, 1),)
 LARGEST = 181
 # Programs below this size have small methods alone, and no largest one.
 LARGE_PROGRAM = 3_000
+# More nodes than a class has on the average: with room for so many none is cut short at the program's end.
+ROOM = 400
 DEEPEST_BLOCK, DEEPEST_CLASS = 4, 6
 WORDS = ("count", "index", "total", "left", "right", "name", "item", "next", "limit", "offset", "value", "size")
 
@@ -67,8 +69,12 @@ class Writer:
 
     def program(self) -> Node:
         """The program: as many classes as it takes to have so many nodes."""
+        return self.program_until(lambda: self.written >= self.wanted)
+
+    def program_until(self, is_done: Callable[[], bool]) -> Node:
+        """The program with as many classes as it takes."""
         kinds = [Node("Basic", "int"), Node("Basic", "boolean")]
-        while self.written < self.wanted:
+        while not is_done():
             kinds.append(self.class_declaration())
         return Node("Program", kinds)
 
@@ -195,6 +201,12 @@ class Writer:
 def written(nodes: int, seed: int) -> Node:
     """The program of about so many nodes for this seed."""
     return Writer(nodes, seed).program()
+
+
+def written_classes(count: int, seed: int) -> Node:
+    """The program of so many classes for this seed."""
+    writer = Writer(count * ROOM, seed)
+    return writer.program_until(lambda: len(writer.classes) == count)
 
 
 def places(grammar: Grammar, tree: Node) -> List[Tuple[Path, Node]]:
