@@ -40,7 +40,7 @@ help:
 	@echo "  make clients [T=test_update]"
 	@echo "                     all tests of the clients, those that make quick leaves out too, or of one client or module (8 minutes)"
 	@echo "                     These three take PROGRAM=..; else ./attrd where it stands, else the program of make quick (2 minutes more)"
-	@echo "  make starve        four sessions with each bound of the cache, with each request for memory refused in turn (a minute, behind its proof)"
+	@echo "  make starve        seven sessions with each bound of the cache, with each request for memory refused in turn (a minute, behind its proof)"
 	@echo "  make tries         the examples of single tries of equations (a minute, behind its proof)"
 	@echo "  make bench [WRITE=1]"
 	@echo "                     measures ./attrd, and writes what it measured (25 minutes and five GB, behind make build)"
