@@ -1,7 +1,7 @@
 """Each request for memory refused in turn (tools/refuse.c), in a session that looks at tree, marks and version behind each line."""
 import subprocess
 import tempfile
-from typing import List, Optional, Set
+from typing import Dict, List, Optional, Set
 
 from tools.of_the_program.runs import SECONDS, ProgramTest
 from tools.starve import refusing
@@ -45,6 +45,7 @@ class Memory(ProgramTest):
         library = tempfile.TemporaryDirectory()
         self.addCleanup(library.cleanup)
         self.refusing = refusing(library.name)
+        self.told_without: Dict[Optional[int], List[str]] = {}
 
     def run_of(self, lines: List[str], nth: int = 0) -> "subprocess.CompletedProcess[str]":
         """A run over these lines, with the nth request refused; with none where that is 0."""
@@ -59,16 +60,22 @@ class Memory(ProgramTest):
         self.assertEqual((run.returncode, run.stderr, len(told)), (0, "", len(lines)))
         return told
 
-    def line_without_memory(self, told: List[str], whole: List[str]) -> Optional[int]:
+    def replies_without(self, line: Optional[int]) -> List[str]:
+        """What the session is told without this line, or with all of them; many requests are made for one line, so it is kept."""
+        if line not in self.told_without:
+            self.told_without[line] = self.replies([it for i, it in enumerate(SESSION) if i != line])
+        return self.told_without[line]
+
+    def line_without_memory(self, told: List[str]) -> Optional[int]:
         """Which line of the session was answered `memory`, if one was. The others were told what they are told by a run without it."""
         wanting = [i for i, reply in enumerate(told) if reply == f"{SESSION[i].split()[0]} memory"]
         self.assertLessEqual(len(wanting), 1, told)
-        others = [it for i, it in enumerate(SESSION) if i not in wanting]
-        self.assertEqual([it for i, it in enumerate(told) if i not in wanting], self.replies(others) if wanting else whole)
-        return wanting[0] if wanting else None
+        line = wanting[0] if wanting else None
+        self.assertEqual([it for i, it in enumerate(told) if i != line], self.replies_without(line))
+        return line
 
     def test_a_line_without_memory_leaves_tree_marks_and_version(self) -> None:
-        whole = self.replies(SESSION)
+        whole = self.replies_without(None)
         self.assertEqual(whole[-5:], ['9 = Row([Item("new"),Item("a"),Item("other")],-)', *["0 refused 3 mark"] * 2, "1 refused 3 mark", "9 ok 7"])
         starved: Set[Optional[int]] = set()
         for nth in range(1, MOST):
@@ -81,6 +88,6 @@ class Memory(ProgramTest):
                     self.assertLessEqual(starved, {None}, "the program ends in its session")
                 else:
                     self.assertEqual((run.returncode, run.stderr), (0, "refused\n"))
-                    starved.add(self.line_without_memory(run.stdout.splitlines(), whole))
+                    starved.add(self.line_without_memory(run.stdout.splitlines()))
         told = {SESSION[i].split()[1] for i in starved if i is not None}
         self.assertEqual(told, {"mark", "ask", "insert", "move", "set", "put", "token", "drop", "show", "where"})
