@@ -4,7 +4,7 @@ from __future__ import annotations
 import random
 from collections import deque
 from dataclasses import dataclass
-from typing import Callable, Deque, Dict, List, Optional, Tuple
+from typing import Callable, Deque, Dict, List, Optional, Set, Tuple
 from unittest import mock
 
 from attrd_hub.client import Client
@@ -131,10 +131,11 @@ class Loop:
 
 
 class Stream:
-    """A client's connection: `lines` are those that it has sent, and `replies` counts what it has had."""
+    """A client's connection: `lines` are those that it has sent, and `replies` counts what it has had, at which its number goes into
+    `due`."""
 
-    def __init__(self, number: int) -> None:
-        self.number = number
+    def __init__(self, number: int, due: Set[int]) -> None:
+        self.number, self.due = number, due
         self.lines = b""
         self.replies = 0
 
@@ -159,6 +160,7 @@ class Stream:
     def send(self, data: bytes) -> int:
         """Takes replies."""
         self.replies += bytes(data).count(b"\n")
+        self.due.add(self.number)
         return len(data)
 
 
@@ -175,7 +177,9 @@ class Simulation:
         self.program = Program(cost, machine, self.chance)
         self.service.program = self.program  # type: ignore[assignment]
         self.service.pace, self.service.meter = Pace(self.program.times), Meter(self.program.times)
-        self.streams = [Stream(it) for it in range(len(lines))]
+        # Who may have lines to send: all clients at first, and then those that had replies.
+        self.due = set(range(len(lines)))
+        self.streams = [Stream(it, self.due) for it in range(len(lines))]
         self.lines = [b"%b:%d\n" % (line, it) for it, line in enumerate(lines)]
         with mock.patch("attrd_hub.client.peer_of", return_value=None):
             self.clients = [Client(self.service, it) for it in self.streams]  # type: ignore[arg-type]
@@ -191,8 +195,11 @@ class Simulation:
             self.held_up += SLICE
 
     def _send(self) -> None:
-        """Has each client send what it has to: so many lines are ahead of its replies."""
-        for it, stream in enumerate(self.streams):
+        """Has each client send what it has to: so many lines are ahead of its replies. Who had none since the last time has nothing to."""
+        due = sorted(self.due)
+        self.due.clear()
+        for it in due:
+            stream = self.streams[it]
             missing = stream.replies + self.ahead - self.sent[it]
             if missing > 0:
                 stream.lines += self.lines[it] * missing
