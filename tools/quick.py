@@ -1,10 +1,10 @@
-"""Tests what needs no proof, but for tests of clients that take long, in four minutes on two processors. Nothing is proved by it.
+"""Tests what needs no proof, but for tests of clients that take long, in three minutes on two processors. Nothing is proved by it.
 
     python3 -m tools.quick PAGE|FOLDER ..
 
 The program is the quick one (tools/quick_program.py). With it run the examples of the pages and sample folders, the tests of
 the program and those of the clients; beside it the counts (tools/counts.py --hold) and, where they are installed, mypy and
-pyflakes. While the program is built one part that needs none runs beside it, and then four side by side. Of each it is told how
+pyflakes. While the program is built one part that needs none runs beside it, and then six side by side. Of each it is told how
 many of its tests passed, and what it printed where one failed. It is told, too, how many tests were left out. The last line is
 'N passed, M failed', a part that counts nothing being one; the status is 1 where one failed.
 
@@ -28,20 +28,20 @@ from typing import Callable, Dict, List, Sequence, Tuple
 from tools import quick_program
 from tools.sources import ROOT
 
-# Many of the tests wait for others, so more go on at once than there are processors. Beside the build, the first half of which is one
-# thread, there is one lane.
-LANES = 4
-# The parts that take longest, by the clock; one that begins last would have a processor wait.
-LONGEST = ("client hub", "client hub, more", "client lsp", "the program", "client python")
+# Many of the tests wait for others, so more go on at once than there are processors: all parts but the last, which waits for nothing and
+# takes up what is left of a processor. Beside the build, the first half of which is one thread, there is one lane.
+LANES = 6
+# The parts that take longest; one that begins last would have a processor wait.
+LONGEST = ("the program", "client hub", "client hub, more", "client lsp", "client python", "client page")
 # The modules of a client that are a part by themselves.
 DIVIDED = {"hub": ("test_hub_hostile", "test_hub_operator", "test_hub_lost")}
 # What is tried less often than in the gate: kills of the hub, pairs of trees, sessions and files by chance, and caches under want of memory;
 # and trees have fewer nodes. With the last word the tests of clients that take long are left out (clients/at_length.py).
-LESS = (("ATTRD_HUB_POINTS", "10"), ("ATTRD_PAIRS", "250"), ("ATTRD_CIRCULAR_SESSIONS", "10"), ("ATTRD_MADE_SESSIONS", "7"),
-        ("ATTRD_TEST_NODES", "5000"), ("ATTRD_MEMORY_KEEPERS", "1"), ("ATTRD_READINGS", "1500"), ("ATTRD_SPOILED_FILES", "10"),
-        ("ATTRD_PROBLEMS", "50"), ("ATTRD_SPECS_SESSIONS", "6"))
-# Of requests for memory each third one is refused in turn, and of reads and writes each third one fails.
-SELDOM = (("ATTRD_MEMORY_EVERY", "3"), ("ATTRD_CALLS_EVERY", "3"))
+LESS = (("ATTRD_HUB_POINTS", "10"), ("ATTRD_PAIRS", "250"), ("ATTRD_CIRCULAR_SESSIONS", "8"), ("ATTRD_MADE_SESSIONS", "5"),
+        ("ATTRD_TEST_NODES", "5000"), ("ATTRD_MEMORY_KEEPERS", "1"), ("ATTRD_READINGS", "1500"), ("ATTRD_SPOILED_FILES", "8"),
+        ("ATTRD_PROBLEMS", "50"), ("ATTRD_SPECS_SESSIONS", "6"), ("ATTRD_FAULT_EDITS", "40"))
+# Of requests for memory each fifth one is refused in turn, and of reads and writes each fifth one fails.
+SELDOM = (("ATTRD_MEMORY_EVERY", "5"), ("ATTRD_CALLS_EVERY", "5"))
 SHORT = ("ATTRD_SHORT", "1")
 # Tests of clients that take long and start no program, so that they run while it is built.
 APART = ("test_check.Grammars.test_each_refused_grammar_of_the_manual", "test_grammars", "test_hub_journal", "test_hub_lines", "test_hub_loop.Looking", "test_hub_package", "test_hub_turns",

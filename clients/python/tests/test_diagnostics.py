@@ -1,4 +1,5 @@
 """Diagnostics: all faults of a tree, also where a cycle takes a count away."""
+import os
 import unittest
 from random import Random
 
@@ -9,6 +10,8 @@ from attrd.declarations import attributes_of
 from support import CALCULATOR, PROGRAM, calculator_grammar, page_files
 
 ASPECTS = ("kinds.jrag", "names.jrag", "types.jrag", "errors.jrag")
+# How many edits by chance there are.
+EDITS = int(os.environ.get("ATTRD_FAULT_EDITS", "80"))
 
 
 class Tutorial(unittest.TestCase):
@@ -102,7 +105,7 @@ class Tutorial(unittest.TestCase):
     @at_length
     def test_edits_by_chance(self):
         random, counts, before = Random(5), set(), []
-        for _ in range(80):
+        for _ in range(EDITS):
             kinds = list(self.document.tree.cells[0])
             at = random.randrange(2, len(kinds))
             name, above, fields, block = kinds[at].cells
