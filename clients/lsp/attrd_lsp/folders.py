@@ -1,6 +1,7 @@
 """The files of a folder that are one tree."""
 from __future__ import annotations
 
+import stat
 from pathlib import Path
 from typing import Dict, Optional, Tuple
 
@@ -21,15 +22,21 @@ def folder_of(language: Language, uri: str) -> Optional[Path]:
 
 def files_in(folder: Path, language: Language) -> Dict[Path, Stamp]:
     """The files of the language in the folder, in the order of their names; none where it can't be read."""
-    found: Dict[Path, Stamp] = {}
     try:
-        for it in sorted(folder.iterdir()):
-            if it.name.endswith(language.suffix or "") and it.is_file():
-                status = it.stat()
-                found[it] = status.st_mtime_ns, status.st_size
+        names = sorted(it for it in folder.iterdir() if it.name.endswith(language.suffix or ""))
     except OSError:
-        return found
-    return found
+        return {}
+    stamps = {it: stamp_of(it) for it in names}
+    return {it: stamp for it, stamp in stamps.items() if stamp is not None}
+
+
+def stamp_of(path: Path) -> Optional[Stamp]:
+    """The stamp of a file; None where it is none, or has gone since its folder was read."""
+    try:
+        status = path.stat()
+    except OSError:
+        return None
+    return (status.st_mtime_ns, status.st_size) if stat.S_ISREG(status.st_mode) else None
 
 
 def text_of(path: Path) -> Optional[str]:
