@@ -4,9 +4,9 @@ from __future__ import annotations
 from dataclasses import dataclass, field
 from pathlib import Path
 from typing import Dict, Generator, List, Optional, Set
-from urllib.parse import unquote, urlsplit
 
 from attrd.authoring import Checked, FoldNote, Names, Source, Specification, checking, searches_of
+from attrd_lsp.language_files import path_of as file_of
 from attrd_lsp.positions import Text
 
 SUFFIXES = (".ast", ".jrag")
@@ -20,12 +20,8 @@ class NoGrammar(Exception):
 
 def path_of(uri: str) -> Optional[Path]:
     """The file of a document; None of what is no grammar and no aspect file."""
-    try:
-        parts = urlsplit(uri)
-    except ValueError:
-        return None
-    path = Path(unquote(parts.path))
-    return path if parts.scheme == "file" and path.suffix in SUFFIXES and "\0" not in parts.path else None
+    path = file_of(uri)
+    return path if path is not None and path.suffix in SUFFIXES else None
 
 
 def entries(folder: Path) -> List[Path]:
@@ -61,7 +57,7 @@ class Folder:
             return self.texts[path]
         try:
             return Text.of(path.read_bytes().decode("utf-8", "replace"))
-        except OSError:
+        except (OSError, ValueError):
             return Text.of("")
 
     def files(self) -> List[Path]:

@@ -2,16 +2,16 @@
 from __future__ import annotations
 
 import sys
-import traceback
 from pathlib import Path
 from typing import Any, Callable, Dict, List, Optional, Tuple
 
 from attrd import AttrdError
 from attrd.authoring import Checked
 from attrd_lsp.editor import ERROR, Editor
+from attrd_lsp.faults import FAULTS, failure_of
 from attrd_lsp.params import change_in, part, position_in, uri_in
 from attrd_lsp.positions import Text
-from attrd_lsp.rpc import INTERNAL_ERROR, METHOD_NOT_FOUND, PARSE_ERROR, Ended, Failure, Inbox, Malformed, Message, Unreadable
+from attrd_lsp.rpc import METHOD_NOT_FOUND, PARSE_ERROR, Ended, Failure, Inbox, Malformed, Message, Unreadable
 
 from . import answers
 from .folder import Folder, NoGrammar, path_of
@@ -68,9 +68,8 @@ class Server:
                 self.notifications[method](message.get("params"))
         except Failure as failure:
             self.fail(message, failure)
-        except (ArithmeticError, AssertionError, AttributeError, LookupError, RecursionError, TypeError, ValueError) as fault:
-            traceback.print_exc()
-            self.fail(message, Failure(INTERNAL_ERROR, f"a fault of the language server itself: {type(fault).__name__}: {fault}"))
+        except FAULTS as fault:
+            self.fail(message, failure_of(fault))
 
     def fail(self, message: Message, failure: Failure) -> None:
         """Tells the editor of a failure."""
@@ -153,17 +152,28 @@ class Server:
     def step(self, folder: Folder) -> None:
         """Goes on with the search in a folder; at its end all faults are shown."""
         try:
-            if folder.check is None:
-                folder.begin_check(self.program)
-            assert folder.check is not None
-            next(folder.check)
-            return
-        except StopIteration as end:
-            self.show(folder, end.value)
+            found = self.search(folder)
+            if found is None:
+                return
+            self.show(folder, found)
         except (AttrdError, NoGrammar) as fault:
             self.tell(folder, str(fault))
+        except FAULTS as fault:
+            self.tell(folder, failure_of(fault).text)
         folder.check = None
         self.due.remove(folder)
+
+    def search(self, folder: Folder) -> Optional[Checked]:
+        """Goes on with the search in a folder by one run of the program; what was found, where it is over. Raises AttrdError and NoGrammar."""
+        if folder.check is None:
+            folder.begin_check(self.program)
+        assert folder.check is not None
+        try:
+            next(folder.check)
+            return None
+        except StopIteration as end:
+            found: Checked = end.value
+            return found
 
     def show(self, folder: Folder, found: Checked) -> None:
         """Shows the faults in each file that has some, and takes those away that were shown before."""

@@ -1,6 +1,7 @@
 """The files of the language, as far as they are open in the editor, and the fault for which one is refused."""
 from __future__ import annotations
 
+import os
 import re
 from pathlib import Path
 from typing import Dict, List, Optional, Tuple, Union
@@ -145,13 +146,14 @@ class LanguageFiles:
 
 
 def path_of(uri: str) -> Optional[Path]:
-    """The file that a `file:` URI names, and None for others."""
+    """The file that a `file:` URI names with its whole path; None for others, and for what the system takes for no name of a file."""
     try:
         parts = urlsplit(uri)
+        path = Path(unquote(parts.path))
+        name = os.fsencode(path)
     except ValueError:
         return None
-    name = unquote(parts.path)
-    return Path(name) if parts.scheme == "file" and name and "\0" not in name else None
+    return path if parts.scheme == "file" and path.is_absolute() and b"\0" not in name else None
 
 
 def explained(fault: attrd.StartFault) -> str:

@@ -5,15 +5,14 @@ step at most."""
 from __future__ import annotations
 
 import sys
-import traceback
 from typing import Any, Callable, Dict, Optional
 
 from .coloring import LEGEND, MODIFIERS
 from .editor import ERROR, Editor
+from .faults import FAULTS, failure_of
 from .language import Language
 from .requests import Requests
 from .rpc import (
-    INTERNAL_ERROR,
     INVALID_REQUEST,
     METHOD_NOT_FOUND,
     NOT_INITIALIZED,
@@ -137,9 +136,8 @@ class LanguageServer:
             handle()
         except Failure as fault:
             self.tell(request, fault)
-        except (ArithmeticError, AssertionError, AttributeError, LookupError, RecursionError, TypeError, ValueError) as fault:
-            traceback.print_exc()
-            failure = Failure(INTERNAL_ERROR, f"a fault of the language server itself: {type(fault).__name__}: {fault}")
+        except FAULTS as fault:
+            failure = failure_of(fault)
             self.workspace.stop(failure)
             self.tell(request, failure)
 
