@@ -115,12 +115,20 @@ def open_socket(path: Union[str, "os.PathLike[str]"], seconds: float = 0.0) -> S
     """A connection of the socket at this path, which is waited for so long. Raises AttrdError where none can be made."""
     name, until = str(path), time.monotonic() + seconds
     while True:
-        stream = socket.socket(socket.AF_UNIX, socket.SOCK_STREAM)
         try:
-            stream.connect(name)
-            return Socket(stream)
+            return Socket(_connected(name))
         except (OSError, ValueError, UnicodeError) as fault:
-            stream.close()
             if time.monotonic() >= until or not isinstance(fault, OSError):
                 raise AttrdError(f"{name}: no connection: {getattr(fault, 'strerror', None) or fault}") from None
         time.sleep(0.01)
+
+
+def _connected(name: str) -> socket.socket:
+    """Raises OSError where nobody listens there or the system has no more sockets, and ValueError where this is no path."""
+    stream = socket.socket(socket.AF_UNIX, socket.SOCK_STREAM)
+    try:
+        stream.connect(name)
+    except BaseException:
+        stream.close()
+        raise
+    return stream

@@ -79,7 +79,7 @@ def start(grammar: Source, tree: Union[Source, Node], *aspects: Source, program:
     or the program ends in another way; AttrdError where it can't be started. A VersionWarning tells, once for each program, where
     its version isn't this library's.
     """
-    folder = FilePath(tempfile.mkdtemp(prefix="attrd-"))
+    folder = _folder()
     try:
         source = Text("tree.txt", write_term(tree)) if isinstance(tree, Node) else tree
         files = [_put(folder, it) for it in (grammar, source, *aspects)]
@@ -93,11 +93,21 @@ def start(grammar: Source, tree: Union[Source, Node], *aspects: Source, program:
         raise
     try:
         server.send(0, "version").version()
+        _warn_of_misfit(_path(program))
     except ServerLost as lost:
         server.close()
         raise start_fault(lost.status, lost.message) from None
-    _warn_of_misfit(_path(program))
+    except BaseException:
+        server.close()
+        raise
     return server
+
+
+def _folder() -> FilePath:
+    try:
+        return FilePath(tempfile.mkdtemp(prefix="attrd-"))
+    except OSError as fault:
+        raise AttrdError(f"no folder can be made for the program's files: {fault.strerror}") from None
 
 
 def known_options(program: Union[str, "os.PathLike[str]"]) -> FrozenSet[str]:
@@ -169,7 +179,10 @@ def lasting_options(known: FrozenSet[str], values: int = KEPT) -> List[str]:
 
 
 def _run(words: List[str]) -> Program:
-    errors = tempfile.TemporaryFile()
+    try:
+        errors = tempfile.TemporaryFile()
+    except OSError as fault:
+        raise cannot_start(words[0], fault) from None
     try:
         process = subprocess.Popen(words, stdin=subprocess.PIPE, stdout=subprocess.PIPE, stderr=errors)
     except (OSError, ValueError, UnicodeError) as fault:
@@ -206,9 +219,11 @@ def connect(path: Union[str, "os.PathLike[str]"], seconds: float = 0.0, known: O
     """
     connection = Connection(open_socket(path, seconds))
     connection.nodes = nodes
-    if known is not None:
-        version = connection.send(0, "version").version()
-        if version < known:
-            connection.close()
+    try:
+        version = None if known is None else connection.send(0, "version").version()
+        if version is not None and known is not None and version < known:
             raise ServerRestarted(f"the server is another one: its version is {version}, and {known} was known")
+    except BaseException:
+        connection.close()
+        raise
     return connection

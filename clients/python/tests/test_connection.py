@@ -1,13 +1,16 @@
 """Lines and replies, against the program."""
+import errno
 import gc
 import os
 import signal
+import socket
 import subprocess
 import tempfile
 import threading
 import time
 import unittest
 from pathlib import Path as FilePath
+from unittest import mock
 
 import attrd
 from attrd import Circular, Code, Fault, FaultKind, Node, Path, Value, commands
@@ -233,6 +236,23 @@ class Starts(unittest.TestCase):
         for program, grammar in (("/nosuch/attrd", "a"), (PROGRAM, 5), (PROGRAM, attrd.Text("x", "\ud800")), ("nul\0l", "a")):
             self.assertRaises(attrd.AttrdError, attrd.start, grammar, "t", "j", program=program)
 
+    def test_what_the_system_has_no_room_for(self):
+        full = OSError(errno.ENOSPC, "No space left on device")
+        for name in ("mkdtemp", "TemporaryFile"):
+            with mock.patch.object(tempfile, name, side_effect=full), self.assertRaisesRegex(attrd.AttrdError, "No space left on device"):
+                calculator()
+        with mock.patch.object(socket, "socket", side_effect=OSError(errno.EMFILE, "Too many open files")):
+            self.assertRaisesRegex(attrd.AttrdError, "no connection: Too many open files", attrd.connect, "socket")
+
+    def test_a_program_with_other_replies_is_ended(self):
+        with tempfile.TemporaryDirectory() as folder:
+            number, program = FilePath(folder) / "number", FilePath(folder) / "program"
+            program.write_text(f"#!/bin/sh\necho $$ > {number}\necho hello\nexec cat > {os.devnull}\n", "utf-8")
+            program.chmod(0o700)
+            with self.assertRaises(attrd.ProtocolFault):
+                attrd.start("a", "t", "j", program=program)
+            self.assertRaises(ProcessLookupError, os.kill, int(number.read_text("utf-8")), 0)
+
     def test_texts_in_place_of_files(self):
         with attrd.start(attrd.Text("a.ast", "A ::= <Value:int>;"), Node("A", 5), attrd.Text("-a.jrag", "aspect A { syn int A.twice() = getValue() * 2; }"),
                          program=PROGRAM) as server:
@@ -342,6 +362,24 @@ class Sockets(unittest.TestCase):
             document = attrd.Document(again.session(), calculator_grammar())
             self.assertEqual(document.version, 0)
             self.assertEqual(document.tree, attrd.read_term((CALCULATOR / "tree.txt").read_text().strip()))
+
+    def test_a_connection_that_is_of_no_use_is_closed(self):
+        for reply, fault in ((b"0 ok 4\n", attrd.ServerRestarted), (b"hello\n", attrd.ProtocolFault), (b"? refused 1 syntax\n", attrd.AttrdError)):
+            with socket.socket(socket.AF_UNIX) as listening:
+                listening.bind(f"{self.path}{len(reply)}")
+                listening.listen()
+                answers = threading.Thread(target=self.answer, args=(listening, reply))
+                answers.start()
+                self.assertRaises(fault, attrd.connect, f"{self.path}{len(reply)}", known=5)
+                answers.join()
+
+    def answer(self, listening, reply):
+        """Takes a connection, answers its first line, and waits for its end."""
+        with listening.accept()[0] as stream:
+            stream.recv(1 << 10)
+            stream.sendall(reply)
+            while stream.recv(1 << 10):
+                pass
 
     def test_no_server(self):
         self.assertRaises(attrd.AttrdError, attrd.connect, self.path)
