@@ -3,7 +3,6 @@ from __future__ import annotations
 
 import grp
 import os
-import stat
 import time
 from pathlib import Path
 from typing import Callable, List, Optional
@@ -15,7 +14,7 @@ from attrd.versions import VERSION, misfit
 from .folder import State, StateFault, read_folder
 from .program import Program, Unfit
 from .settings import Settings
-from .sockets import PATH_BYTES, ServerThere, is_left_over
+from .sockets import PATH_BYTES, ServerThere, is_left_over, is_socket
 from .status import status_path
 
 SERVES, FAULT, LEAVES_OUT, UNFIT = 0, 3, 4, 5
@@ -90,7 +89,7 @@ class Check:
 
     def _look_at_file(self, path: str) -> None:
         state = self.settings.state
-        is_ours = stat.S_ISSOCK(os.lstat(path).st_mode) and state is not None and is_held(Path(state))
+        is_ours = is_socket(path) and state is not None and is_held(Path(state))
         try:
             if not is_ours:
                 is_left_over(path)

@@ -149,7 +149,7 @@ class Service:
         if state is not None:
             files[1] = str(state.term)
         self._ask_version()
-        self.room.expect(Path(files[1]).stat().st_size if os.path.exists(files[1]) else 0)
+        self.room.expect(_size_of(files[1]))
         self.program = Program(self.settings.program, files, self.settings.options)
         self.pace = Pace(self.program.times)
         self._is_running = True
@@ -556,3 +556,11 @@ class Service:
         if journal.term_fault is not None:
             log(Level.WARNING, journal.term_fault)
             journal.term_fault = None
+
+
+def _size_of(path: str) -> int:
+    """How many bytes a file has; 0 where it isn't there, which the program tells."""
+    try:
+        return os.stat(path).st_size
+    except OSError:
+        return 0

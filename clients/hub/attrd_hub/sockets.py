@@ -5,6 +5,7 @@ import os
 import shutil
 import socket
 import stat
+from contextlib import suppress
 from pathlib import Path
 from typing import Optional, Tuple
 
@@ -21,20 +22,33 @@ class ServerThere(AttrdError):
     """Another server answers at the socket's path."""
 
 
+def is_socket(path: str) -> bool:
+    """Whether there is the file of a socket."""
+    try:
+        return stat.S_ISSOCK(os.lstat(path).st_mode)
+    except OSError:
+        return False
+
+
 def is_left_over(path: str) -> bool:
     """Whether there is the file of a socket on which nobody answers. Raises ServerThere where somebody does, and AttrdError where it
-    is another file."""
+    is another file, or can't be looked at."""
     try:
         if not stat.S_ISSOCK(os.lstat(path).st_mode):
             raise AttrdError(f"{path}: it is there already, and no socket")
     except FileNotFoundError:
         return False
+    except OSError as fault:
+        raise AttrdError(f"{path}: {fault.strerror}") from None
     with socket.socket(socket.AF_UNIX, socket.SOCK_STREAM) as probe:
         probe.setblocking(False)
         try:
             probe.connect(path)
         except ConnectionRefusedError:
             return True
+        except FileNotFoundError:
+            # Who had it has just removed it.
+            return False
         except BlockingIOError:
             # Somebody listens there, and has as many connections waiting as may wait.
             pass
@@ -58,7 +72,8 @@ def listen_at(path: str, mode: int, group: Optional[str]) -> socket.socket:
     mask = os.umask(0o777 & ~mode)
     try:
         if is_left_over(path):
-            os.unlink(path)
+            with suppress(FileNotFoundError):
+                os.unlink(path)
         stream.bind(path)
         if group is not None:
             shutil.chown(path, group=group)

@@ -24,7 +24,7 @@ from attrd_hub.folder import read_folder
 from attrd_hub.loop import Loop
 from attrd_hub.service import Service
 from attrd_hub.settings import Settings
-from attrd_hub.sockets import listen_at
+from attrd_hub.sockets import is_left_over, is_socket, listen_at
 
 UNIT = (CLONE / "tools" / "package" / "attrd-hub@.service").read_text("utf-8")
 
@@ -233,6 +233,26 @@ class Sockets(unittest.TestCase):
         self.assertEqual(status, 3)
         self.assertIn("another server answers there", told)
         self.assertTrue(Path(path).exists())
+
+    def test_a_socket_that_goes_while_it_is_looked_at(self) -> None:
+        """As that of a hub that ends."""
+        path = str(self.folder / "left")
+        with socket.socket(socket.AF_UNIX, socket.SOCK_STREAM) as left:
+            left.bind(path)
+        gone = FileNotFoundError(2, "No such file or directory")
+
+        def go(at: str) -> None:
+            os.remove(at)
+            raise gone
+        self.assertTrue(is_socket(path))
+        self.assertTrue(is_left_over(path))
+        with mock.patch.object(socket.socket, "connect", side_effect=gone):
+            self.assertFalse(is_left_over(path))
+        with mock.patch("attrd_hub.sockets.os.unlink", side_effect=go):
+            listen_at(path, 0o600, None).close()
+        os.remove(path)
+        self.assertFalse(is_socket(path))
+        self.assertFalse(is_left_over(path))
 
     def test_the_end_leaves_the_socket_of_a_later_hub(self) -> None:
         first = Hub()
