@@ -9,7 +9,7 @@ import signal
 import sys
 import webbrowser
 from contextlib import suppress
-from typing import Any, List, Optional
+from typing import Any, List, Optional, Union
 
 from attrd import KEPT, AttrdError, GrammarFault, StartFault, explain
 from attrd.server import FORMS_HELP
@@ -109,7 +109,7 @@ class Service:
         """Goes on with the files as they are now, over the tree as it is. Where one is refused, that is told, and all stays as it was."""
         try:
             other = await self.running.renewed(self.given)
-        except AttrdError as fault:
+        except (AttrdError, OSError) as fault:
             self.running.page.tell_files(told(fault, self.given))
             return
         before, self.running = self.running, other
@@ -142,15 +142,15 @@ async def serve(given: argparse.Namespace) -> int:
         await service.end()
 
 
-def told(fault: AttrdError, given: argparse.Namespace) -> str:
-    """A fault in words; of a file with its place and a hint."""
+def told(fault: Union[AttrdError, OSError], given: argparse.Namespace) -> str:
+    """A fault in words; of a file with its place and a hint, and of the system what it says."""
     if isinstance(fault, (StartFault, GrammarFault)):
         with suppress(AttrdError):
             return str(explain(fault, [given.grammar, given.tree or given.source, *given.aspects]))
     return str(fault)
 
 
-def status_of(fault: AttrdError) -> int:
+def status_of(fault: Union[AttrdError, OSError]) -> int:
     """The status with which a fault ends the page: that of the program, where it has one."""
     if isinstance(fault, (NoTree, GrammarFault)):
         return 1
@@ -162,7 +162,7 @@ def main(words: Optional[List[str]] = None) -> int:
     given = options(words)
     try:
         return asyncio.run(serve(given))
-    except AttrdError as fault:
+    except (AttrdError, OSError) as fault:
         print(told(fault, given), file=sys.stderr)
         return status_of(fault)
     except KeyboardInterrupt:

@@ -3,6 +3,7 @@ from __future__ import annotations
 
 import asyncio
 import tempfile
+from contextlib import suppress
 from dataclasses import dataclass
 from typing import IO, List, Optional, Sequence
 
@@ -30,7 +31,8 @@ class Upstream:
         try:
             await asyncio.wait_for(self.process.wait(), ENDING_SECONDS)
         except asyncio.TimeoutError:
-            self.process.kill()
+            with suppress(ProcessLookupError):
+                self.process.kill()
             await self.process.wait()
         return self._told()
 
@@ -50,7 +52,10 @@ class Upstream:
 
 async def start_program(program: str, files: Sequence[str], options: Sequence[str] = ()) -> Upstream:
     """Starts the program with pipes. Raises AttrdError where it can't be started."""
-    errors = tempfile.TemporaryFile()
+    try:
+        errors = tempfile.TemporaryFile()
+    except OSError as fault:
+        raise cannot_start(program, fault) from None
     words: List[str] = [program, *options, "--", *files]
     try:
         process = await asyncio.create_subprocess_exec(

@@ -29,6 +29,7 @@ MOST_WAITING = 1 << 26
 # A browser opens at most six connections to one address: each window holds one of them, and one is wanted for what windows do.
 MOST_WINDOWS = 5
 FULL = f"A browser can hold {MOST_WINDOWS} windows of this page open, and this one has so many. Close one of them, and load this one again."
+_LENGTH = re.compile("[0-9]{1,18}")
 _BROWSER = re.compile(r"(?:\A|;)\s*attrd=([\w-]+)")
 POLICY = "default-src 'none'; script-src 'self'; style-src 'self'; connect-src 'self'; img-src data:; base-uri 'none'; form-action 'none'"
 STATUS = {200: "OK", 204: "No Content", 400: "Bad Request", 403: "Forbidden", 404: "Not Found", 405: "Method Not Allowed",
@@ -203,7 +204,7 @@ class Web:
     async def _do(self, request: Request, key: str, reader: asyncio.StreamReader) -> int:
         """Has a window do what it asks for; the status. It is answered when that is done: so the next thing comes behind it."""
         length = request.headers.get("content-length", "")
-        if not length.isdigit():
+        if not _LENGTH.fullmatch(length):
             return 400
         if int(length) > LONGEST_MESSAGE:
             return 413

@@ -9,6 +9,7 @@ import asyncio
 import os
 import re
 import tempfile
+from contextlib import suppress
 from dataclasses import dataclass
 from pathlib import Path as FilePath
 from typing import List, Optional, Sequence, Set
@@ -39,29 +40,31 @@ async def count(program: Sequence[str], grammar: str, aspects: Sequence[str], co
     The process that runs it is among `running` meanwhile: where that is killed, there is no count. It isn't to be cancelled: a
     process that is cancelled while it is being created is waited for without end."""
     asked = [*copy.marks, *copy.questions]
-    with tempfile.TemporaryDirectory(prefix="attrd-page-") as folder:
-        tree = FilePath(folder) / "tree.txt"
-        tree.write_text(copy.term, "utf-8")
-        words = [*program, "--work", "--", grammar, str(tree), *aspects]
-        before = await _work(words, asked, running)
-        if before is None:
-            return None
-        after = await _work(words, [*asked, f"0 {copy.edit}", *copy.questions], running)
+    try:
+        with tempfile.TemporaryDirectory(prefix="attrd-page-") as folder:
+            tree = FilePath(folder) / "tree.txt"
+            tree.write_text(copy.term, "utf-8")
+            words = [*program, "--work", "--", grammar, str(tree), *aspects]
+            before = await _work(words, asked, running)
+            if before is None:
+                return None
+            after = await _work(words, [*asked, f"0 {copy.edit}", *copy.questions], running)
+    except OSError:
+        return None
     return None if after is None else after - before
 
 
 async def _work(words: List[str], lines: Sequence[str], running: Processes) -> Optional[int]:
-    try:
-        process = await asyncio.create_subprocess_exec(
-            *words, stdin=asyncio.subprocess.PIPE, stdout=asyncio.subprocess.DEVNULL, stderr=asyncio.subprocess.PIPE,
-            start_new_session=True, env=os.environ)
-    except OSError:
-        return None
+    """The work that a run tells; None where it tells none, or takes too long. Raises OSError where it can't be started."""
+    process = await asyncio.create_subprocess_exec(
+        *words, stdin=asyncio.subprocess.PIPE, stdout=asyncio.subprocess.DEVNULL, stderr=asyncio.subprocess.PIPE,
+        start_new_session=True, env=os.environ)
     running.add(process)
     try:
         _, told = await asyncio.wait_for(process.communicate("".join(f"{it}\n" for it in lines).encode()), SECONDS)
     except asyncio.TimeoutError:
-        process.kill()
+        with suppress(ProcessLookupError):
+            process.kill()
         await process.wait()
         return None
     finally:

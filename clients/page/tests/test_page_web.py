@@ -134,6 +134,14 @@ class Unchanged(Web):
         self.assertFalse(self.page(origin="http://elsewhere.example").is_open)
         self.assertTrue(self.page(origin=f"http://127.0.0.1:{self.served.port}").is_open)
 
+    def test_lengths_that_are_none(self) -> None:
+        path = self.served.address.split(str(self.served.port), 1)[1]
+        for length, status in (("", 400), ("-1", 400), ("1.0", 400), ("\xb2", 400), ("9" * 5_000, 400), (str(1 << 30), 413)):
+            with socket.create_connection(("127.0.0.1", self.served.port), timeout=SECONDS) as stream:
+                head = f"POST {path}do/nix HTTP/1.1\r\nHost: 127.0.0.1:{self.served.port}\r\nContent-Length: {length}\r\n\r\n"
+                stream.sendall(head.encode("latin-1"))
+                self.assertTrue(stream.makefile("rb").readline().startswith(b"HTTP/1.1 %d " % status), length)
+
     def test_it_listens_at_home_alone(self) -> None:
         with open("/proc/net/tcp", encoding="ascii") as table:
             ends = [line.split()[1] for line in table if line.split()[3] == "0A"]
