@@ -29,6 +29,10 @@ def chromium() -> str:
     return str(found)
 
 
+class NoAnswer(AssertionError):
+    """The browser can't do what it is asked: it isn't there, or is just about to load a page."""
+
+
 class Browser:
     """A browser of its own, with a folder of its own."""
 
@@ -48,7 +52,7 @@ class Browser:
         return lines if len(lines) == 2 and lines[1] else None
 
     def call(self, method: str, session: Optional[str] = None, **params: Any) -> Dict[str, Any]:
-        """The result of a method. Raises AssertionError where it fails."""
+        """The result of a method. Raises NoAnswer where it fails."""
         self.count += 1
         message: Dict[str, Any] = {"id": self.count, "method": method, "params": params}
         self.wire.send(json.dumps(message if session is None else {**message, "sessionId": session}))
@@ -56,7 +60,7 @@ class Browser:
             told = json.loads(self.wire.next())
             if told.get("id") == self.count:
                 if "error" in told:
-                    raise AssertionError(f"{method}: {told['error']}")
+                    raise NoAnswer(f"{method}: {told['error']}")
                 result: Dict[str, Any] = told["result"]
                 return result
 
@@ -100,7 +104,14 @@ class Tab:
 
     def until(self, script: str, what: str = "", seconds: float = SECONDS) -> None:
         """Waits until an expression is true."""
-        until(lambda: self.value(f"!!({script})"), what or script, seconds)
+        until(lambda: self.is_so(script), what or script, seconds)
+
+    def is_so(self, script: str) -> bool:
+        """Whether an expression is true; while a page is loaded none is."""
+        try:
+            return bool(self.value(f"!!({script})"))
+        except NoAnswer:
+            return False
 
     def text(self, selector: str) -> str:
         """What stands in the first element of a selector."""
