@@ -70,7 +70,7 @@ def all_of(stream: socket.socket) -> bytes:
 
 def is_listened_on(path: str) -> bool:
     """Whether a socket with that path is listened on, as the system tells without a connection."""
-    rows = [line.split() for line in Path("/proc/net/unix").read_text().splitlines()]
+    rows = [line.split() for line in Path("/proc/net/unix").read_text(errors="replace").splitlines()]
     return any(row[-1] == path and row[3] == "00010000" for row in rows)
 
 
