@@ -2,12 +2,14 @@
 from __future__ import annotations
 
 import os
+import random
 import shutil
 import signal
 import socket
 import subprocess
 import sys
 import tempfile
+from contextlib import suppress
 from pathlib import Path
 from typing import List, Tuple
 
@@ -18,11 +20,17 @@ sys.path[:0] = [it for it in [*PYTHONPATH, str(CLIENTS / "page" / "tests")] if i
 
 from page_support import SECONDS, Lines, program, until  # noqa: E402
 
-__all__ = ["SECONDS", "Hub", "Lines", "calculator", "program", "run_hub", "until"]
+__all__ = ["SECONDS", "Hub", "Lines", "calculator", "free_port", "program", "run_hub", "until"]
 FILES = ["calc.ast", "tree.txt", "calc.jrag"]
 ENVIRONMENT = {**os.environ, "PYTHONPATH": os.pathsep.join(PYTHONPATH)}
 # With it Python writes at once, and so hides what is left to be written at its end.
 ENVIRONMENT.pop("PYTHONUNBUFFERED", None)
+# A hub that waits for its last lines as long as a test does: on a busy machine these may take more time than it gives them else.
+PATIENT = f"""import sys
+import attrd_hub.main
+attrd_hub.service.LAST_SECONDS = {SECONDS}
+sys.exit(attrd_hub.main.main())
+"""
 
 
 def calculator(folder: Path) -> List[str]:
@@ -35,6 +43,15 @@ def run_hub(*words: str) -> Tuple[int, str]:
     ended = subprocess.run([sys.executable, "-m", "attrd_hub", "--program", program(), *words], timeout=SECONDS, capture_output=True,
                            text=True, env=ENVIRONMENT, check=False)
     return ended.returncode, ended.stdout + ended.stderr
+
+
+def free_port() -> int:
+    """A port of 127.0.0.1 that is free, below those that the system gives to connections: else one of these might have it by then."""
+    lowest = int(Path("/proc/sys/net/ipv4/ip_local_port_range").read_text().split()[0])
+    while True:
+        with socket.socket() as probe, suppress(OSError):
+            probe.bind(("127.0.0.1", random.randrange(max(1_024, lowest // 2), max(2_048, lowest))))
+            return int(probe.getsockname()[1])
 
 
 class Hub:
@@ -57,7 +74,7 @@ class Hub:
             ready.bind(path)
             ready.settimeout(SECONDS)
             self.process = subprocess.Popen(
-                [sys.executable, "-m", "attrd_hub", "--program", program(), "--socket", self.socket, "--state", str(self.state),
+                [sys.executable, "-c", PATIENT, "--program", program(), "--socket", self.socket, "--state", str(self.state),
                  *self.words, *self.files], stdout=log, stderr=log, env={**ENVIRONMENT, "NOTIFY_SOCKET": path})
             try:
                 told = ready.recv(1_000)

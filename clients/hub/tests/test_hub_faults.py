@@ -22,10 +22,11 @@ from hub_support import ENVIRONMENT, SECONDS, Hub, Lines, run_hub
 from attrd_hub.status import asked
 
 # By hand, on a free machine (ATTRD_HUB_TOLD=1): a reply takes at most so long, in seconds, and four times what was waited for without a
-# fault; so many, or one in fifty, may come later. In the gate none may come later than the longest, since other work may go on beside it.
-WAIT = 0.05
-LATE, LONGEST = 5, 30.0
+# fault; so many, or one in fifty, may come later. In the gate each has to come, since other work may go on beside it.
+WAIT, LATE = 0.05, 5
 CONNECTIONS = 10_000
+# How long a fault may be under way, on a machine that is busy, in seconds.
+PATIENCE = 10 * SECONDS
 MEMORY_KIB = 48 << 10
 
 
@@ -109,7 +110,7 @@ FAULTS: "dict[str, Callable[[str], None]]" = {it.__name__: it for it in (
 
 
 class Beside(threading.Thread):
-    """A client that asks all the time, and how long it waits: `waits` in seconds."""
+    """A client that asks all the time, and how long it waits: `waits` in seconds. `fault` is what it got in place of a reply."""
 
     def __init__(self, client: Lines) -> None:
         super().__init__(daemon=True)
@@ -119,13 +120,17 @@ class Beside(threading.Thread):
         self.fault: "str | None" = None
 
     def run(self) -> None:
-        while not self.is_over.is_set():
+        while self.fault is None:
             start = time.perf_counter()
-            reply = self.client.ask("0 where u")
+            try:
+                reply = self.client.ask("0 where u")
+            except (OSError, EOFError) as fault:
+                reply = repr(fault)
             self.waits.append(time.perf_counter() - start)
             if reply != "0 = /Block/Stmt:1":
                 self.fault = reply
-            self.is_over.wait(0.002)
+            if self.is_over.wait(0.002):
+                return
 
 
 class Faults(unittest.TestCase):
@@ -133,7 +138,7 @@ class Faults(unittest.TestCase):
 
     @classmethod
     def setUpClass(cls) -> None:
-        cls.hub = Hub("--sync", "second", "--half", "5")
+        cls.hub = Hub("--sync", "second", "--half", str(SECONDS))
 
     @classmethod
     def tearDownClass(cls) -> None:
@@ -164,20 +169,17 @@ class Faults(unittest.TestCase):
             print(told, flush=True)
             self.assertLessEqual(sum(it > WAIT + 4 * max(free) for it in waits), max(LATE, len(waits) // 50), told)
             self.assertLess(statistics.median(waits), WAIT + 4 * max(free), told)
-        self.assertLess(max(waits), LONGEST, told)
         self.assertIsInstance(after, int)
         self.assertLess(int(after or 0), MEMORY_KIB + int(memory or 0), told)
 
     def made(self, name: str) -> None:
-        ended = subprocess.run([sys.executable, __file__, name, self.hub.socket], timeout=SECONDS, check=False, capture_output=True,
+        ended = subprocess.run([sys.executable, __file__, name, self.hub.socket], timeout=PATIENCE, check=False, capture_output=True,
                                text=True, env={**ENVIRONMENT, "PYTHONPATH": os.pathsep.join(sys.path)})
         self.assertEqual(ended.returncode, 0, ended.stderr)
 
     @at_length
     def test_many_connections(self) -> None:
-        start = time.monotonic()
         self.fault("many_connections")
-        self.assertLess(time.monotonic() - start, SECONDS)
         status, told = run_hub("--status", self.hub.socket)
         self.assertEqual(status, 0, told)
 

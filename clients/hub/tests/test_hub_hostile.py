@@ -15,12 +15,13 @@ import statistics
 import tempfile
 import time
 import unittest
+from contextlib import contextmanager
 from pathlib import Path
-from typing import Callable, Dict, List, Optional
+from typing import Callable, Dict, Iterator, List, Optional, Tuple
 from unittest import mock
 
 from at_length import at_length
-from hub_support import SECONDS, Hub, Lines, until
+from hub_support import SECONDS, Hub, Lines, free_port, until
 
 from attrd_hub.callers import PLACES, Callers
 from attrd_hub.client import Client
@@ -29,6 +30,8 @@ from attrd_hub.settings import Settings
 from attrd_hub.status import asked
 
 MEGABYTE = 1 << 20
+# What a crowd leaves to others is measured so many times at most, since what else the machine does can only make that less.
+ROUNDS = 5
 # Questions whose answers are found anew each time, where each has a text of its own: they look at each pair of declarations.
 SLOW = """aspect Slow {
   syn int Program.slow(String k) = getBlock().pairs(k);
@@ -105,11 +108,12 @@ class Sender:
 
 
 class Crowd:
-    """Clients that ask one question after the other: each has so many without a reply at once, or comes anew for each."""
+    """Clients that ask one question after the other, each by the next one of the numbers: each has so many without a reply at once, or comes
+    anew for each."""
 
-    def __init__(self, path: str, clients: int, question: Callable[[int], bytes], at_once: int = 1, is_new: bool = False) -> None:
-        self.path, self.question, self.at_once, self.is_new = path, question, at_once, is_new
-        self.numbers = itertools.count()
+    def __init__(self, path: str, clients: int, question: Callable[[int], bytes], numbers: Iterator[int], at_once: int = 1,
+                 is_new: bool = False) -> None:
+        self.path, self.question, self.numbers, self.at_once, self.is_new = path, question, numbers, at_once, is_new
         self.poll = select.epoll()
         self.streams: Dict[int, socket.socket] = {}
         for _ in range(clients):
@@ -320,16 +324,27 @@ class Fairness(Case):
         half = sum(map(len, versions)) // 2
         return sorted(sum(it <= half for it in own) for own in versions)
 
+    def check(self, served: Callable[[], List[int]]) -> None:
+        """Of equal clients the slowest has at least half of the fastest one's replies, in one of the rounds."""
+        found: List[List[int]] = []
+        for _ in range(ROUNDS):
+            found.append(served())
+            if 2 * found[-1][0] >= found[-1][-1]:
+                return
+        self.fail(f"{found}")
+
     @at_length
     def test_who_waits_for_each_reply(self) -> None:
-        """Sixty-four clients, each with the same question that isn't quick: the slowest has at least half of the fastest one's replies."""
-        hub = self.wide(MEGABYTE // 8)
-        served = self.served(self.versions(hub, [[b"0 show /"] * 20] * 64, 1))
-        self.assertGreaterEqual(2 * served[0], served[-1], served)
+        """Sixty-four clients, each with the same question that isn't quick."""
+        self.check(lambda: self.served(self.versions(self.wide(MEGABYTE // 8), [[b"0 show /"] * 20] * 64, 1)))
 
     @at_length
     def test_who_waits_for_none(self) -> None:
         """Also of clients that send all their lines at once."""
+        self.check(self.all_at_once)
+
+    def all_at_once(self) -> List[int]:
+        """How many edits of each client were served when half of all were, of clients that send all their lines at once."""
         hub = self.slow_hub(40)
         # The first questions of all take longer, which no client of the many shall pay for.
         first = hub.client()
@@ -337,8 +352,7 @@ class Fairness(Case):
             self.assertRegex(first.ask(f'0 ask / slow("first {it}")'), "^0 = ")
         first.close()
         questions = [[b'0 ask / slow("%d.%d")' % (client, it) for it in range(120)] for client in range(64)]
-        served = self.served(self.versions(hub, questions, 120))
-        self.assertGreaterEqual(2 * served[0], served[-1], served)
+        return self.served(self.versions(hub, questions, 120))
 
 
 class Beside(Case):
@@ -347,36 +361,48 @@ class Beside(Case):
 
     QUIET = b"0 show /Block/Stmt:0\n"
     SLOW = b'0 ask / slow("%d")\n'
+    processes: Tuple[int, int]
 
     def beside(self, question: Callable[[int], bytes], at_once: int = 1, is_new: bool = False) -> None:
         hub = self.slow_hub(210)
-        processes = (hub.process.pid, hub.program_number())
+        self.processes = (hub.process.pid, hub.program_number())
         quiet = connected(hub.socket)
         self.addCleanup(quiet.close)
-
-        def wait(line: bytes, crowd: Optional[Crowd] = None) -> float:
-            before = sum(map(processor_seconds, processes))
-            quiet.sendall(line)
-            if crowd is not None:
-                crowd.go_on(quiet)
-            self.assertTrue(quiet.recv(1_000).startswith(b"0 = "))
-            return sum(map(processor_seconds, processes)) - before
-        alone = max(wait(self.SLOW % it) for it in range(3))
+        alone = max(self.wait(quiet, self.SLOW % it) for it in range(3))
         for _ in range(20):
-            wait(self.QUIET)
-        crowd = Crowd(hub.socket, 200, question, at_once, is_new)
-        self.addCleanup(crowd.close)
+            self.wait(quiet, self.QUIET)
+        numbers, told = itertools.count(), [f"one question {alone:.4f} s"]
+        for _ in range(ROUNDS):
+            waits = self.waits(quiet, Crowd(hub.socket, 200, question, numbers, at_once, is_new))
+            told.append(f"median {statistics.median(waits):.4f}, the last ones {waits[-4:]} s")
+            # Where clients whose lines were quick turn to long ones at once, those under way come first: so a few answers take longer.
+            if waits[-4] < max(0.1, 5 * alone) and waits[-1] < max(0.5, 25 * alone):
+                return
+        self.fail("; ".join(told))
+
+    def waits(self, quiet: socket.socket, crowd: Crowd) -> List[float]:
+        """What the quiet client waits beside the crowd, the least first."""
         waits = []
         for _ in range(60):
-            waits.append(wait(self.QUIET, crowd))
+            waits.append(self.wait(quiet, self.QUIET, crowd))
             # It pauses for a hundredth of a second of these processes' time, on any machine.
-            end = sum(map(processor_seconds, processes)) + 0.01
-            until(lambda end=end: sum(map(processor_seconds, processes)) > end, "that the crowd is served")
-        waits.sort()
-        told = f"one question {alone:.4f} s; median {statistics.median(waits):.4f}, the last ones {waits[-4:]} s"
-        # Where clients whose lines were quick turn to long ones at once, those under way come first: so a few answers take longer.
-        self.assertLess(waits[-4], max(0.1, 5 * alone), told)
-        self.assertLess(waits[-1], 0.5, told)
+            end = self.spent() + 0.01
+            until(lambda end=end: self.spent() > end, "that the crowd is served")
+        crowd.close()
+        return sorted(waits)
+
+    def spent(self) -> float:
+        """How many seconds the hub and the program have run."""
+        return sum(map(processor_seconds, self.processes))
+
+    def wait(self, quiet: socket.socket, line: bytes, crowd: Optional[Crowd] = None) -> float:
+        """How many seconds they run until the quiet client has its reply."""
+        before = self.spent()
+        quiet.sendall(line)
+        if crowd is not None:
+            crowd.go_on(quiet)
+        self.assertTrue(quiet.recv(1_000).startswith(b"0 = "))
+        return self.spent() - before
 
     @at_length
     def test_new_clients(self) -> None:
@@ -408,21 +434,32 @@ class Unread(Case):
             before = sum(map(processor_seconds, processes))
             self.assertTrue(quiet.ask(line).startswith(reply))
             return sum(map(processor_seconds, processes)) - before
-        with_nobody = [wait("0 show /", "0 = Program(") for _ in range(3)]
-        crowd = [connected(hub.socket) for _ in range(others)]
+        with_nobody = max(wait("0 show /", "0 = Program(") for _ in range(3))
+        told = [f"one question {with_nobody:.4f} s"]
+        for _ in range(ROUNDS):
+            waits = []
+            with self.not_reading(hub, others):
+                for _ in range(40):
+                    waits.append(wait("0 show /Block/Stmt:0", '0 = Decl("x",-)'))
+                    time.sleep(0.01)
+                unread = int(asked(hub.socket)["unread"] or 0)
+            told.append(f"median {statistics.median(waits):.4f}, most {max(waits):.4f} s")
+            # A megabyte for each, or one reply, and what is under way.
+            self.assertLess(unread, min(300 * MEGABYTE, others * (MEGABYTE + 2 * length)), told)
+            if max(waits) < max(0.1, 5 * with_nobody):
+                return
+        self.fail("; ".join(told))
+
+    @contextmanager
+    def not_reading(self, hub: Hub, clients: int) -> Iterator[None]:
+        """So many ask for the whole tree, again and again, and read nothing; they are gone behind it."""
+        crowd = [connected(hub.socket) for _ in range(clients)]
         for it in crowd:
             it.sendall(b"0 show /\n" * 50)
-        waits = []
-        for _ in range(40):
-            waits.append(wait("0 show /Block/Stmt:0", '0 = Decl("x",-)'))
-            time.sleep(0.01)
-        figures = asked(hub.socket)
+        yield
         for it in crowd:
             it.close()
-        told = f"one question {max(with_nobody):.4f} s; median {statistics.median(waits):.4f}, most {max(waits):.4f} s; {figures}"
-        self.assertLess(max(waits), max(0.1, 5 * max(with_nobody)), told)
-        # A megabyte for each, or one reply, and what is under way.
-        self.assertLess(int(figures["unread"] or 0), min(300 * MEGABYTE, others * (MEGABYTE + 2 * length)), told)
+        until(lambda: asked(hub.socket)["clients"] == 1, "that they are gone")
 
     def test_how_much_one_client_leaves(self) -> None:
         """A mebibyte at most, and with short replies those under way: behind it the next question isn't begun."""
@@ -504,11 +541,9 @@ class Places(Case):
         self.assertIs(callers.add(mock.Mock()), clients[1])
 
     def test_who_sends_no_token_takes_no_place_of_others(self) -> None:
-        with tempfile.TemporaryDirectory() as folder, socket.socket() as free:
+        with tempfile.TemporaryDirectory() as folder:
             (Path(folder) / "token").write_text("0123456789abcdef\n")
-            free.bind(("127.0.0.1", 0))
-            port = free.getsockname()[1]
-            free.close()
+            port = free_port()
             hub = self.hub("--tcp", str(port), "--token", str(Path(folder) / "token"), "--clients", "40")
             silent = [socket.create_connection(("127.0.0.1", port), timeout=SECONDS) for _ in range(200)]
             for it in silent[::2]:
@@ -613,7 +648,9 @@ class ReadOnly(Case):
         for it in readers[:10]:
             it.send(*(f"{session} post /Block/Stmt:1/Expr value()" for session in range(100)), "0 version")
         for it in readers[:10]:
-            until(lambda it=it: it.reply() == "0 ok 0", "all replies")
+            # What was posted is answered before.
+            while it.reply() != "0 ok 0":
+                pass
         writers = [hub.client() for _ in range(10)]
         self.assertEqual({it.ask("0 version") for it in writers}, {"0 ok 0"})
         for it in writers[:5]:

@@ -16,7 +16,7 @@ from typing import Callable, Dict, List, Tuple
 from unittest import mock
 
 from at_length import at_length
-from hub_support import CLIENTS, ENVIRONMENT, SECONDS, Hub, calculator, program, run_hub
+from hub_support import CLIENTS, ENVIRONMENT, SECONDS, Hub, calculator, free_port, program, run_hub
 
 import attrd_hub.language
 import attrd_hub.main
@@ -195,12 +195,9 @@ class Editors(unittest.TestCase):
 
     @at_length
     def test_over_tcp_nobody_is_known(self) -> None:
-        with tempfile.TemporaryDirectory() as folder, socket.socket() as free:
-            token = Path(folder) / "token"
+        with tempfile.TemporaryDirectory() as folder:
+            token, port = Path(folder) / "token", free_port()
             token.write_text("0123456789abcdef\n")
-            free.bind(("127.0.0.1", 0))
-            port = free.getsockname()[1]
-            free.close()
             hub = Hub("--tcp", str(port), "--token", str(token), "--log-edits")
             self.addCleanup(hub.close)
             with socket.create_connection(("127.0.0.1", port), timeout=SECONDS) as client:

@@ -66,6 +66,10 @@ class Equal(unittest.TestCase):
         for cost in (1e-3, 3e-3):
             self.assertLess(self.ratio(cost, Machine(asides=2), 1, 20), 2.0, cost)
 
+    def test_clients_that_send_all_their_lines_at_once(self) -> None:
+        for machine in (Machine(), Machine(share=0.3, stops=100)):
+            self.assertLess(self.ratio(1e-3, machine, 240, 60), 2.0, machine)
+
     def test_all_of_it(self) -> None:
         self.check(Machine(noise=0.4, share=0.3, stops=100, lates=100, asides=10))
 
