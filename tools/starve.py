@@ -250,7 +250,7 @@ class Server:
     def run(self, lines: str, nth: int) -> "subprocess.CompletedProcess[str]":
         """A run over these lines with the nth request refused; with none where that is 0. One turn follows each line."""
         return subprocess.run([self.program, *self.session.options, self.keeper, "1", *self.session.files], env={**self.environment, "REFUSE": str(nth)}, input=lines,
-                              capture_output=True, text=True, timeout=60)
+                              capture_output=True, text=True, timeout=300)
 
     def tells(self, lines: Sequence[str], replies: Sequence[str]) -> bool:
         """Whether these are the replies to the lines where no request is refused."""

@@ -1,7 +1,7 @@
 """Forms of aspects that are read where an option names them: `--forms circular`."""
 from typing import List, Tuple
 
-from tools.of_the_program.runs import THREE, ProgramTest, ended
+from tools.of_the_program.runs import SECONDS, THREE, ProgramTest, ended
 
 GRAMMAR = b"A ::= <On:boolean> [B:A];\n"
 TREE = b"A(true,A(false,-))\n"
@@ -93,7 +93,7 @@ class Forms(ProgramTest):
     def told(self, options: str, lines: bytes) -> Tuple[bytes, bytes]:
         """What is written for the lines, and on standard error."""
         run = self.begin(["--work", "--forms", "circular", *options.split(), "a.ast", "a.txt", "a.jrag"])
-        out, err = run.communicate(lines, timeout=60)
+        out, err = run.communicate(lines, timeout=SECONDS)
         self.assertEqual(run.returncode, 0)
         return out, err
 
@@ -150,5 +150,5 @@ class Forms(ProgramTest):
         without: List[str] = []
         for words in without, ["--forms", "circular"]:
             run = self.begin(["--work", *words, *THREE, "lazy.jrag"])
-            told.append((run.communicate(lines, timeout=60), run.returncode))
+            told.append((run.communicate(lines, timeout=SECONDS), run.returncode))
         self.assertEqual(told, [((b"0 = 11\n0 ok 1\n0 = 6\n0 = 13\n", b"work 1\n"), 0)] * 2)

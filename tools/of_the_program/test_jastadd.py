@@ -4,7 +4,7 @@ import shlex
 from pathlib import Path
 from typing import List
 
-from tools.of_the_program.runs import ProgramTest, ended
+from tools.of_the_program.runs import SECONDS, ProgramTest, ended
 from tools.sources import ROOT
 
 GRAMMAR = b"A ::= <On:boolean> B*;\nB ::= <Name>;\n"
@@ -47,7 +47,7 @@ class JastAdd(ProgramTest):
         for words in NAMING:
             with self.subTest(words):
                 run = self.begin([*words.split(), "a.ast", "a.txt", "a.jrag"])
-                self.assertEqual((*run.communicate(LINES, timeout=60), run.returncode), (REPLIES, b"", 0))
+                self.assertEqual((*run.communicate(LINES, timeout=SECONDS), run.returncode), (REPLIES, b"", 0))
 
     def test_without_the_word_the_file_is_refused(self) -> None:
         for words in "", "--forms circular":
@@ -74,7 +74,7 @@ class JastAdd(ProgramTest):
                 files = [str(folder / it) for it in words[:at] if "." in it]
                 with self.subTest(" ".join(words)):
                     run = self.begin(["--forms", "jastadd", *files])
-                    out, err = run.communicate((folder / words[at + 1]).read_bytes(), timeout=60)
+                    out, err = run.communicate((folder / words[at + 1]).read_bytes(), timeout=SECONDS)
                     self.assertEqual((out, err, run.returncode), ((folder / words[-1]).read_bytes(), b"", 0))
                 count += 1
         self.assertGreaterEqual(count, len(SAMPLES))

@@ -4,10 +4,9 @@ import subprocess
 import tempfile
 from typing import Dict, List
 
-from tools.of_the_program.runs import THREE, End, ProgramTest, all_of, ended
+from tools.of_the_program.runs import SECONDS, THREE, End, ProgramTest, all_of, ended
 from tools.starve import preloading
 
-SECONDS = 300
 # How many bytes a read brings at most; the program asks for 8,192.
 PIECES = (1, 2, 3, 7, 8_191, 8_192)
 # How long a line is at most, and how many reads there are.
