@@ -35,6 +35,7 @@ SHAPES = {"put": Shape.OPTIONAL, "insert": Shape.LIST, "move": Shape.LIST, "toke
 _REPLY = re.compile(r"(\d+|\?) (ok \d+|= .*|fault .*|circular .*|refused \d+ .*|memory|open \d+|done .*)\Z")
 _SESSION = re.compile(r"(0|[1-9]\d{0,2}) (.*)\Z", re.S)
 _MARK = re.compile(r"mark (\S+) ")
+_STEP = re.compile(r"[0-9]{1,9}")
 
 
 class Completion:
@@ -181,7 +182,7 @@ class Prompt:
         """Why a value is what it is: of an instance, or of a step of the last reason, by its number. Raises what `Session.ask` raises,
         NoReason and SyntaxFault."""
         tree = self._tree()
-        if asked.isdigit():
+        if _STEP.fullmatch(asked):
             if not 1 <= int(asked) <= len(self._steps):
                 return f"the last reason has {len(self._steps)} steps"
             instance = self._steps[int(asked) - 1].instance

@@ -7,6 +7,7 @@ import unittest
 from pathlib import Path as FilePath
 
 from at_length import at_length
+from attrd import SyntaxFault
 from attrd.prompt import GREETING, Prompt
 from support import CALCULATOR, PROGRAM, SAMPLES
 
@@ -31,6 +32,8 @@ class Lines(unittest.TestCase):
         self.assertEqual(answer("why /Block/Stmt:1/Expr value").splitlines()[0], "/Block/Stmt:1/Expr.value() = 3")
         self.assertEqual(answer("why 1").splitlines()[0], "/Block/Stmt:1/Expr/Left.value() = 1")
         self.assertEqual(answer("why 9"), "the last reason has 2 steps")
+        for number in ("\u00b2", "9" * 5_000):
+            self.assertRaises(SyntaxFault, answer, f"why {number}")
         answer("mark u /Block/Stmt:1/Expr")
         answer("token /Block/Stmt:1/Expr/Right Value 5")
         self.assertIn("= 6", answer("why $u value()"))
