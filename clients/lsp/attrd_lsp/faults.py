@@ -5,9 +5,11 @@ import sys
 import traceback
 from contextlib import suppress
 
+from attrd import AttrdError
+
 from .rpc import INTERNAL_ERROR, Failure
 
-FAULTS = (ArithmeticError, AssertionError, AttributeError, LookupError, OSError, RuntimeError, TypeError, ValueError)
+FAULTS = (ArithmeticError, AssertionError, AttrdError, AttributeError, LookupError, OSError, RuntimeError, TypeError, ValueError)
 
 
 def failure_of(fault: Exception) -> Failure:
