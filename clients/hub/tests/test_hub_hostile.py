@@ -385,11 +385,16 @@ class Beside(Case):
         waits = []
         for _ in range(60):
             waits.append(self.wait(quiet, self.QUIET, crowd))
-            # It pauses for a hundredth of a second of these processes' time, on any machine.
-            end = self.spent() + 0.01
-            until(lambda end=end: self.spent() > end, "that the crowd is served")
+            self.pause()
         crowd.close()
         return sorted(waits)
+
+    def pause(self) -> None:
+        """Has the crowd served for a hundredth of a second of these processes' time, on any machine; or for a second, where it has all its
+        replies by then."""
+        spent, end = self.spent() + 0.01, time.monotonic() + 1.0
+        while self.spent() < spent and time.monotonic() < end:
+            time.sleep(0.002)
 
     def spent(self) -> float:
         """How many seconds the hub and the program have run."""
@@ -456,9 +461,11 @@ class Unread(Case):
         crowd = [connected(hub.socket) for _ in range(clients)]
         for it in crowd:
             it.sendall(b"0 show /\n" * 50)
-        yield
-        for it in crowd:
-            it.close()
+        try:
+            yield
+        finally:
+            for it in crowd:
+                it.close()
         until(lambda: asked(hub.socket)["clients"] == 1, "that they are gone")
 
     def test_how_much_one_client_leaves(self) -> None:

@@ -5,7 +5,6 @@ import io
 import json
 import os
 import shutil
-import sys
 import tempfile
 import unittest
 from contextlib import redirect_stderr
@@ -151,4 +150,4 @@ class Faults(InAFolder):
 
 
 if __name__ == "__main__":
-    sys.exit(unittest.main())
+    unittest.main()
