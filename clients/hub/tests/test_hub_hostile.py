@@ -196,13 +196,15 @@ class LongReplies(Case):
             got = last = 0
             while last != ord("\n"):
                 taken = client.recv_into(room)
+                self.assertTrue(taken, "the hub has ended")
                 got, last = got + taken, room[taken - 1]
             self.assertGreater(got, hub.length * 9 // 10)
         return processor_seconds(hub.process.pid) - before
 
     @at_length
     def test_processor_time_goes_with_the_length(self) -> None:
-        """A reply of 32 MB takes at most four times the time of one of 8 MB."""
+        """A reply of 32 MB takes about four times the time of one of 8 MB. Were all that is there copied for each part, it would take sixteen
+        times that; the bound lies between, since other work on the machine makes the same copies slower."""
         hubs = [self.wide(it, "--nodes", "600000") for it in (self.SHORT, self.LONG)]
         clients = [connected(it.socket) for it in hubs]
         short, long = [], []
@@ -210,11 +212,11 @@ class LongReplies(Case):
             # As many bytes of each, so that both are measured for about as long.
             short.append(self.taken(hubs[0], clients[0], self.LONG // self.SHORT))
             long.append(self.taken(hubs[1], clients[1], 1))
-            if min(long) <= min(short):
+            if min(long) <= 2 * min(short):
                 break
         for it in clients:
             it.close()
-        self.assertLessEqual(min(long), min(short), f"one of 32 MB {min(long):.3f} s, four of 8 MB {min(short):.3f} s")
+        self.assertLessEqual(min(long), 2 * min(short), f"one of 32 MB {min(long):.3f} s, four of 8 MB {min(short):.3f} s")
 
     def test_a_slow_reader_has_all_of_it(self) -> None:
         """In a session that has another number for the program, and with lines behind it."""
