@@ -183,6 +183,14 @@ class OfAnyNode(unittest.TestCase):
         self.assertIn("no attribute or accessor getNumChild.", found[1][3])
 
 
+class Receivers(unittest.TestCase):
+    def test_a_call_of_what_is_refused_between_parentheses_only_follows(self):
+        for text, expected in (("syn int Num.a() = ((Nom) this).b();", [("J3", 31)]), ("syn int Num.a() = ((nix())).b() + 1;", [("J3", 32)]),
+                               ("syn int Num.a() = (nix()).b() + (1 + true).b() + this.nix();", [("J3", 31), ("J4", 45), ("J3", 61)])):
+            found = check(GRAMMAR, [CALC, Source("x.jrag", f"aspect A {{ {text} }}")], PROGRAM).findings
+            self.assertEqual([(it.code, it.column) for it in found], expected, text)
+
+
 class Loops(unittest.TestCase):
     def told(self, text):
         found = check(GRAMMAR, [CALC, Source("x.jrag", f"aspect A {{ {text} }}")], PROGRAM, "jastadd").findings

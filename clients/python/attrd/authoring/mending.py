@@ -61,6 +61,8 @@ class Mending:
         self._bodies: Set[int] = set()
         self._marred: Set[int] = set()
         self._reserved: Set[str] = set()
+        # Expressions in whose place nothing fits, by what stands around them.
+        self._unfit: Set[int] = set()
         self._told: Set[Tuple[int, int, str]] = set()
         self._waiting: List[Refused] = []
         # The first fault is the program's first one, unless that is one of the grammar: it follows from none.
@@ -421,6 +423,7 @@ class Mending:
             # What is told before it, whatever stands there, is a fault of its own.
             if len(places) == 1 and min(places)[1] < offset:
                 patched.put(expression.start, expression.end, DUMMIES[0])
+                self._unfit.add(id(expression))
                 return expression
         return None
 
@@ -551,7 +554,14 @@ class Mending:
             return True
         if any(id(piece) in self._pieces and expression.start <= piece.start < expression.end for piece in it.pieces):
             return True
-        return refusal.code == "J4" and self._is_marred(it)
+        return refusal.code == "J4" and (self._is_marred(it) or self._is_of_unfit(expression))
+
+    def _is_of_unfit(self, expression: Expression) -> bool:
+        """Whether it is a call of what stands between parentheses and was refused itself."""
+        inner = expression.receiver
+        while inner is not None and inner.form is Form.GROUP:
+            inner = inner.parts[0]
+        return inner is not expression.receiver and id(inner) in self._unfit
 
     def _is_of_retyped(self, expression: Expression, it: Declaration) -> bool:
         """Whether it is an argument, or a call, of an attribute with parameters that aren't taken."""
