@@ -176,6 +176,22 @@ class OfAnyNode(unittest.TestCase):
         self.assertEqual([(code, of) for code, _, of, _ in found], [("J8", section(2)), ("J3", section(2))])
         self.assertIn("declare it for each of the other classes", found[0][3])
 
+    def test_it_is_no_kind(self):
+        """A class that is meant is named; what is declared for it is declared for one above all others where that isn't read."""
+        for text, column in (("syn ASTNode Num.a() = this;", 16), ("syn int Num.a(ASTNode n) = 1;", 26), ("inh ASTNode ASTNode.a();", 16),
+                             ("syn boolean Num.a() = this instanceof ASTNode;", 34), ("syn int Num.a() = ((ASTNode) this).b();", 31)):
+            found = [it for it in self.told(text, "jastadd") if it[0] == "J3"]
+            self.assertEqual([(at, of) for _, at, of, _ in found], [(column, section(2))], text)
+            self.assertIn("`ASTNode` is no kind: name the class that is meant", found[0][3], text)
+        self.assertIn("declare it for that one", self.told("syn int ASTNode.a() = 1;", "")[0][3])
+
+    def test_it_has_no_equations(self):
+        for text, at in (("syn int ASTNode.a(); eq ASTNode.a() = 1;", 33), ("syn int ASTNode.b() = 1; eq ASTNode.a() = 1;", 37)):
+            found = self.told(text, "jastadd")
+            self.assertEqual([it[:3] for it in found], [("J9", at, section(2))], text)
+            self.assertIn("ASTNode has no equations of its own. What holds for all nodes stands with the declaration", found[0][3], text)
+        self.assertEqual([code for code, *_ in self.told("syn int ASTNode.a(); eq Num.a() = 1;", "jastadd")], ["J7"])
+
     def test_what_is_called_and_not_its_argument(self):
         found = self.told("syn int Block.a() = getChild(getNumChild() - 1).b();", "")
         self.assertEqual([(code, of) for code, _, of, _ in found], [("J3", section(3))] * 2)
@@ -189,6 +205,27 @@ class Receivers(unittest.TestCase):
                                ("syn int Num.a() = (nix()).b() + (1 + true).b() + this.nix();", [("J3", 31), ("J4", 45), ("J3", 61)])):
             found = check(GRAMMAR, [CALC, Source("x.jrag", f"aspect A {{ {text} }}")], PROGRAM).findings
             self.assertEqual([(it.code, it.column) for it in found], expected, text)
+
+
+class MadeNodes(unittest.TestCase):
+    """What is told of nonterminal attributes where constant ones are read."""
+
+    def test_a_constant_is_no_list(self):
+        for kind, made in (("List<Stmt>", "new List<Stmt>()"), ("List<Stmt>", "null"), ("Opt<Expr>", "new Opt<Expr>()")):
+            text = f"aspect A {{ syn nta {kind} Program.known() = {made}; }}"
+            found = check(GRAMMAR, [CALC, Source("x.jrag", text)], PROGRAM, "jastadd").findings
+            self.assertEqual([(it.code, it.column, it.section) for it in found], [("J10", 20, section(11))], text)
+            self.assertIn("A constant is one node: declare one that has the list", found[0].hint, text)
+
+    def test_in_a_grammar(self):
+        for component in ("/Num/", "/One:Num/", "/Num*/"):
+            grammar = Source("x.ast", f"Program ::= {component};\nNum;\n")
+            for forms, part in (("jastadd", "`syn nta Num Program.getOne() = new Num(1);` is asked as `getOne()`"), ("", "make it a child")):
+                (found,) = check(grammar, [], PROGRAM, forms).findings
+                self.assertEqual((found.code, found.column, found.section), ("G7", 13, section(11)), component)
+                self.assertIn(part, found.hint, component)
+        text = "aspect A { syn nta Num Program.getOne() = new Num(1); syn int Program.one() = getOne().getValue(); }"
+        self.assertEqual(check(GRAMMAR, [CALC, Source("x.jrag", text)], PROGRAM, "jastadd").findings, [])
 
 
 class Loops(unittest.TestCase):

@@ -154,6 +154,8 @@ class Advice:
             inherited = {known for known in self.specification.attribute_names
                          if any(it.declaration.form == "inh" for it in self.specification.named(known))}
             return f"No class has an inherited attribute {name}. {self._near(name, inherited)}".strip()
+        if refused.code == "J9" and self.hints.of_any(it) is not None:
+            return "ASTNode has no equations of its own."
         if refused.code == "J9":
             return self._of_number(of, name, len(it.parameters)) \
                 or f"{of} has no synthesized attribute {name}. {self._near(name, self._attributes(of))}".strip()

@@ -9,9 +9,9 @@ from ..grammar import Shape
 from .aspect_tree import Declaration, Expression, Form, Piece
 from .mending import Refused
 from .specification import NODES, Placed, Specification, is_java_kind
-from .ways import (AT_ROOT, BELOW_ROOT, BY_ACCESSOR, BY_KINDS, COMPUTED, FIFTH, FORMS, IN_JASTADD, JAVA_TYPES, NAMES, NO_VALUE, NUMBERS,
-                   OF_CONSTANTS, OF_JAVA, OF_LISTS, OF_OTHERS, OF_SETS, ONE_LINE, OTHER_KIND, OTHERWISE, OVERLOADED, OVERRIDDEN, TOO_MANY,
-                   TWO_FORMS, TWO_TYPES, Way, way_of_body)
+from .ways import (AT_ROOT, BELOW_ROOT, BY_ACCESSOR, BY_KINDS, COMPUTED, EQUATION_OF_ANY, FIFTH, FORMS, IN_JASTADD, JAVA_TYPES, KIND_OF_ANY,
+                   LIST_CONSTANT, NAMES, NO_VALUE, NUMBERS, OF_CONSTANTS, OF_JAVA, OF_LISTS, OF_OTHERS, OF_SETS, ONE_LINE, OTHER_KIND,
+                   OTHERWISE, OVERLOADED, OVERRIDDEN, TOO_MANY, TWO_FORMS, TWO_TYPES, Way, way_of_body)
 
 _SEVERAL = re.compile(r"get(\w+)s")
 _OPTIONAL = re.compile(r"get(\w+)Opt")
@@ -28,6 +28,8 @@ class Hints:
         if code == "G2" and word not in NODES:
             return Way(SENTENCES[code][1])
         is_of_node, is_made = word in ("Child", "Parent", "NumChild"), word == "/"
+        if code == "G7" and is_made and self._is_jastadd():
+            return IN_JASTADD["component"]
         numbers = {"G2": 2, "G5": 3 if is_of_node else 15, "G6": 1, "G7": 11 if is_made else 1}
         return Way(SENTENCES[code][1], numbers.get(code, 0))
 
@@ -43,7 +45,7 @@ class Hints:
             return self._of_form(refused, text) or self._of_word(refused, text, word) or otherwise
         if it is None:
             return otherwise
-        found = {"J2": self._of_twice, "J8": self._of_root, "J12": self._of_name}.get(refused.code)
+        found = {"J2": self._of_twice, "J8": self._of_root, "J9": self.of_any, "J12": self._of_name}.get(refused.code)
         if found is not None:
             return found(it) or otherwise
         if refused.code == "J4" and word == "}":
@@ -77,6 +79,8 @@ class Hints:
             return FORMS["void"]
         if sort == "circular" and "circular" in self.specification.forms:
             return FORMS["circular kind" if it is not None and it.kind is not None and it.kind.text != "boolean" else "circular start"]
+        if self._is_jastadd() and sort == "nta" and it is not None and it.kind is not None and it.kind.text.partition("<")[0] in NODES:
+            return LIST_CONSTANT
         return IN_JASTADD[sort] if self._is_jastadd() and sort in ("nta", "new") else FORMS.get(sort)
 
     def _of_word(self, refused: Refused, text: str, word: str) -> Optional[Way]:
@@ -98,7 +102,8 @@ class Hints:
         if refused.code == "J3" and it.getter is not None and word == it.getter.text:
             return self._of_getter(word, it)
         if refused.code == "J3":
-            return NAMES[word] if word in NODES else FORMS["kind"] if word in JAVA_TYPES else None
+            is_kind = it.of is None or it.of.at != refused.offset
+            return self._of_node(word, is_kind) if word in NODES else FORMS["kind"] if word in JAVA_TYPES else None
         if refused.code == "J4" and self.specification.declared_above(it) is not None:
             return OTHER_KIND
         kinds = [binding.kind for binding in it.parameters]
@@ -108,6 +113,15 @@ class Hints:
         if self._is_jastadd():
             return FIFTH
         return TOO_MANY if place > 1 else NUMBERS if word in ("int", "boolean") else None
+
+    @staticmethod
+    def _of_node(word: str, is_kind: bool) -> Way:
+        """What helps with ASTNode or its like, as a kind or as the class for which something is declared."""
+        return KIND_OF_ANY if is_kind and word == "ASTNode" else NAMES[word]
+
+    def of_any(self, it: Declaration) -> Optional[Way]:
+        """What helps with an equation of ASTNode, where attributes may be declared for it."""
+        return EQUATION_OF_ANY if self._is_jastadd() and it.getter is None and it.of is not None and it.of.text == "ASTNode" else None
 
     def _is_jastadd(self) -> bool:
         return "jastadd" in self.specification.forms
@@ -139,7 +153,7 @@ class Hints:
             kinds = [self.specification.kind_of(part, it) for part in whole.parts]
             return Way(SENTENCES["J4"][1], 1) if whole.form is Form.BINARY and "String" in kinds else None
         if expression.form in (Form.CAST, Form.INSTANCE) and expression.word.text in NODES:
-            return NAMES[expression.word.text]
+            return self._of_node(expression.word.text, True)
         ways = [self._of_accessor(made.word.text, self.specification.receiver_kind(made, it)) for made in calls]
         return next((way for way in ways if way is not None), None) or self._of_far(calls, it)
 

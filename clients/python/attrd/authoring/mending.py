@@ -296,7 +296,7 @@ class Mending:
             self._put_parameters(refusal.file, it, offset)
         elif code in ("J2", "J12") and not _binds_twice(it) and patched.is_free(offset, offset + 1):
             self._rename(refusal.file, it)
-        elif code in ("J3", "J6", "J9") and self._put_apart(refusal.file, it) and code == "J3":
+        elif code in ("J3", "J6", "J9") and self._put_apart(refusal.file, it) and (code == "J3" or _is_of_any_node(it)):
             self._unequate(it)
         return patched.text != before
 
@@ -524,7 +524,7 @@ class Mending:
         name = None if it.name is None else it.name.text
         if code == "J7":
             missing, gone = classes_without(self.specification, it), self.unequated.get(name or "", [])
-            return name in before or 0 < len(missing) <= len(gone)
+            return name in before or 0 < len(missing) <= len(gone) or not set(gone).isdisjoint(NODES)
         if code == "J8":
             gone = self.unequated.get(name or "", [])
             is_known = all(of in self.specification.grammar for of in gone)
@@ -581,6 +581,11 @@ class Mending:
         """Whether a declaration had a word that was none, or its attribute has another kind now."""
         declared = self._attribute(it) if it.form == "eq" else it
         return id(it) in self._marred or id(declared) in self._kinds or id(it) in self._kinds
+
+
+def _is_of_any_node(it: Declaration) -> bool:
+    """Whether it is for ASTNode or its like."""
+    return it.of is not None and it.of.text in NODES
 
 
 def _spelled(kind: str) -> str:

@@ -100,6 +100,10 @@ TWO_TYPES = Way("All `inh` declarations of a name say the same types, and the sa
 NUMBERS = Way("A parameter is a String or a node: a number that is an index is the element, and one that grows on the way down is an "
               "inherited attribute.", 6)
 TOO_MANY = Way("There are two parameters at most: of three one is mostly a node that can be asked, with the others as its arguments.", 8)
+LIST_CONSTANT = Way("A constant is one node: declare one that has the list, `syn nta Block Program.known() = new Block(new List().add(new "
+                    "Print(new Num(1))));`, and ask that for its list.", 11)
+KIND_OF_ANY = Way("`ASTNode` is no kind: name the class that is meant, or declare one abstract class above all others, and name that one.", 2)
+EQUATION_OF_ANY = Way("What holds for all nodes stands with the declaration, `syn int ASTNode.size() = 1;`; a class overrides it by `eq`.", 2)
 FIFTH = Way("There are four parameters at most: of five one is mostly a node that can be asked, with others as its arguments.", 8)
 COMPUTED = Way("A String argument is a token, a parameter or a text that is written out: pass the node, and let the other side ask it.", 7)
 OF_JAVA = Way("Java can't be called: what takes a library is computed by the client, which puts the result into the tree as a token.", 1)
@@ -124,6 +128,9 @@ OF_OTHERS = Way("A constant stands in the nodes of its class and of those below 
                 "node above, by `getChild()`.", 11)
 # What helps where bodies of statements are read.
 IN_JASTADD: Dict[str, Way] = {
+    "component": Way("Take it out of the grammar. What is always there is written down in an aspect, as one component more: `syn nta Num "
+                     "Program.getOne() = new Num(1);` is asked as `getOne()`. A token, and what depends on the tree, becomes a `syn "
+                     "lazy` attribute, which answers the value, or what would be asked of the node.", 11),
     "nta": Way(f"What is always there is written down: {_WRITTEN} What depends on the tree is an attribute that answers what would be asked "
                "of the node.", 11),
     "new": Way(f"Equations make no nodes. What is always there is a constant, {_WRITTEN}", 11),
