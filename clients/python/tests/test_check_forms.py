@@ -199,6 +199,21 @@ class OfAnyNode(unittest.TestCase):
         self.assertIn("no attribute or accessor getNumChild.", found[1][3])
 
 
+class Interfaces(unittest.TestCase):
+    TEXT = "aspect A {{ {} syn String Decl.called() = getID(); }}"
+
+    def test_its_methods_are_for_all_nodes(self):
+        """Where attributes may be declared for all nodes, and else for a class above."""
+        text = self.TEXT.format("public interface Named { String called(); } Decl implements Named;")
+        for forms, part in (("jastadd", "`syn String ASTNode.name() = \"\";`"), ("", "by `syn` for a class above")):
+            found = check(GRAMMAR, [CALC, Source("x.jrag", text)], PROGRAM, forms).findings
+            self.assertEqual([(it.code, it.section) for it in found], [("J10", section(2))] * 2, forms)
+            for it in found:
+                self.assertIn(part, it.hint)
+        text = self.TEXT.format("syn String ASTNode.called() = \"\"; syn boolean ASTNode.isNamed() = false; eq Decl.isNamed() = true;")
+        self.assertEqual(check(GRAMMAR, [CALC, Source("x.jrag", text)], PROGRAM, "jastadd").findings, [])
+
+
 class Receivers(unittest.TestCase):
     def test_a_call_of_what_is_refused_between_parentheses_only_follows(self):
         for text, expected in (("syn int Num.a() = ((Nom) this).b();", [("J3", 31)]), ("syn int Num.a() = ((nix())).b() + 1;", [("J3", 32)]),

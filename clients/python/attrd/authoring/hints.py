@@ -15,6 +15,8 @@ from .ways import (AT_ROOT, BELOW_ROOT, BY_ACCESSOR, BY_KINDS, COMPUTED, EQUATIO
 
 _SEVERAL = re.compile(r"get(\w+)s")
 _OPTIONAL = re.compile(r"get(\w+)Opt")
+# What isn't taken and has another way round where JastAdd's own language is read.
+_OTHERWISE_IN_JASTADD = ("nta", "new", "interface", "implements")
 
 
 class Hints:
@@ -81,7 +83,7 @@ class Hints:
             return FORMS["circular kind" if it is not None and it.kind is not None and it.kind.text != "boolean" else "circular start"]
         if self._is_jastadd() and sort == "nta" and it is not None and it.kind is not None and it.kind.text.partition("<")[0] in NODES:
             return LIST_CONSTANT
-        return IN_JASTADD[sort] if self._is_jastadd() and sort in ("nta", "new") else FORMS.get(sort)
+        return IN_JASTADD[sort] if self._is_jastadd() and sort in _OTHERWISE_IN_JASTADD else FORMS.get(sort)
 
     def _of_word(self, refused: Refused, text: str, word: str) -> Optional[Way]:
         """What helps where no aspect goes on with a word."""

@@ -126,8 +126,11 @@ OF_CONSTANTS: Dict[str, Way] = {
 BY_ACCESSOR = "A name that begins with `get` is that of an accessor: that of this constant is `{}`."
 OF_OTHERS = Way("A constant stands in the nodes of its class and of those below it: the equation is for one of these, or for all nodes below a "
                 "node above, by `getChild()`.", 11)
+_EVERYWHERE = "`syn String ASTNode.name() = \"\";`, and each class that would implement it has its own by `eq`."
 # What helps where bodies of statements are read.
 IN_JASTADD: Dict[str, Way] = {
+    "interface": Way(f"Take it out, and declare its methods for all nodes: {_EVERYWHERE} In place of `instanceof` ask a boolean one.", 2),
+    "implements": Way(f"Take it out: what the interface has is declared for all nodes, {_EVERYWHERE}", 2),
     "component": Way("Take it out of the grammar. What is always there is written down in an aspect, as one component more: `syn nta Num "
                      "Program.getOne() = new Num(1);` is asked as `getOne()`. A token, and what depends on the tree, becomes a `syn "
                      "lazy` attribute, which answers the value, or what would be asked of the node.", 11),
