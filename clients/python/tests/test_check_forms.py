@@ -199,6 +199,18 @@ class OfAnyNode(unittest.TestCase):
         self.assertIn("no attribute or accessor getNumChild.", found[1][3])
 
 
+class Objects(unittest.TestCase):
+    def test_what_is_made_of_no_class_of_the_grammar(self):
+        """A set, or another object of Java, is no constant; a node might be one."""
+        of_java, of_nodes = (1, "Equations make no sets"), (11, "What is always there is a constant")
+        for made, (number, part) in (("new TreeSet<String>()", of_java), ("new java.util.TreeSet()", of_java), ("new Num(1)", of_nodes),
+                                     ("new List()", of_nodes)):
+            text = f"aspect A {{ syn boolean Stmt.a() = null == {made}; }}"
+            found = check(GRAMMAR, [CALC, Source("x.jrag", text)], PROGRAM, "jastadd").findings
+            self.assertEqual([(it.code, it.column, it.section) for it in found], [("J10", text.index("new") + 1, section(number))], text)
+            self.assertIn(part, found[0].hint, text)
+
+
 class Interfaces(unittest.TestCase):
     TEXT = "aspect A {{ {} syn String Decl.called() = getID(); }}"
 
@@ -266,6 +278,11 @@ class Loops(unittest.TestCase):
         self.assertEqual([(code, of) for code, of, _ in found], [("J10", section(5))])
         self.assertNotIn("no such accessor", found[0][2])
         self.assertIn("Count by `sum (s : getSList()) { e }`", found[0][2])
+        loop = "for (int i = 0; i < getNumStmt(); i++) if (getStmt(i).declares(n)) return true;"
+        found = self.told(f"syn boolean Block.b(String n) {{ {loop} return false; }}")
+        self.assertEqual([(code, of) for code, of, _ in found], [("J10", section(5))])
+        self.assertIn("One with an index becomes a recursion", found[0][2])
+        self.assertEqual(self.told("syn int Block.n(int i) = i < getNumStmt() ? n(i + 1) + 1 : 0; syn int Block.m() = n(0);"), [])
         found = self.told("syn int Block.n() { int i = 0; while (i < 3) i++; return i; }")
         self.assertIn("A loop becomes a recursion from node to node", found[0][2])
 

@@ -10,11 +10,12 @@ from .aspect_tree import Declaration, Expression, Form, Piece
 from .mending import Refused
 from .specification import NODES, Placed, Specification, is_java_kind
 from .ways import (AT_ROOT, BELOW_ROOT, BY_ACCESSOR, BY_KINDS, COMPUTED, EQUATION_OF_ANY, FIFTH, FORMS, IN_JASTADD, JAVA_TYPES, KIND_OF_ANY,
-                   LIST_CONSTANT, NAMES, NO_VALUE, NUMBERS, OF_CONSTANTS, OF_JAVA, OF_LISTS, OF_OTHERS, OF_SETS, ONE_LINE, OTHER_KIND,
-                   OTHERWISE, OVERLOADED, OVERRIDDEN, TOO_MANY, TWO_FORMS, TWO_TYPES, Way, way_of_body)
+                   LIST_CONSTANT, NAMES, NO_VALUE, NUMBERS, OF_CONSTANTS, OF_JAVA, OF_LISTS, OF_OBJECTS, OF_OTHERS, OF_SETS, ONE_LINE,
+                   OTHER_KIND, OTHERWISE, OVERLOADED, OVERRIDDEN, TOO_MANY, TWO_FORMS, TWO_TYPES, Way, way_of_body)
 
 _SEVERAL = re.compile(r"get(\w+)s")
 _OPTIONAL = re.compile(r"get(\w+)Opt")
+_MADE = re.compile(r"new\s+([\w.]+)")
 # What isn't taken and has another way round where JastAdd's own language is read.
 _OTHERWISE_IN_JASTADD = ("nta", "new", "interface", "implements")
 
@@ -83,6 +84,9 @@ class Hints:
             return FORMS["circular kind" if it is not None and it.kind is not None and it.kind.text != "boolean" else "circular start"]
         if self._is_jastadd() and sort == "nta" and it is not None and it.kind is not None and it.kind.text.partition("<")[0] in NODES:
             return LIST_CONSTANT
+        made = _MADE.match(text, refused.offset)
+        if sort == "new" and made and made[1] not in (*self.specification.classes, *NODES):
+            return OF_OBJECTS
         return IN_JASTADD[sort] if self._is_jastadd() and sort in _OTHERWISE_IN_JASTADD else FORMS.get(sort)
 
     def _of_word(self, refused: Refused, text: str, word: str) -> Optional[Way]:

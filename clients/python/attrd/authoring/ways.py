@@ -109,6 +109,8 @@ COMPUTED = Way("A String argument is a token, a parameter or a text that is writ
 OF_JAVA = Way("Java can't be called: what takes a library is computed by the client, which puts the result into the tree as a token.", 1)
 OF_SETS = Way("A set is the question whether something is in it: have the attribute take the element as its argument, and answer a "
               "boolean.", 1)
+OF_OBJECTS = Way("Equations make no sets and no objects of Java: in place of a set have an attribute take the element as its argument, and "
+                 "answer a boolean.", 1)
 OF_LISTS = Way("Have it go over a list of the tree; what isn't in one is asked for by a recursion from node to node.", 5)
 AT_ROOT = Way("Give the class of the root an equation of its own, which asks for nothing from above.", 2)
 BELOW_ROOT = Way("The root has no node above it: declare it for each of the other classes, and not for that of the root.", 2)
@@ -138,7 +140,8 @@ IN_JASTADD: Dict[str, Way] = {
                "of the node.", 11),
     "new": Way(f"Equations make no nodes. What is always there is a constant, {_WRITTEN}", 11),
     "if": Way("`if` and `else` are read, where each way ends in a `return`: a `switch` becomes a chain of them.", 5),
-    "for": Way("A loop is read that looks for an element: `for (S s : getSList()) if (c) return e;`. Count by `sum (s : getSList()) { e }`.", 5),
+    "for": Way("A loop is read that looks for an element: `for (S s : getSList()) if (c) return e;`. Count by `sum (s : getSList()) { e }`. "
+               "One with an index becomes a recursion: `n(int i)` asks `n(i + 1)`, where `i < getNumS()`.", 5),
     "statement": Way("Nothing is changed in a body: what is assigned or added becomes the value of an attribute.", 5)}
 # Loops and choices that stand further on in a body.
 _STATEMENT = re.compile(r"\b(if|for|while|switch)\b")
