@@ -8,7 +8,7 @@ from pathlib import Path
 from typing import Callable, List, Optional
 
 from attrd import AttrdError, StartFault, explain
-from attrd.server import program_version
+from attrd.programs import program_version
 from attrd.versions import VERSION, misfit
 
 from .folder import State, StateFault, read_folder

@@ -14,7 +14,7 @@ from typing import List, Optional
 
 from attrd import KEPT, AttrdError, StartFault, explain, forms_options, gathering_options, kept_for, known_options, lasting_options
 from attrd.lexical import TREE_NODES
-from attrd.server import FORMS_HELP, KEPT_A_NODE
+from attrd.programs import FORMS_HELP, KEPT_A_NODE
 from attrd.versions import VERSION
 
 from .checking import Check

@@ -8,7 +8,7 @@ from contextlib import suppress
 from typing import List, Optional, Sequence, Tuple
 
 from attrd import AttrdError
-from attrd.server import cannot_start, start_fault
+from attrd.programs import cannot_start, start_fault
 
 from .lines import LINE_BYTES
 from .meter import Times, clock

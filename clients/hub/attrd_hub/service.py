@@ -12,7 +12,7 @@ from pathlib import Path
 from typing import Dict, List, NamedTuple, Optional, Set, Tuple
 
 from attrd import AttrdError, ProtocolFault, StartFault
-from attrd.server import program_version, start_fault
+from attrd.programs import program_version, start_fault
 from attrd.versions import misfit
 
 from .callers import Callers

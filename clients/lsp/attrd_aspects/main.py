@@ -5,7 +5,7 @@ import argparse
 import sys
 from typing import List, Optional
 
-from attrd.server import FORMS_HELP
+from attrd.programs import FORMS_HELP
 from attrd.versions import VERSION
 from attrd_lsp.editor import Editor, EditorGone
 from attrd_lsp.rpc import Inbox

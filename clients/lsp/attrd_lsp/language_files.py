@@ -9,7 +9,7 @@ from urllib.parse import unquote, urlsplit
 
 import attrd
 from attrd import authoring
-from attrd.explain import SENTENCES
+from attrd.explaining import SENTENCES
 
 from .desk import Desk, Program, TooLarge
 from .editor import ERROR, Editor

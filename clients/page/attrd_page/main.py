@@ -12,7 +12,7 @@ from contextlib import suppress
 from typing import Any, List, Optional, Union
 
 from attrd import KEPT, AttrdError, GrammarFault, StartFault, explain
-from attrd.server import FORMS_HELP
+from attrd.programs import FORMS_HELP
 from attrd.versions import VERSION
 
 from .front import listen

@@ -9,7 +9,7 @@ from typing import IO, List, Optional, Sequence
 
 from attrd import AttrdError
 from attrd.errors import StartFault
-from attrd.server import cannot_start, start_fault
+from attrd.programs import cannot_start, start_fault
 
 ENDING_SECONDS = 10.0
 

@@ -7,10 +7,10 @@ from typing import List, Optional
 
 from . import check_command
 from .errors import AttrdError, StartFault
-from .explain import explain
+from .explaining import explain
 from .lexical import TREE_NODES
 from .prompt import Prompt
-from .server import FORMS_HELP
+from .programs import FORMS_HELP
 from .versions import VERSION
 
 

@@ -8,7 +8,7 @@ from typing import Dict, List
 from .authoring import Source, check, check_tree, circles, searches
 from .errors import AttrdError
 from .grammar import read_file
-from .server import FORMS_HELP
+from .programs import FORMS_HELP
 from .versions import VERSION
 
 

@@ -8,7 +8,7 @@ from typing import Dict, List, Optional, Sequence, Tuple, Union
 from . import commands
 from .connection import encoded_line
 from .costs import Costs
-from .difference import difference
+from .differing import difference
 from .edits import Edit, applied
 from .errors import OutOfMemory, Refused, TreeDiffers
 from .following import followed

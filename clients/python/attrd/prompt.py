@@ -10,13 +10,14 @@ from typing import Callable, Dict, List, Optional, Sequence, TextIO, Tuple
 from . import commands
 from .authoring import Source, Specification
 from .declarations import Attribute, attributes_of
-from .diagnostics import Diagnostics, diagnostics
+from .diagnosing import Diagnostics, diagnostics
 from .document import Document
 from .errors import AttrdError
 from .grammar import Grammar, Shape, read_file
 from .paths import FromMark, Path
+from .programs import forms_options
 from .replies import Done, Ok, Opened, Value
-from .server import Server, forms_options, start
+from .server import Server, start
 from .terms import Node
 from .why import Reason, Step, Why, read_instance
 

@@ -8,7 +8,7 @@ from pathlib import Path as FilePath
 from unittest import mock
 
 import attrd
-from attrd.explain import SENTENCES
+from attrd.explaining import SENTENCES
 from attrd.file_faults import unreadable
 from support import CALCULATOR, PROGRAM, ROOT
 

@@ -6,7 +6,7 @@ import re
 from typing import Iterable, List, Optional
 
 from ..errors import GrammarFault
-from ..explain import SENTENCES
+from ..explaining import SENTENCES
 from ..grammar import Part, Shape
 from ..scanning import Scan
 from .aspect_tree import Declaration, Expression, Form

@@ -6,7 +6,8 @@ from typing import List, NamedTuple, Optional, Sequence
 
 from ..errors import StartFault
 from ..grammar import Grammar
-from ..server import Text, forms_options, start
+from ..programs import forms_options
+from ..server import Text, start
 from ..terms import Node
 
 

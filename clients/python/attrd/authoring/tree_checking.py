@@ -4,7 +4,7 @@ from __future__ import annotations
 from typing import Optional
 
 from ..errors import StartFault
-from ..explain import SENTENCES
+from ..explaining import SENTENCES
 from ..lexical import TREE_NODES
 from ..server import Text, start
 from ..tree_faults import fault_of_tree
