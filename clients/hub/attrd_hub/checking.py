@@ -7,7 +7,7 @@ import time
 from pathlib import Path
 from typing import Callable, List, Optional
 
-from attrd import AttrdError, StartFault, explain
+from attrd import AttrdError, StartFault
 from attrd.programs import program_version
 from attrd.versions import VERSION, misfit
 
@@ -171,6 +171,8 @@ class Check:
 
 
 def _first_line(fault: StartFault, files: List[str], nodes: int) -> str:
+    from attrd import explain  # loads what reads grammars and trees
+
     try:
         return str(explain(fault, files, nodes)).splitlines()[0]
     except AttrdError:

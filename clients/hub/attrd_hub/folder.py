@@ -5,7 +5,6 @@ import os
 import re
 import stat
 import zlib
-from dataclasses import dataclass, field
 from pathlib import Path
 from typing import List, Optional
 
@@ -27,7 +26,6 @@ class StateFault(JournalFault):
     """The folder has what no start can go on from: somebody has to look at it first."""
 
 
-@dataclass
 class State:
     """What the folder has: the term's file and its version, the commands of the edits since, and what has to be told of the reading.
 
@@ -37,19 +35,15 @@ class State:
     term.
     """
 
-    term: Path
-    base: int
-    commands: List[bytes] = field(default_factory=list)
-    told: List[str] = field(default_factory=list)
-    last: int = 0
-    right: int = 0
-    cut: bytes = b""
-    cut_name: str = ""
-    aside: List[int] = field(default_factory=list)
-    length: int = 0
-    has_sum: bool = False
-    is_whole: bool = True
-    is_first: bool = False
+    def __init__(self, term: Path, base: int, is_first: bool = False) -> None:
+        self.term, self.base, self.is_first = term, base, is_first
+        self.commands: List[bytes] = []
+        self.told: List[str] = []
+        self.last = self.right = 0
+        self.cut, self.cut_name = b"", ""
+        self.aside: List[int] = []
+        self.length = 0
+        self.has_sum, self.is_whole = False, True
 
     @property
     def version(self) -> int:

@@ -12,7 +12,7 @@ import traceback
 from contextlib import suppress
 from typing import List, Optional
 
-from attrd import KEPT, AttrdError, StartFault, explain, forms_options, gathering_options, kept_for, known_options, lasting_options
+from attrd import KEPT, AttrdError, StartFault, forms_options, gathering_options, kept_for, known_options, lasting_options
 from attrd.lexical import TREE_NODES
 from attrd.programs import FORMS_HELP, KEPT_A_NODE
 from attrd.versions import VERSION
@@ -165,6 +165,8 @@ def _places(wanted: int) -> int:
 
 
 def _explained(fault: StartFault, given: argparse.Namespace) -> str:
+    from attrd import explain  # loads what reads grammars and trees
+
     try:
         return str(explain(fault, given.files, given.nodes))
     except AttrdError:
@@ -213,8 +215,7 @@ def main(words: Optional[List[str]] = None) -> int:
         if given.check:
             return _check(given)
         settings = _settings(given)
-        settings.clients = _places(settings.clients)
-        return Service(settings).run()
+        return Service(settings._replace(clients=_places(settings.clients))).run()
     except StartFault as fault:
         log(Level.ERROR, _explained(fault, given))
         return fault.status if fault.status and fault.status > 0 else LOST

@@ -7,7 +7,6 @@ from __future__ import annotations
 
 import re
 import zlib
-from dataclasses import dataclass, field
 from enum import Enum
 from typing import List, Optional
 
@@ -40,17 +39,15 @@ class Ending(Enum):
     UNKNOWN = "unknown"
 
 
-@dataclass
 class Read:
     """What a journal has: the commands of its edits in order, how many bytes of it are right, and how it ends.
 
     `cut` is what stands behind the right bytes.
     """
 
-    commands: List[bytes] = field(default_factory=list)
-    right: int = 0
-    cut: bytes = b""
-    ending: Ending = Ending.WHOLE
+    def __init__(self, right: int = 0, cut: bytes = b"", ending: Ending = Ending.WHOLE) -> None:
+        self.commands: List[bytes] = []
+        self.right, self.cut, self.ending = right, cut, ending
 
 
 def _edit(line: bytes, version: int) -> Optional[bytes]:

@@ -1,14 +1,12 @@
 """What a service is made from."""
 from __future__ import annotations
 
-from dataclasses import dataclass
-from typing import Optional, Sequence
+from typing import NamedTuple, Optional, Sequence
 
 from attrd.lexical import TREE_NODES
 
 
-@dataclass
-class Settings:
+class Settings(NamedTuple):
     """The words of the command line. `state` is the journal's folder, where there is one; `half` a time in seconds; `nodes` how many nodes
     the tree may have; `logs_edits` says whether each edit has a line in the log."""
 

@@ -4,11 +4,9 @@ from __future__ import annotations
 import json
 import re
 import socket
-import statistics
 import time
 from bisect import bisect_left
 from collections import Counter, deque
-from dataclasses import dataclass, field
 from typing import TYPE_CHECKING, Deque, Dict, List, Optional, Union
 
 from attrd import AttrdError
@@ -39,17 +37,17 @@ FIGURES = {
 }
 
 
-@dataclass
 class Counts:
     """What is counted since the start of the hub."""
 
-    came: int = 0
-    let_go: int = 0
-    lines: int = 0
-    refused: int = 0
-    refused_codes: Dict[str, int] = field(default_factory=Counter)
-    edits: int = 0
-    restarts: int = 0
+    def __init__(self) -> None:
+        self.came = 0
+        self.let_go = 0
+        self.lines = 0
+        self.refused = 0
+        self.refused_codes: Dict[str, int] = Counter()
+        self.edits = 0
+        self.restarts = 0
 
     def count_refused(self, replies: bytes) -> None:
         """Counts those of these replies that refuse a line, by their codes."""
@@ -77,10 +75,11 @@ class Waits:
 
     def figures(self) -> Dict[str, Figure]:
         """The waits as figures; the median and the longest are of the last ones, in milliseconds, and None before the first."""
-        recent = self._recent
+        recent = sorted(self._recent)
+        median = (recent[(len(recent) - 1) // 2] + recent[len(recent) // 2]) / 2 if recent else 0.0
         return {"wait_counts": self.counts, "wait_seconds": round(self.seconds, 6),
-                "wait_median": round(statistics.median(recent) * 1e3, 3) if recent else None,
-                "wait_longest": round(max(recent) * 1e3, 3) if recent else None}
+                "wait_median": round(median * 1e3, 3) if recent else None,
+                "wait_longest": round(recent[-1] * 1e3, 3) if recent else None}
 
 
 def status_path(path: str) -> str:
