@@ -1,20 +1,24 @@
-"""The names of the package, whose modules are loaded where they are asked for."""
+"""The names of the packages, whose modules are loaded where they are asked for."""
 import types
 import unittest
 
 import attrd
+from attrd import authoring
 
 
 class Names(unittest.TestCase):
     def test_each_name_is_there(self):
-        for name in attrd.__all__:
-            found = getattr(attrd, name)
-            self.assertNotIsInstance(found, types.ModuleType, name)
-            self.assertIs(getattr(attrd, name), found)
+        for package in (attrd, authoring):
+            for name in package.__all__:
+                found = getattr(package, name)
+                self.assertNotIsInstance(found, types.ModuleType, name)
+                self.assertIs(getattr(package, name), found)
 
-    def test_none_is_left_out_of_the_public_ones(self):
-        self.assertEqual(sorted(attrd._MODULE_OF), sorted(attrd.__all__))
-        self.assertLessEqual(set(attrd.__all__), set(dir(attrd)))
+    def test_they_are_the_public_ones(self):
+        for package in (attrd, authoring):
+            self.assertEqual(sorted(package._MODULE_OF), sorted(package.__all__))
+            self.assertLessEqual(set(package.__all__), set(dir(package)))
 
     def test_another_name(self):
         self.assertRaisesRegex(AttributeError, "module 'attrd' has no attribute 'nix'", getattr, attrd, "nix")
+        self.assertRaisesRegex(AttributeError, "module 'attrd.authoring' has no attribute 'nix'", getattr, authoring, "nix")

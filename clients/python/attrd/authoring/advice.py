@@ -1,7 +1,6 @@
 """Says of a fault what is wrong just there, what is there instead, and how to go on."""
 from __future__ import annotations
 
-import difflib
 import re
 from typing import Iterable, List, Optional
 
@@ -305,6 +304,8 @@ class Advice:
 
     def _near(self, word: str, known: Iterable[str]) -> str:
         """What is there instead: the names that are most like it, and then others, up to some."""
+        import difflib  # of an unknown name alone
+
         names = sorted(set(known))
         near = difflib.get_close_matches(word, names, SHOWN, 0.5)
         shown = near or names[:SHOWN]
