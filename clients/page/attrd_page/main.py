@@ -7,7 +7,6 @@ import os
 import re
 import signal
 import sys
-import webbrowser
 from contextlib import suppress
 from typing import Any, List, Optional, Union
 
@@ -76,6 +75,8 @@ class Service:
         await self._listen()
         print(f"page: {self.web.address}", flush=True)
         if not self.given.no_browser:
+            import webbrowser
+
             asyncio.get_running_loop().run_in_executor(None, webbrowser.open, self.web.address)
 
     async def _listen(self) -> None:

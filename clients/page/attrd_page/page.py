@@ -5,7 +5,7 @@ import asyncio
 from collections import deque
 from contextlib import suppress
 from pathlib import Path as FilePath
-from typing import Callable, Deque, List, Optional, Sequence, Set
+from typing import TYPE_CHECKING, Callable, Deque, List, Optional, Sequence, Set
 
 from attrd import Grammar, ProtocolFault, forms_options, write_term
 from attrd.authoring import Source, Specification
@@ -16,9 +16,11 @@ from attrd.terms import read_term
 from . import work
 from .hub import Hub, Member
 from .mirror import Astray, Change, Mirror
-from .source import SourceText
 from .views import Json
 from .window import Window
+
+if TYPE_CHECKING:
+    from .source import SourceText
 
 # How many edits a window that comes later is told.
 EDITS = 100

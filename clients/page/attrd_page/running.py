@@ -6,15 +6,17 @@ import asyncio
 import os
 import tempfile
 from pathlib import Path as FilePath
-from typing import Any, Dict, List, Optional, Sequence
+from typing import TYPE_CHECKING, Any, Dict, List, Optional, Sequence
 
 from attrd import (AttrdError, Grammar, forms_options, gathering_options, kept_for, known_options, lasting_options, sizing_options,
                    write_term)
 
 from .hub import Hub
 from .page import Page
-from .source import SourceText
 from .upstream import Upstream, connect, start_program
+
+if TYPE_CHECKING:
+    from .source import SourceText
 
 LOOK_SECONDS = 0.5
 # About how few bytes of a tree's file a node takes.
@@ -86,6 +88,8 @@ class Running:
 
 def _source(given: argparse.Namespace) -> SourceText:
     """The source text, as it stands in its file. Raises AttrdError where it, the parser or the grammar can't be loaded."""
+    from .source import SourceText  # loads what makes edits of texts, which few pages have
+
     return SourceText.load(given.parser, Grammar.load(given.grammar), given.source)
 
 

@@ -5,11 +5,8 @@ import argparse
 import sys
 from typing import List, Optional
 
-from . import check_command
 from .errors import AttrdError, StartFault
-from .explaining import explain
 from .lexical import TREE_NODES
-from .prompt import Prompt
 from .programs import FORMS_HELP
 from .versions import VERSION
 
@@ -35,13 +32,22 @@ def main(words: Optional[List[str]] = None) -> int:
     """Runs the prompt until its input ends; the status: 0, 1 where a file is refused, 3 where the server is lost."""
     words = sys.argv[1:] if words is None else words
     if words[:1] == ["check"]:
+        from . import check_command  # needs nothing of the prompt
+
         return check_command.main(words[1:])
-    given = options(words)
+    return _prompt(options(words))
+
+
+def _prompt(given: argparse.Namespace) -> int:
+    from .prompt import Prompt  # loads nearly all of this package
+
     files = [given.grammar, given.tree, *given.aspects]
     try:
         with Prompt.start(given.grammar, given.tree, given.aspects, given.program, given.faults, given.nodes, given.forms) as prompt:
             return prompt.run()
     except StartFault as fault:
+        from .explaining import explain
+
         try:
             print(explain(fault, files, given.nodes or TREE_NODES), file=sys.stderr)
         except AttrdError:

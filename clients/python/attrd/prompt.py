@@ -5,12 +5,11 @@ import os
 import re
 import sys
 from pathlib import Path as FilePath
-from typing import Callable, Dict, List, Optional, Sequence, TextIO, Tuple
+from typing import TYPE_CHECKING, Callable, Dict, List, Optional, Sequence, TextIO, Tuple
 
 from . import commands
 from .authoring import Source, Specification
 from .declarations import Attribute, attributes_of
-from .diagnosing import Diagnostics, diagnostics
 from .document import Document
 from .errors import AttrdError
 from .grammar import Grammar, Shape, read_file
@@ -20,6 +19,9 @@ from .replies import Done, Ok, Opened, Value
 from .server import Server, start
 from .terms import Node
 from .why import Reason, Step, Why, read_instance
+
+if TYPE_CHECKING:
+    from .diagnosing import Diagnostics
 
 HELP = """A line is [SESSION] [at VERSION] COMMAND; without a session it is of session 0. A '> ' in front is passed over, and so are replies
 that were pasted with it.
@@ -133,6 +135,8 @@ class Prompt:
         if not faults:
             return Prompt(server, known, specification, None)
         server.close()
+        from .diagnosing import diagnostics  # of --faults alone
+
         checks = diagnostics(known, texts, faults)
         server = start(grammar, tree, *aspects, checks.aspect, program=program, options=options, nodes=nodes)
         return Prompt(server, known, specification, checks)
