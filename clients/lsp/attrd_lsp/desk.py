@@ -6,9 +6,8 @@ more questions sends lines that tick, since the program gives turns behind lines
 from __future__ import annotations
 
 import time
-from dataclasses import dataclass
 from functools import lru_cache
-from typing import Callable, Dict, FrozenSet, Generic, List, Optional, Sequence, Tuple, TypeVar
+from typing import Callable, Dict, FrozenSet, Generic, List, NamedTuple, Optional, Sequence, Tuple, TypeVar
 
 import attrd
 from attrd import commands
@@ -199,8 +198,7 @@ def answer_of(reply: attrd.Reply) -> Answer:
     raise attrd.ProtocolFault(f"{reply} is no answer")
 
 
-@dataclass(frozen=True)
-class Program:
+class Program(NamedTuple):
     """The program attrd: its file, and how many values it keeps at most, where it has an option for that and a number is given."""
 
     file: str

@@ -126,8 +126,7 @@ class Marks:
         return Marks(front + back, len(front), self.by + by)
 
 
-@dataclass(frozen=True)
-class Text:
+class Text(NamedTuple):
     """A text that isn't changed, with the offsets at which its lines begin."""
 
     text: str

@@ -4,9 +4,8 @@ Where an equation hands on what it asked last, as that of a name does with its d
 follows, as far as there is room: what a hover tells, asks and looks at is bounded."""
 from __future__ import annotations
 
-from dataclasses import dataclass
 from pathlib import Path as FilePath
-from typing import Dict, Generator, List, Mapping, Optional
+from typing import Dict, Generator, List, Mapping, NamedTuple, Optional
 
 import attrd
 from attrd import Bounds, Instance, NoReason, Path, Reason, Why
@@ -26,8 +25,7 @@ LINES, WIDTH, SHORT = 10, 110, 30
 QUESTIONS, LOOKS = 24, 300
 
 
-@dataclass(frozen=True)
-class Words:
+class Words(NamedTuple):
     """Tells nodes and values to who reads a file: places in it as LINE:COLUMN, behind a file's name those in others."""
 
     source: Source

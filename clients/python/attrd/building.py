@@ -1,8 +1,7 @@
 """Writes edits: each with the paths that are right when it is its turn, and with terms that fit into a line."""
 from __future__ import annotations
 
-from dataclasses import dataclass
-from typing import List, Optional, Union
+from typing import List, NamedTuple, Optional, Union
 
 from .edits import Drop, Edit, Insert, Move, Put, SetNode, SetToken
 from .errors import LineFault
@@ -20,20 +19,18 @@ class OverLimit(Exception):
     """A tree on the way would have too many nodes, or be too deep."""
 
 
-@dataclass(frozen=True)
-class InPlaceOf:
+class InPlaceOf(NamedTuple):
     """The place of a node that is replaced."""
 
     node: Live
 
 
-@dataclass(frozen=True)
-class Into:
+class Into(NamedTuple):
     """An empty optional; or, where there is an index, that place in a list."""
 
     above: Live
     part: int
-    index: Optional[int] = None
+    index: Optional[int] = None  # type: ignore[assignment]
 
 
 Slot = Union[InPlaceOf, Into]

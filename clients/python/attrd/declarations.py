@@ -2,8 +2,7 @@
 from __future__ import annotations
 
 import re
-from dataclasses import dataclass
-from typing import List, Tuple
+from typing import List, NamedTuple, Tuple
 
 from .errors import text_of
 
@@ -11,8 +10,7 @@ _PASSED_OVER = re.compile(r'//[^\n]*|/\*.*?\*/|"(?:[^"\\\n]|\\.)*"', re.S)
 _DECLARED = re.compile(r"\b(syn|inh)\s+(?:(lazy)\s+)?(\w+)\s+(\w+)\s*\.\s*(\w+)\s*\(([^()]*)\)(\s*circular\b)?")
 
 
-@dataclass(frozen=True)
-class Attribute:
+class Attribute(NamedTuple):
     """A declared attribute: `kind` is int, boolean, String or a class; `parameters` are the kinds of its parameters. A circular one is lazy."""
 
     of: str

@@ -3,7 +3,7 @@ from __future__ import annotations
 
 from collections import deque
 from dataclasses import dataclass, field
-from typing import Deque, Dict, Iterator, List, Optional, Tuple
+from typing import Deque, Dict, Iterator, List, NamedTuple, Optional, Tuple
 
 from .live import Live
 from .terms import Node
@@ -14,8 +14,7 @@ Steps = Tuple[Tuple[int, Optional[int]], ...]
 Places = Dict[Node, Deque[Tuple[int, Steps]]]
 
 
-@dataclass(frozen=True)
-class Source:
+class Source(NamedTuple):
     """A node of the old tree that is moved: an element that is gone, or an element of a list below one. `number` counts sources."""
 
     number: int
@@ -23,13 +22,12 @@ class Source:
     steps: Steps
 
 
-@dataclass(frozen=True)
-class Hole:
+class Hole(NamedTuple):
     """An element of a new tree that is moved there: the steps to the node above it, the component, its index, and what is moved."""
 
     steps: Steps
     part: int
-    index: int
+    index: int  # type: ignore[assignment]
     source: Source
 
 

@@ -1,8 +1,7 @@
 """Terms that are too long for a line: a tree that fits, and what is to be added to it afterwards."""
 from __future__ import annotations
 
-from dataclasses import dataclass
-from typing import Any, List, Optional, Tuple
+from typing import Any, List, NamedTuple, Optional, Tuple
 
 from .grammar import Grammar, Part, Shape
 from .terms import Cell, Node
@@ -10,13 +9,12 @@ from .terms import Cell, Node
 Steps = List[Tuple[int, Optional[int]]]
 
 
-@dataclass(frozen=True)
-class Missing:
+class Missing(NamedTuple):
     """What isn't in a tree yet: the steps to the node above it, the component, its index in a list, and the tree or the token."""
 
     steps: Tuple[Tuple[int, Optional[int]], ...]
     part: int
-    index: Optional[int]
+    index: Optional[int]  # type: ignore[assignment]
     what: Cell
 
 

@@ -2,8 +2,7 @@
 from __future__ import annotations
 
 import re
-from dataclasses import dataclass
-from typing import List, Optional
+from typing import List, NamedTuple, Optional
 
 from .errors import GrammarFault
 from .lexical import RESERVED
@@ -18,8 +17,7 @@ _CHARACTER = re.compile(r"'(?:[^'\\\n]|\\.)'")
 _TEXT = re.compile(r'"(?:[^"\\\n\t]|\\["\\nt])*')
 
 
-@dataclass(frozen=True)
-class Word:
+class Word(NamedTuple):
     """A word, a sign, a number or a text: `kind` is name, reserved, sign, other, bad or end; `at` is its offset."""
 
     kind: str
