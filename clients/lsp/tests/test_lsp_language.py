@@ -115,17 +115,28 @@ class Languages(unittest.TestCase):
 
 
 class InAnEditor(unittest.TestCase):
-    """The server of the language of words."""
+    """One server of the language of words, and a document for each test."""
+
+    @classmethod
+    def setUpClass(cls):
+        temporary = tempfile.TemporaryDirectory(prefix="attrd-lsp-")
+        cls.addClassCleanup(temporary.cleanup)
+        cls.folder = Path(temporary.name)
+        for name, text in (("words.ast", GRAMMAR), ("words.jrag", ASPECT), ("words.py", textwrap.dedent(SERVER))):
+            (cls.folder / name).write_text(text, "utf-8")
+        cls.client = Client(script=cls.folder / "words.py").__enter__()
+        cls.addClassCleanup(cls.client.close)
 
     def setUp(self):
-        temporary = tempfile.TemporaryDirectory(prefix="attrd-lsp-")
-        self.addCleanup(temporary.cleanup)
-        self.folder = Path(temporary.name)
-        for name, text in (("words.ast", GRAMMAR), ("words.jrag", ASPECT), ("words.py", textwrap.dedent(SERVER))):
-            (self.folder / name).write_text(text, "utf-8")
-        self.client = Client(script=self.folder / "words.py").__enter__()
-        self.addCleanup(self.client.close)
-        self.document = Editing(self.client, "yes\nno\n", "file:///words/one.words")
+        self.document = self.opened("yes\nno\n", "one")
+
+    def opened(self, text, name):
+        document = Editing(self.client, text, f"file:///words/{self.id().rpartition('.')[2]}/{name}.words")
+        self.addCleanup(self.closed, document.uri)
+        return document
+
+    def closed(self, uri):
+        self.client.notify("textDocument/didClose", {"textDocument": {"uri": uri}})
 
     def test_a_bad_answer_is_told_once_at_the_top_and_the_last_good_tree_stays(self):
         self.assertEqual(self.document.settled(), ["2:1 no is said"])
@@ -143,7 +154,7 @@ class InAnEditor(unittest.TestCase):
                 self.assertEqual(self.document.told()[-1], "2:1 no is said")
 
     def test_a_document_that_never_could_be_read_has_an_empty_tree(self):
-        other = Editing(self.client, "raise", "file:///words/two.words")
+        other = self.opened("raise", "two")
         self.assertEqual(other.settled(), ["1:1 the parser fails: ValueError: such a text can't be (words.py, line 11)"])
         self.assertIsNone(other.ask("hover", "raise"))
         self.assertEqual(self.client.ask("textDocument/documentSymbol", {"textDocument": {"uri": other.uri}}), [])
@@ -156,6 +167,7 @@ class InAnEditor(unittest.TestCase):
         text = GRAMMAR.replace("<ID>", "<Name>")
         opened = {"uri": grammar.as_uri(), "languageId": "ast", "version": 0, "text": text}
         self.client.notify("textDocument/didOpen", {"textDocument": opened})
+        self.addCleanup(self.closed, grammar.as_uri())
         changed = {"textDocument": {"uri": grammar.as_uri(), "version": 1}, "contentChanges": [{"text": GRAMMAR}]}
         self.client.notify("textDocument/didChange", changed)
         self.assertEqual(self.document.settled(), ["2:1 no is said"])

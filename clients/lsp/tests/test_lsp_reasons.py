@@ -122,17 +122,18 @@ class OnTheTutorialsProgram(unittest.TestCase):
 class OnAFolder(unittest.TestCase):
     """A language of anybody's, whose files of a folder are one tree."""
 
-    def setUp(self):
+    @classmethod
+    def setUpClass(cls):
         temporary = tempfile.TemporaryDirectory(prefix="attrd-lsp-")
-        self.addCleanup(temporary.cleanup)
+        cls.addClassCleanup(temporary.cleanup)
         folder = Path(temporary.name).resolve()
         grammar = "Program ::= File*;\nFile ::= Word*;\nWord ::= <ID>;\n"
         files = {"words.ast": grammar, "words.jrag": FOLDER_ASPECTS, "server.py": SERVER, "a.words": "one\ntwo\n"}
         for name, text in files.items():
             (folder / name).write_text(text, "utf-8")
-        self.client = Client(script=folder / "server.py").__enter__()
-        self.addCleanup(self.client.close)
-        self.document = Editing(self.client, "  three two\n", (folder / "b.words").as_uri())
+        cls.client = Client(script=folder / "server.py").__enter__()
+        cls.addClassCleanup(cls.client.close)
+        cls.document = Editing(cls.client, "  three two\n", (folder / "b.words").as_uri())
 
     def hovered(self, word):
         return self.document.ask("hover", word)["contents"]["value"].split("\n")
