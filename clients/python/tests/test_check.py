@@ -1,4 +1,5 @@
 """All faults of a grammar and its aspects at once."""
+import io
 import os
 import random
 import re
@@ -6,9 +7,11 @@ import subprocess
 import sys
 import tempfile
 import unittest
+from contextlib import redirect_stderr, redirect_stdout
 from pathlib import Path as FilePath
 
 import attrd
+from attrd.__main__ import main
 from attrd.authoring import Source, Specification, check
 from attrd.authoring.patched import Patched
 from attrd.authoring.refusal import Judge
@@ -207,6 +210,13 @@ class Command(unittest.TestCase):
                               stderr=subprocess.PIPE, env=environment, timeout=100, text=True)
         return done.returncode, done.stdout, done.stderr
 
+    def told_here(self, *words):
+        """The same by the process of the test: a start takes longer than a check."""
+        told, errors = io.StringIO(), io.StringIO()
+        with redirect_stdout(told), redirect_stderr(errors):
+            status = main(["check", "--program", PROGRAM, *words])
+        return status, told.getvalue(), errors.getvalue()
+
     def test_the_command(self):
         with tempfile.TemporaryDirectory() as folder:
             bad = FilePath(folder) / "bad.jrag"
@@ -215,12 +225,12 @@ class Command(unittest.TestCase):
             self.assertEqual(status, 1)
             self.assertIn(f"{bad}:1:31: J3 unknown name. Expr has no attribute or accessor b.", told)
             self.assertTrue(told.endswith("2 faults\n"))
-            self.assertEqual(self.run_check(str(CALCULATOR / "calc.ast"), str(CALCULATOR / "calc.jrag")), (0, "0 faults\n", ""))
+            self.assertEqual(self.told_here(str(CALCULATOR / "calc.ast"), str(CALCULATOR / "calc.jrag")), (0, "0 faults\n", ""))
             bad.write_text("aspect A { syn int Num.getNumChild(); syn int nosuch Num.q(); }")
-            _, told, _ = self.run_check(str(CALCULATOR / "calc.ast"), str(CALCULATOR / "calc.jrag"), str(bad))
+            _, told, _ = self.told_here(str(CALCULATOR / "calc.ast"), str(CALCULATOR / "calc.jrag"), str(bad))
             self.assertTrue(told.endswith("2 faults, and 1 left out that only follows\n"), told)
             bad.write_bytes(b"aspect \xff")
-            status, _, errors = self.run_check(str(CALCULATOR / "calc.ast"), str(bad))
+            status, _, errors = self.told_here(str(CALCULATOR / "calc.ast"), str(bad))
             self.assertEqual((status, errors), (3, f"{bad}: it isn't UTF-8 at byte 7\n"))
 
     def test_the_tutorial(self):
