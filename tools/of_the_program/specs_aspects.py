@@ -10,7 +10,7 @@ from tools.of_the_program.specs_trees import Node
 
 EVERY = "ASTNode"
 # What is passed to an attribute of no node, by the kind of the parameter; a class has nothing.
-WRITTEN = {"int": 0, "boolean": False, "String": ""}
+WRITTEN: Dict[str, Union[int, bool, str]] = {"int": 0, "boolean": False, "String": ""}
 
 
 class Given(NamedTuple):

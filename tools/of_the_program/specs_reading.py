@@ -365,6 +365,6 @@ class Aspects(Statements):
         if not self.take("."):
             return Equation(of, None, None, name, parameters, self.body())
         index = parameters[0].name if parameters else None
-        component = name[len("get"):]
+        component = name[len("get"):] if name.startswith("get") else name
         name, parameters = self.name().text, self.parameters()
         return Equation(of, component or ANY, index, name, parameters, self.body())

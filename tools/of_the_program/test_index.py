@@ -80,7 +80,8 @@ class Index(KeepingTest):
     def assert_costs(self, edit: str, index: int, plain: int) -> None:
         """Behind the edit the question for the sizes of the scope evaluates so many values, and without the option so many."""
         ask = "ask /Stmt:2 sizes()"
-        for options, wanted in ((["--index"], index), ([], plain)):
+        tried: List[Tuple[List[str], int]] = [(["--index"], index), ([], plain)]
+        for options, wanted in tried:
             cold = self.work(options, [ask])
             self.assertEqual(self.work(options, [ask, edit, ask]) - cold, wanted, (edit, options))
 
