@@ -53,7 +53,6 @@ ASKED = Source("asked.jrag", """aspect Asked {
 TOKEN = "no token of p is compared with a text"
 TEXT = "the text isn't a literal or a parameter"
 FIRST = "the test isn't first"
-CALL = "it stands in front of a call of an attribute, or among its arguments"
 FAR = "the classes stand too far apart in the grammar"
 NODE = "the node with the list isn't reached by names, casts, children and attributes without arguments alone"
 AROUND = NODE.replace("list", "list of a fold around it")
@@ -117,8 +116,9 @@ BODIES = (
     ("exists (s : getNamedList()) { exists (p : getNamedList()) { p.getName().equals(s.getName()) } }",
      (TOKEN.replace("p", "s", 1), TEXT)),
     ("exists (s : getNamedList()) { exists (p : getNamedList()) { s.getName().equals(n) } }", (TOKEN.replace("p", "s", 1), TOKEN)),
-    ("(first (p : getPartList()) { p.isNamed(n) }).isGood() && exists (p : getPartList()) { p.isKept(n) }", (CALL, "`isKept` is lazy")),
-    ("boxOf(first (p : getPartList()) { p.isNamed(n) }) == null", (CALL,)),
+    ("(first (p : getPartList()) { p.isNamed(n) }).isGood() && exists (p : getPartList()) { p.isKept(n) }", ("", "`isKept` is lazy")),
+    ("boxOf(first (p : getPartList()) { p.isNamed(n) }) == null", ("",)),
+    ("boxOf(((Box) first (p : getPartList()) { p.isNamed(n) }).getPart(0)) == null", ("",)),
     ("((Box) first (p : getPartList()) { p.isNamed(n) }).getNumPart() > 0", ("",)),
     ("sum (p : getPartList()) { 1 } > 0", ()))
 

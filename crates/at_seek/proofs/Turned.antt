@@ -1,34 +1,54 @@
 -- Bodies that are turned.
-use Rattle.std.proofs.Common.{◌≡◌, ℕ, refl, sym, subst, Box, Vec}
+use Rattle.std.proofs.Common.{◌≡◌, ◌<◌, ◌≤◌, ℕ, suc, List, [], ◌∷◌, ◌++◌, length, take, get_or, set, ap, sym, subst, ◌∙◌, arith, Vec}
+use Rattle.std.proofs.Math.Seq.{take-append_seam}
 use Rattle.std.specs.Global.{Global}
-use Rattle.at_model.specs.Bodies.{Expr, Exprs, no_exprs, expr, Call, Exists, First, SeekAny, SeekFirst}
+use Rattle.at_model.specs.Bodies.{Expr, Exprs, no_exprs, expr, Exists, First, SeekAny, SeekFirst}
 use Rattle.at_model.specs.Kinds.{ScopeKinds, bound_kinds}
 use Rattle.at_model.specs.Rules.{Rules}
 use Rattle.at_class.specs.Keys.{key_view}
-use Rattle.at_rules.specs.Bodies.{bodies_view, body_view, sought_view}
-use Rattle.at_rules.specs.declared.body.Body.{Body}
-use Rattle.at_rules.specs.declared.body.Body as body
+use Rattle.at_rules.specs.Bodies.{bodies_view, body_view, row_view, sought_view}
+use Rattle.at_rules.specs.declared.body.Body.{Body, items_hidden-the_row-Body-0}
+use Rattle.at_rules.specs.declared.body.Body.TheBlock.{hidden-the_row-Body-0}
 use Rattle.at_rules.specs.declared.body.Lookup.{Lookup}
 use Rattle.at_seek.specs.Finding.{IsInside, IsTurnedIn, MaySeek, MaySeekIn, searching, any, first, exists_turned, first_turned, none_turned}
-use Rattle.at_seek.specs.Sought.{AreSearched, IsSearched, IsSearchedIn, argument, call, elements, itself, no_more, seek_any, seek_first}
-use Rattle.at_seek.proofs.Found.{call_seen}
+use Rattle.at_seek.specs.Sought.{AreSearched, IsSearched, IsSearchedIn, argument, elements, itself, no_more, seek_any, seek_first}
+use Rattle.at_seek.proofs.Found.{of_row}
 
 -- the same of what was read there
 pub moved : (rules : Rules) (s : ScopeKinds) (a b new : Body) → a ≡ b → IsSearched rules s (body_view a) (body_view new) →
     IsSearched rules s (body_view b) (body_view new)
 moved rules s a b new is h = subst (λ x. IsSearched rules s (body_view x) (body_view new)) is h
 
--- arguments that are as they were
-pub all_itself : (rules : Rules) (s : ScopeKinds) (es : Exprs) → AreSearched rules s es es
-all_itself rules s no_exprs = no_more
-all_itself rules s (expr e es) = argument (itself e) (all_itself rules s es)
+-- the arguments of a call as a list
+pub row_seen : (v : Vec Body Global) → row_view (hidden-the_row-Body-0 v) ≡ bodies_view v.items
+row_seen v = of_row _ (hidden-the_row-Body-0 v) ∙ ap bodies_view (items_hidden-the_row-Body-0 v)
 
--- a call of which the node is turned
-pub call_turned : (rules : Rules) (s : ScopeKinds) (p q : Box Body Global) (a : ℕ) (bs : Vec Body Global) → IsSearched rules s (body_view p.value) (body_view q.value) →
-    IsSearched rules s (body_view (body.Call p a bs)) (body_view (body.Call q a bs))
-call_turned rules s p q a bs h =
-    subst (λ x. IsSearched rules s x (body_view (body.Call q a bs))) (sym (call_seen p a bs))
-    (subst (λ y. IsSearched rules s (Call (body_view p.value) a (bodies_view bs.items)) y) (sym (call_seen q a bs)) (call a h (all_itself rules s (bodies_view bs.items))))
+-- the arguments in front of a position are turned, and those from it on are as they were
+pub data AreTurnedTo (rules : Rules) (s : ScopeKinds) : ℕ → List Body → List Body → Type 0 where
+  left : (bs : List Body) → AreTurnedTo rules s 0 bs bs
+  next : {n : ℕ} {a b : Body} {as' bs : List Body} → IsSearched rules s (body_view a) (body_view b) → AreTurnedTo rules s n as' bs →
+      AreTurnedTo rules s (suc n) (a ∷ as') (b ∷ bs)
+  ended : (n : ℕ) → AreTurnedTo rules s n [] []
+
+-- one more is turned
+pub turned_at : (rules : Rules) (s : ScopeKinds) (n : ℕ) (old now : List Body) (d b : Body) → AreTurnedTo rules s n old now → n < length now →
+    IsSearched rules s (body_view (get_or now n d)) (body_view b) → AreTurnedTo rules s (suc n) old (set now n b)
+turned_at rules s _ _ _ d b (left []) less h = absurd (omega (arith, less))
+turned_at rules s _ _ _ d b (left (x ∷ xs)) less h = next h (left xs)
+turned_at rules s _ _ _ d b (next {n} {a = x} {b = y} {as' = xs} {bs = ys} r t) less h = next r (turned_at rules s n xs ys d b t (omega (arith, less)) h)
+turned_at rules s _ _ _ d b (ended n) less h = absurd (omega (arith, less))
+
+-- all are turned
+pub all_searched : (rules : Rules) (s : ScopeKinds) (n : ℕ) (old now : List Body) → AreTurnedTo rules s n old now → length old ≤ n →
+    AreSearched rules s (bodies_view old) (bodies_view now)
+all_searched rules s _ _ _ (left []) all = no_more
+all_searched rules s _ _ _ (left (x ∷ xs)) all = absurd (omega (arith, all))
+all_searched rules s _ _ _ (next {n} {a = x} {b = y} {as' = xs} {bs = ys} r t) all = argument r (all_searched rules s n xs ys t (omega (arith, all)))
+all_searched rules s _ _ _ (ended n) all = no_more
+
+-- a list that was lent whole
+pub came_back : (n : ℕ) (items rest : List Body) → length items ≡ n → take n (items ++ rest) ≡ items
+came_back n items rest is = subst (λ m. take m (items ++ rest) ≡ items) is (take-append_seam items rest)
 
 any_sought : (rules : Rules) (s inner : ScopeKinds) (look : Lookup) (a a' e f : Expr) (part : ℕ) → MaySeekIn rules s inner look a part e →
     IsSearched rules s a a' → IsSearched rules inner e f →

@@ -8,9 +8,9 @@ use std::mem;
 impl<'a> Finder<'a> {
     ghost use Rattle.std.specs.Prelude.{Bool};
     ghost use Rattle.at_model.specs.Rules.{Rules as RulesValue};
-    ghost use Rattle.at_rules.specs.Bodies.{body_view};
+    ghost use Rattle.at_rules.specs.Bodies.{bodies_view, body_view};
     ghost use Rattle.at_seek.specs.Finding.{IsOver, IsTurnedIn, kinds_in};
-    ghost use Rattle.at_seek.specs.Sought.{IsSearched};
+    ghost use Rattle.at_seek.specs.Sought.{AreSearched, IsSearched};
 
     /// Turns the body, and all that it is made of, into searches where these may be. Where memory is wanting, folds stay folds.
     #[cycle(turning)]
@@ -144,7 +144,22 @@ impl<'a> Finder<'a> {
             Body::Has(node, _) => self.turn(scope, node),
             Body::TokenOf(node, _) => self.turn(scope, node),
             Body::Passed(argument) => self.turn(scope, argument),
+            Body::Call(node, _, arguments) => {
+                self.turn(scope, node);
+                self.turn_all(scope, arguments);
+            }
             _ => {}
+        }
+    }
+
+    /// Turns each of the arguments.
+    #[cycle(turning)]
+    fn turn_all(&self, scope: &Scope, arguments: &mut Vec<Body>)
+        ensures { (rules : RulesValue) (h : Bool) → IsOver rules self.now
+            → AreSearched rules (kinds_in scope.now h) (bodies_view arguments.old.items) (bodies_view arguments.new.items) }
+    {
+        for argument in arguments.iter_mut() {
+            self.turn(scope, argument);
         }
     }
 }

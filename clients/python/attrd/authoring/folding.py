@@ -1,13 +1,12 @@
 """Which folds over lists are searches where the program looks names up by key (`--index`), and why the others are none.
 
 The rules are those of the manual, section 10, "Names looked up by key". Beside these the program wants to know the class of the node that
-has the list: it knows that of names, casts, children and attributes without arguments. It doesn't look into the node of which an
-attribute is asked, nor into its arguments. Where JastAdd's own language is read, a loop that looks for an element is the fold that it
-means, and is told once. A body that can't be read to its end is passed over.
+has the list: it knows that of names, casts, children and attributes without arguments. Where JastAdd's own language is read, a loop that
+looks for an element is the fold that it means, and is told once. A body that can't be read to its end is passed over.
 """
 from __future__ import annotations
 
-from typing import Dict, Iterable, Iterator, List, NamedTuple, Optional, Sequence, Set, Tuple
+from typing import Dict, Iterable, Iterator, List, NamedTuple, Optional, Sequence, Tuple
 
 from ..grammar import Part, Shape
 from .aspect_tree import Declaration, Expression, Form
@@ -21,7 +20,6 @@ LOOP = "for"
 WINDOW, STEP = 32, 4
 TOO_FAR = "the classes stand too far apart in the grammar"
 OTHER_TEXT = "the text isn't a literal or a parameter"
-IN_A_CALL = "it stands in front of a call of an attribute, or among its arguments"
 NOT_REACHED = "isn't reached by names, casts, children and attributes without arguments alone"
 
 
@@ -94,25 +92,14 @@ class _Judge:
     def notes(self, placed: Placed) -> Iterator[FoldNote]:
         """Those of the folds in the body of a declaration, in the order of the text."""
         file, it = placed
-        text, called = self.specification.text(file), self._within_calls(it)
+        text = self.specification.text(file)
         for fold in _folds(it.body):
             at = fold.word.at
             line, begin = text.count("\n", 0, at) + 1, text.rfind("\n", 0, at) + 1
             head = " ".join(text[at:fold.parts[0].end].split()) + ")"
             end = at + len(LOOP if text.startswith(LOOP, at) else fold.word.text)
-            verdict = _Verdict(IN_A_CALL) if at in called else self._verdict(fold, it)
+            verdict = self._verdict(fold, it)
             yield FoldNote(file, line, at - begin + 1, at, end, head, verdict.reason, verdict.tokens)
-
-    def _within_calls(self, within: Declaration) -> Set[int]:
-        """Where the folds begin that stand in what an attribute is asked of, or is passed."""
-        return {fold.word.at for it in _all(within.body) if self._is_asked(it, within) for part in it.parts for fold in _folds(part)}
-
-    def _is_asked(self, it: Expression, within: Declaration) -> bool:
-        """Whether it is a call of an attribute."""
-        if it.form is not Form.CALL or within.of is None:
-            return False
-        of = within.of.text if it.receiver is None else self.specification.kind_of(it.receiver, within)
-        return of in self.grammar and self.specification.attribute(of or "", it.word.text, len(it.arguments)) is not None
 
     def _verdict(self, fold: Expression, within: Declaration) -> _Verdict:
         """Whether a fold is a search."""

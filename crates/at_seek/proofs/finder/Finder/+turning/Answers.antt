@@ -1,12 +1,14 @@
-use Rattle.std.proofs.Common.{◌≡◌, ap, refl, subst, sym, ◌∙◌, Box}
+use Rattle.std.proofs.Common.{◌≡◌, ◌≢◌, ◌<◌, ◌≤◌, ap, arith, length, length-set, get_or-set_other, set, refl, subst, sym, ◌∙◌, Box, Vec}
 use Rattle.std.specs.Global.{Global}
 use Rattle.at_rules.specs.declared.body.Body.{Body, out-Body}
 use Rattle.at_model.specs.Kinds.{ScopeKinds}
 use Rattle.at_model.specs.Rules.{Rules}
-use Rattle.at_rules.specs.Bodies.{body_view}
+use Rattle.at_rules.specs.Bodies.{bodies_view, body_view, row_view}
 use Rattle.at_seek.specs.Finding.{exists_turned, first_turned, kinds_in, none_turned}
 use Rattle.at_seek.specs.Sought as by
-use Rattle.at_seek.proofs.Turned.{inside_turned, moved, sought_turned}
+use Rattle.at_rules.specs.declared.body.Body.TheBlock.{hidden-the_row-Body-0}
+use Rattle.at_seek.proofs.Turned.{AreTurnedTo, all_searched, came_back, inside_turned, left, moved, row_seen, sought_turned, turned_at}
+use Rattle.at_model.specs.Bodies.{Call}
 use Rattle.at_seek.proofs.finder.Finder.+turning.Goals as goal
 
 pub turn_inner-returns-in-Exists : goal.turn_inner-returns-in-Exists
@@ -206,3 +208,45 @@ turn_parts-returns-in_default-inside-3 t c = λ rules h over.
     let s = kinds_in c.args.scope.now h in
     let list = ap (λ (b : Box Body Global). b.value) c.in-Sum.list-is in
     rw c.in-Sum.is (by.sum _ (moved rules s _ c.in-Sum.list.value _ (c.deref_mut-in-Sum.ensures.value ∙ list) (c.turn-in-Sum.ensures rules h over)) (by.unchanged _))
+
+pub turn_others-returns-in-Call : goal.turn_others-returns-in-Call
+unfolding out-Body denote.Hole.Carrier.out
+turn_others-returns-in-Call t c = λ rules h over.
+    let s = kinds_in c.args.scope.now h in
+    rw c.in-Call.is (subst (λ x. by.IsSearched rules s (Call (body_view c.in-Call.node.value) c.in-Call.field-1 x)
+    (Call (body_view c.turn-in-Call.new.body) c.in-Call.field-1 (row_view (hidden-the_row-Body-0 c.turn_all.new.arguments)))) (sym (row_seen c.in-Call.arguments))
+    (subst (λ y. by.IsSearched rules s (Call (body_view c.in-Call.node.value) c.in-Call.field-1 (bodies_view c.in-Call.arguments.items))
+    (Call (body_view c.turn-in-Call.new.body) c.in-Call.field-1 y)) (sym (row_seen c.turn_all.new.arguments))
+    (by.call _ (moved rules s _ c.in-Call.node.value _ (c.deref_mut-in-Call.ensures.value ∙ ap (λ (b : Box Body Global). b.value) c.in-Call.node-is) (c.turn-in-Call.ensures rules h over))
+    (subst (λ (v : Vec Body Global). by.AreSearched rules s (bodies_view v.items) (bodies_view c.turn_all.new.arguments.items)) c.in-Call.arguments-is
+    (c.turn_all.ensures rules h over)))))
+
+pub turn_all-returns : goal.turn_all-returns
+turn_all-returns t c = λ rules h over.
+    let s = kinds_in c.args.scope.now h in
+    let items = c.loop-argument.argument-items in
+    let lent = c.deref_mut-argument-items.result.now in
+    let long : length items ≡ c.args.arguments.now.len = c.loop-argument.auto.argument-items ∙ c.deref_mut-argument-items.ensures.len in
+    subst (λ xs. by.AreSearched rules s (bodies_view c.args.arguments.now.items) (bodies_view xs)) (sym (came_back _ items _ long))
+    (subst (λ xs. by.AreSearched rules s (bodies_view xs) (bodies_view items)) c.deref_mut-argument-items.ensures.value
+    (all_searched rules s c.loop-argument.argument-index lent items (c.loop-argument.invariant.0 rules h over) c.loop-argument-test.false))
+
+pub turn_all-loop-argument-init : goal.turn_all-loop-argument-init
+turn_all-loop-argument-init t c = ((λ rules h over. left c.deref_mut-argument-items.result.now), refl, (λ k d at. refl))
+
+pub turn_all-loop-argument-preserved : goal.turn_all-loop-argument-preserved
+turn_all-loop-argument-preserved t c =
+    let items = c.loop-argument.argument-items in
+    let place = c.loop-argument.argument-index in
+    let less : place < length items = omega (arith, c.loop-argument.auto.argument-items, c.loop-argument-test.true) in (
+      (λ rules h over.
+          let s = kinds_in c.args.scope.now h in
+          subst (λ n. AreTurnedTo rules s n c.deref_mut-argument-items.result.now (set items place c.turn.new.body)) (omega arith)
+          (turned_at rules s place c.deref_mut-argument-items.result.now items c.argument-item.result c.turn.new.body
+          (c.loop-argument.invariant.0 rules h over) less (c.turn.ensures rules h over))),
+      length-set items place c.turn.new.body ∙ c.loop-argument.auto.argument-items,
+      (λ k d at.
+          let ne : k ≢ place = omega (arith, at) in
+          let behind : place ≤ k = omega (arith, at) in
+          get_or-set_other items place k c.turn.new.body d ne ∙ c.loop-argument.invariant.2 k d behind),
+    )
