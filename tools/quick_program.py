@@ -17,7 +17,7 @@ PROGRAM = FOLDER / "attrd"
 KEY = FOLDER / "key"
 BUILDER = "bench/unproved.py"
 # What says how it is built.
-BUILT_BY = (BUILDER, "bench/parts.py", "tools/quick_program.py", "tools/sources.py")
+BUILT_BY = (BUILDER, "bench/parts.py", "bench/stripped.py", "tools/quick_program.py", "tools/sources.py")
 
 
 class NotBuilt(Exception):
