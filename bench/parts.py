@@ -12,9 +12,15 @@ from typing import Dict, Iterable, List, Set, Tuple
 ANSWERING = ("at_class", "at_tree", "at_store", "at_body", "at_index", "at_cache", "at_evict", "at_evaluate", "at_solve", "at_search", "at_demand", "at_engine")
 # The library that reads the command line. What it alone leads to runs at the start, and isn't optimized: that takes a third of the time.
 PLAIN = "clap"
-# The words by which the two parts are compiled. In the first one only calls of small functions are inlined: so its compiler takes a fifth
-# less time, and the program a tenth more instructions. The second one reads bodies that nest deep, for which the stack wouldn't do then.
-WORDS = (("-O1", "-mllvm", "-inline-threshold=50"), ("-O1",))
+# The words by which each part is compiled. Only calls of small functions are inlined: so the compiler takes a fifth less time for the first
+# part and a third less for the second, and the program a tenth more instructions.
+WORDS = ("-O1", "-mllvm", "-inline-threshold=50")
+# A slot on the stack that is made of bytes, and where one is filled with zeros. The compiler of `rt try` fills each at the beginning of
+# its function, whatever comes into it later; what the sources fill is filled again behind that.
+SLOT = re.compile(r"^  (%\w+) = alloca \[[1-9]\d* x i8\]", re.M)
+FILLING = re.compile(r"  call void @llvm\.memset\.p0\.i64\(ptr (%\w+), i8 0, .*\n")
+# What says of a value that it is known. What a variant of an enum leaves free isn't, once its slot isn't filled, and is copied with it.
+KNOWN = re.compile(r", !noundef !\d+")
 # What stands in front of the attributes in the first line of a function's definition.
 ATTRIBUTES = re.compile(r"\) ([^()]*)\{$")
 # A name of the module, and the crate at the beginning of a function's name.
@@ -85,6 +91,20 @@ def name_of(line: str) -> str:
     return found[1]
 
 
+def without_filling(text: str) -> str:
+    """The function without the first filling of each slot that is filled in its first block, which takes a sixth of the compiler's time,
+    and a part of each run's."""
+    first, blank, rest = text.partition("\n\n")
+    slots = set(SLOT.findall(first))
+
+    def kept(filling: "re.Match[str]") -> str:
+        is_first = filling[1] in slots
+        slots.discard(filling[1])
+        return "" if is_first else filling[0]
+
+    return KNOWN.sub("", FILLING.sub(kept, first) + blank + rest).replace("noundef ", "")
+
+
 def crate_of(name: str) -> str:
     """The crate of a function, or '' where its name has none."""
     found = CRATE.match(name)
@@ -108,7 +128,7 @@ def without_optimizing(line: str) -> str:
 
 def declaration(line: str) -> str:
     """The declaration of the function whose definition begins with this line."""
-    return line.replace("define internal ", "declare hidden ", 1).rpartition(" {")[0]
+    return line.replace("define internal ", "declare hidden ", 1).replace("noundef ", "").rpartition(" {")[0]
 
 
 def text_of(module: Module, there: Set[str], shared: Set[str], plain: Set[str]) -> List[str]:
@@ -116,7 +136,7 @@ def text_of(module: Module, there: Set[str], shared: Set[str], plain: Set[str]) 
     aren't optimized."""
     text = list(module.outside)
     for name, function in module.functions.items():
-        first, _, rest = function.partition("\n")
+        first, _, rest = (without_filling(function) if name in there else function).partition("\n")
         if name in there:
             first = without_optimizing(first) if name in plain else first
             text += [first.replace("define internal ", "define hidden ", 1) if name in shared else first, rest]

@@ -98,6 +98,35 @@ define internal void @"std::other"(i8 %0) #0 {
 define internal void @"std::kept"(i8 %0) #0 {
   call void @"std::kept"(i8 %0)
 }"""
+# A function whose slots are filled with zeros at its beginning, two of them again by its sources.
+FILLED = """define internal noundef i8 @"at_text::read"(ptr noundef %0) #0 {
+  %r1 = alloca [8 x i8], align 8
+  %r2 = alloca [4 x i8], align 4
+  %r3 = alloca i64, align 8
+  call void @llvm.memset.p0.i64(ptr %r1, i8 0, i64 8, i1 false)
+  call void @llvm.memset.p0.i64(ptr %r2, i8 0, i64 4, i1 false)
+  call void @llvm.memset.p0.i64(ptr %r2, i8 0, i64 4, i1 false)
+  call void @llvm.memset.p0.i64(ptr %r3, i8 0, i64 8, i1 false)
+  %r4 = load i8, ptr %r1, align 8, !range !7, !noundef !1
+  br label %next
+
+next:
+  call void @llvm.memset.p0.i64(ptr %r1, i8 0, i64 8, i1 false)
+  ret i8 %r4
+}"""
+UNFILLED = """define internal i8 @"at_text::read"(ptr %0) #0 {
+  %r1 = alloca [8 x i8], align 8
+  %r2 = alloca [4 x i8], align 4
+  %r3 = alloca i64, align 8
+  call void @llvm.memset.p0.i64(ptr %r2, i8 0, i64 4, i1 false)
+  call void @llvm.memset.p0.i64(ptr %r3, i8 0, i64 8, i1 false)
+  %r4 = load i8, ptr %r1, align 8, !range !7
+  br label %next
+
+next:
+  call void @llvm.memset.p0.i64(ptr %r1, i8 0, i64 8, i1 false)
+  ret i8 %r4
+}"""
 CRATES = ("at_text", "at_jrag", "at_store", "at_engine", "attrd")
 
 
@@ -136,6 +165,21 @@ class Divided(unittest.TestCase):
         for line in ('source_filename = "rattle"', "declare void @open(ptr)", "attributes #0 = { nounwind }"):
             self.assertIn(line, self.answering)
             self.assertIn(line, self.reading)
+
+
+class Filled(unittest.TestCase):
+    """Slots that the compiler fills with zeros before anything is in them."""
+
+    def test_what_the_sources_fill_stays(self) -> None:
+        self.assertEqual(parts.without_filling(FILLED), UNFILLED)
+
+    def test_a_part_has_no_other_fillings(self) -> None:
+        called = 'define i32 @main() #0 {\n  call void @"at_engine::line"(ptr null)\n}\n'
+        engine = 'define internal void @"at_engine::line"(ptr noundef %0) #0 {\n  call i8 @"at_text::read"(ptr %0)\n}\n'
+        answering, reading = ("\n".join(it) for it in parts.divided((called + engine + FILLED).split("\n"), CRATES))
+        self.assertIn(UNFILLED.replace("internal", "hidden"), reading)
+        self.assertIn('declare hidden i8 @"at_text::read"(ptr %0) #0', answering)
+        self.assertNotIn("noundef", answering + reading)
 
 
 class Merged(unittest.TestCase):
