@@ -1,7 +1,6 @@
 -- Declarations one behind the other, with their constants, as a loop reads them.
-use Rattle.std.proofs.Common.{◌≡◌, ◌-◌, ◌<◌, ℕ, List, [], ◌∷◌, ◌++◌, map, false, refl, sym, ap, ◌∙◌}
+use Rattle.std.proofs.Common.{◌≡◌, ◌-◌, ◌<◌, ℕ, List, [], ◌∷◌, ◌++◌, false, refl, sym, ap, ◌∙◌}
 use Rattle.std.specs.List.{filter_map}
-use Rattle.std.proofs.lemmas.List.{map-append}
 use Rattle.std.proofs.lemmas.List.Elements.{filter_map-append}
 use lib.Chars.{codes}
 use Rattle.at_text.specs.Rows.{Row, sign, is_sign, next_is}
@@ -18,7 +17,7 @@ use Rattle.at_java.proofs.ItemLists.{behind, behind_none, item_read, item_fails,
 use Rattle.at_java.proofs.Loops.{map_fails}
 
 abbrev decls_of : List Declared → List Decl
-decls_of = map (λ d. d.decl)
+decls_of = filter_map (λ d. d.decl)
 
 abbrev constants_of : List Declared → List Constant
 constants_of = filter_map (λ d. d.constant)
@@ -35,10 +34,10 @@ none_among row decls constants d c = record { items = []; decls_are = sym d; con
 
 module _ (whole : Row) (decls : List Decl) (constants : List Constant) (n : ℕ) (row : Row) (among : Among whole decls constants n row) where
   pub more_among : (d : Declared) (ds : List Decl) (cs : List Constant) (there mid : Row) → 0 < n → next_is (is_sign (codes "}")) row ≡ false → there ≡ row
-      → declaration there ≡ got d mid → ds ≡ decls ++ d.decl ∷ [] → cs ≡ constants ++ constants_of (d ∷ []) → Among whole ds cs (n - 1) mid
+      → declaration there ≡ got d mid → ds ≡ decls ++ decls_of (d ∷ []) → cs ≡ constants ++ constants_of (d ∷ []) → Among whole ds cs (n - 1) mid
   more_among d ds cs there mid z h same r p q = record {
     items = among.items ++ d ∷ [];
-    decls_are = map-append (λ (x : Declared). x.decl) among.items (d ∷ []) ∙ ap (λ xs. xs ++ d.decl ∷ []) among.decls_are ∙ sym p;
+    decls_are = filter_map-append (λ (x : Declared). x.decl) among.items (d ∷ []) ∙ ap (λ xs. xs ++ decls_of (d ∷ [])) among.decls_are ∙ sym p;
     constants_are = filter_map-append (λ (x : Declared). x.constant) among.items (d ∷ []) ∙ ap (λ xs. xs ++ constants_of (d ∷ [])) among.constants_are ∙ sym q;
     is = item_read declaration n _ among.items d _ row there mid z among.is h same r refl;
   }

@@ -7,6 +7,8 @@ pub mod Nexts
 pub mod ItemLists
 pub mod ParamLists
 mod ElementLists
+mod AdditionLists
+mod Suffixes
 mod Computed
 mod Integers
 pub mod AspectLists

@@ -1,5 +1,5 @@
 -- What is read by the token that is next.
-use Rattle.std.proofs.Common.{◌≡◌, ℕ, List, [], ◌∷◌, Bool, true, false, cond, refl, ap, ◌∙◌}
+use Rattle.std.proofs.Common.{◌≡◌, ℕ, List, [], ◌∷◌, Bool, true, false, cond, refl, sym, ap, ◌∙◌}
 use Rattle.std.specs.Str.{bytes_eq}
 use Rattle.std.proofs.lemmas.Slice.Eq.{bytes_eq-Decides}
 use Rattle.at_text.specs.Rows.{Row, sign, word, is_sign, is_word, next_is}
@@ -44,6 +44,18 @@ pub sign_not : {A : Type 0} (text : List ℕ) (row : Row) (next : Place → Row 
     → next_is (is_sign text) row ≡ false → after_sign text row next other ≡ other
 sign_not text [] next other h = refl
 sign_not text (t ∷ ts) next other h = cond_false (is_sign text t) (next t.at ts) other h
+
+-- ---- what is read where it isn't next: a part, and what is behind it
+
+pub behind_no_word : {A B : Type 0} (text : List ℕ) (row same : Row) (next : Place → Row → Read B) (first : Row → Read A) (after : A → Row → Read B) (a : A) (mid : Row)
+    → next_is (is_word text) row ≡ false → same ≡ row → first same ≡ got a mid → after_word text row next (then_read (first row) after) ≡ after a mid
+behind_no_word text row same next first after a mid n s r =
+    word_not text row next (then_read (first row) after) n ∙ ap (λ x. then_read (first x) after) (sym s) ∙ ap (λ q. then_read q after) r
+
+pub behind_no_sign : {A B : Type 0} (text : List ℕ) (row same : Row) (next : Place → Row → Read B) (first : Row → Read A) (after : A → Row → Read B) (a : A) (mid : Row)
+    → next_is (is_sign text) row ≡ false → same ≡ row → first same ≡ got a mid → after_sign text row next (then_read (first row) after) ≡ after a mid
+behind_no_sign text row same next first after a mid n s r =
+    sign_not text row next (then_read (first row) after) n ∙ ap (λ x. then_read (first x) after) (sym s) ∙ ap (λ q. then_read q after) r
 
 -- ---- another fault in its place
 

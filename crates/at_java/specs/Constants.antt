@@ -92,9 +92,12 @@ elements part at (suc n) row =
     after_sign (codes ".") row (λ dot rest. then_read (added part at rest) (λ t more. map_read (λ ts. t ∷ ts) (elements part at n more))) (got [] row)
 
 -- an empty list, and what is added to it
+abbrev pub list_items : (Place → Row → Read Term) → Place → Row → Read (List Term)
+list_items part at row = then_read (opening at row) (λ paren inner. then_read (sign_of at (codes ")") inner) (λ end rest.
+    elements part at most_elements rest))
+
 abbrev pub list : (Place → Row → Read Term) → Place → Row → Read Cell
-list part at row = then_read (opening at row) (λ paren inner. then_read (sign_of at (codes ")") inner) (λ end rest.
-    then_read (elements part at most_elements rest) (λ ts left. got (Many (to_terms ts)) left)))
+list part at row = then_read (list_items part at row) (λ ts left. got (Many (to_terms ts)) left)
 
 -- an optional: empty, or with a child
 abbrev pub optional : (Place → Row → Read Term) → Place → Row → Read Cell

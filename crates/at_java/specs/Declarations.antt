@@ -5,7 +5,8 @@ use lib.Chars.{codes}
 use Rattle.at_text.specs.Symbols.{PlacedToken}
 use Rattle.at_text.specs.Rows.{Row, is_sign, is_word, is_name_token, next_is}
 use Rattle.at_text.specs.declared.place.Place.{Place}
-use Rattle.at_model.specs.Terms.{Term}
+use Rattle.at_model.specs.Terms.{Cell, One, Many}
+use Rattle.at_tree.specs.View.{to_terms}
 use Rattle.at_jrag.specs.Syntax as syntax
 use Rattle.at_jrag.specs.Syntax.{Word, Kind, KindWord, Params, Body, Ending, Decl}
 use Rattle.at_jrag.specs.Table.{is_kind}
@@ -14,8 +15,9 @@ use Rattle.at_java.specs.Read.{Read, got, fails, here, at_place, then_read, map_
 use Rattle.at_java.specs.Tokens.{sign_here, name}
 use Rattle.at_java.specs.Next.{after_word, after_sign, other_code, or_fails}
 use Rattle.at_java.specs.Written.{to_statements}
-use Rattle.at_java.specs.Kinds.{kind, params, goes_on}
-use Rattle.at_java.specs.Constants.{sign_of, word_of, term, max_terms}
+use Rattle.at_java.specs.Kinds.{kind, params}
+use Rattle.at_java.specs.Outsets.{Outset, outset}
+use Rattle.at_java.specs.Making.{Making, making, made_term, made_list}
 use Rattle.at_java.specs.Statements.{block, statement, max_nesting}
 use Rattle.at_java.specs.Expressions.{expression}
 use Rattle.at_java.specs.Rewriting as meaning
@@ -99,74 +101,22 @@ ending row = after_sign (codes ";") row (λ at rest. got (syntax.Semicolon at) r
 
 -- ---- constants
 
--- a nonterminal attribute whose tree is written down, with the place of its `new`
+-- what fills a component of the class, a tree of the kind or a list of such trees, with the place of its `new`
 pub record Constant : Type 0 where
   pub class : Word
   pub name : Word
   pub kind : Word
-  pub term : Term
+  pub cell : Cell
   pub at : Place
 
--- a declaration, and the constant that it declares, if it does
+-- what comes of a declaration among the aspects, and the constant that it declares
 pub record Declared : Type 0 where
-  pub decl : Decl
+  pub decl : Option Decl
   pub constant : Option Constant
 
 -- one that declares none
 abbrev pub without : Read Decl → Read Declared
-without read = map_read (λ d. record { decl = d; constant = None }) read
-
--- the kinds that are no classes
-abbrev pub is_basic : PlacedToken → Bool
-is_basic t = is_word (codes "int") t || (is_word (codes "boolean") t || is_word (codes "String") t)
-
--- a class: another kind is left out
-abbrev pub class : Row → Read Word
-class row = cond (next_is is_basic row) (fails (here LeftOut row))
-    (then_read (name row) (λ w rest. cond (next_is goes_on rest) (fails (at_place LeftOut w.at)) (got w rest)))
-
--- ")": parameters are left out
-abbrev pub no_params : Row → Read Place
-no_params row = after_sign (codes ")") row (λ end rest. got end rest) (fails (here (other_code row) row))
-
--- what a constant is of, and the parenthesis behind its name
-pub record Outset : Type 0 where
-  pub kind : Word
-  pub class : Word
-  pub name : Word
-  pub end : Place
-
--- class name "." name "(" ")"
-abbrev pub outset : Row → Read Outset
-outset row = then_read (class row) (λ k named. then_read (name named) (λ class dotted. then_read (sign_here (codes ".") dotted) (λ dot behind.
-    then_read (name behind) (λ w paren. then_read (sign_here (codes "(") paren) (λ start inner. then_read (no_params inner) (λ end left.
-    got (record { kind = k; class = class; name = w; end = end }) left))))))
-
--- where the body begins and its `new` stands; and whether it is a block
-pub record Making : Type 0 where
-  pub at : Place
-  pub made_at : Place
-  pub is_block : Bool
-
--- "return" "new", behind the `{` at this place
-abbrev pub making_block : (named at : Place) → Row → Read Making
-making_block named at row = then_read (word_of named (codes "return") row) (λ r inner. then_read (word_of named (codes "new") inner) (λ new left.
-    got (record { at = at; made_at = new; is_block = true }) left))
-
--- "=" "new" | "{" "return" "new": another body is left out where the name stands
-abbrev pub making : (named : Place) → Row → Read Making
-making named row = after_sign (codes "=") row (λ at inner. then_read (word_of named (codes "new") inner) (λ new left.
-    got (record { at = at; made_at = new; is_block = false }) left))
-    (then_read (sign_of named (codes "{") row) (making_block named))
-
--- ";" and in a block "}", before which another statement is left out
-abbrev pub made_end : Making → Row → Read Place
-made_end m row = then_read (sign_of m.made_at (codes ";") row) (λ end rest. cond m.is_block
-    (after_sign (codes "}") rest (λ brace left. got brace left) (fails (here (other_code rest) rest))) (got end rest))
-
--- a node, behind its `new`
-abbrev pub made_term : Making → Row → Read Term
-made_term m row = then_read (term max_terms m.made_at row) (λ t rest. then_read (made_end m rest) (λ end left. got t left))
+without read = map_read (λ d. record { decl = Some d; constant = None }) read
 
 -- what stands for it among the aspects: its value is that of the accessor of a component of its name
 abbrev pub accessing : Place → Outset → Making → Decl
@@ -176,13 +126,27 @@ accessing at o m = record {
       (syntax.With (record { at = m.at; form = syntax.Equation'; expr = syntax.Call m.made_at (codes "get" ++ o.name.text) syntax.no_exprs }));
 }
 
-abbrev pub made_constant : Outset → Place → Term → Constant
-made_constant o at t = record { class = o.class; name = o.name; kind = o.kind; term = t; at = at }
+-- nothing stands for one whose name is that of the component's own accessor
+abbrev pub accessing_if : Place → Outset → Making → Option Decl
+accessing_if at o m = cond o.is_accessor None (Some (accessing at o m))
 
--- { "lazy" | "final" } outset making made, behind `nta`, of the declaration at this place
+abbrev pub made_constant : Outset → Place → Cell → Constant
+made_constant o at c = record { class = o.class; name = o.name; kind = o.kind; cell = c; at = at }
+
+-- a tree, behind the heading of the declaration at this place
+abbrev pub declared_tree : Place → Outset → Row → Read Declared
+declared_tree at o row = then_read (making o.name.at row) (λ m inner. then_read (made_term m inner) (λ t left.
+    got (record { decl = accessing_if at o m; constant = Some (made_constant o m.made_at (One t)) }) left))
+
+-- a list
+abbrev pub declared_list : Outset → Row → Read Declared
+declared_list o row = then_read (made_list o.name.at row) (λ l left.
+    got (record { decl = None; constant = Some (made_constant o l.at (Many (to_terms l.items))) }) left)
+
+-- { "lazy" | "final" } outset and what is made, behind `nta`, of the declaration at this place
 abbrev pub declared_constant : Place → Row → Read Declared
-declared_constant at row = then_read (laziness None row) (λ lazy rest. then_read (outset rest) (λ o behind. then_read (making o.name.at behind) (λ m inner.
-    then_read (made_term m inner) (λ t left. got (record { decl = accessing at o m; constant = Some (made_constant o m.made_at t) }) left))))
+declared_constant at row = then_read (laziness None row) (λ lazy rest. then_read (outset rest) (λ o behind.
+    cond o.is_list (declared_list o behind) (declared_tree at o behind)))
 
 -- ---- declarations, behind their keyword at this place
 

@@ -1,5 +1,5 @@
 -- Files of aspects: what a text holds, or its fault.
-use Rattle.std.specs.Prelude.{◌≡◌, ℕ, zero, suc, List, [], ◌∷◌, ◌++◌, map, Bool, true, false, cond, not, ◌⊎◌}
+use Rattle.std.specs.Prelude.{◌≡◌, ℕ, zero, suc, List, [], ◌∷◌, ◌++◌, Bool, true, false, cond, not, ◌⊎◌}
 use Rattle.std.specs.List.{filter_map}
 use lib.Chars.{codes}
 use Rattle.at_text.specs.Symbols.{PlacedToken, HasTokens, next_place}
@@ -26,14 +26,14 @@ use Rattle.at_java.specs.declared.JavaCode.TheVariants.{Syntax, Limit}
 abbrev pub most_declarations : ℕ
 most_declarations = 65536
 
--- declarations, and the constants that they declare, in their order
+-- what comes of declarations among the aspects, and the constants that they declare, in their order
 pub record Declarations : Type 0 where
   pub decls : List Decl
   pub constants : List Constant
   pub end : Place
 
 abbrev pub sorted : Closed Declared → Declarations
-sorted c = record { decls = map (λ d. d.decl) c.items; constants = filter_map (λ d. d.constant) c.items; end = c.end }
+sorted c = record { decls = filter_map (λ d. d.decl) c.items; constants = filter_map (λ d. d.constant) c.items; end = c.end }
 
 -- { declaration } "}"
 abbrev pub declarations : Row → Read Declarations

@@ -12,6 +12,8 @@ pub mod Kinds
 pub mod Statements
 pub mod Rewriting
 pub mod Constants
+pub mod Outsets
+pub mod Making
 pub mod Declarations
 pub mod Aliases
 pub mod Noted

@@ -4,26 +4,28 @@ ghost use Rattle.std.specs.Prelude.{◌≡◌};
 
 use at_jrag::{Aspect, Word};
 use at_text::place::Place;
-use at_tree::term::Term;
+use at_tree::term::TermCell;
 
-/// A nonterminal attribute whose tree is written down: `syn nta KIND CLASS.NAME() = new ..;`
+/// What fills a component of a class: `syn nta KIND CLASS.NAME() = new ..;` A NAME `get..` is the accessor of what is behind `get`,
+/// and a component `NAME` is meant by any other. A list is declared as `List<KIND> CLASS.get..List()`.
 #[derive(Drop)]
 pub struct Constant {
-    /// The class that has the attribute.
+    /// The class that has the component.
     pub class: Word,
-    /// The attribute's name.
+    /// The component's name, at the place of the declared one.
     pub name: Word,
-    /// The class that is declared for its value.
+    /// The class that is declared for the tree, or for the elements of the list.
     pub kind: Word,
-    /// The tree.
-    pub term: Term,
+    /// The tree, or the list.
+    pub cell: TermCell,
     /// Where its `new` stands.
     pub at: Place,
 }
 
 /// What a file holds.
 pub struct Contents {
-    /// The aspects. A constant stands in them as an attribute whose value is that of the accessor of a component of its name.
+    /// The aspects. A constant whose name isn't that of an accessor stands in them as an attribute whose value is that of the accessor of
+    /// a component of its name; another one doesn't.
     pub aspects: Vec<Aspect>,
     /// The constants that they declare, in the order of the file.
     pub constants: Vec<Constant>,

@@ -4,7 +4,8 @@
 //! **Its specs:** `Read` is what a reader takes of a row of tokens, and `Tokens`, `Next` and `Items` what several forms share;
 //! `Operands`, `Operators` and `Expressions`, `Kinds`, `Statements` and `Declarations` say of each form what is read, by recursive
 //! descent; `Written` is a body as it is written, and `Rewriting` the expression that it means, over `Naming`, which counts forms and
-//! puts expressions in the place of names; `Constants` are trees that are written with `new`; `Aliases` are names that stand for those
+//! puts expressions in the place of names; `Constants` are trees that are written with `new`, `Outsets` the headings of constants and
+//! `Making` their bodies, a tree or a list of trees; `Aliases` are names that stand for those
 //! of accessors, `Noted` these in a map; `Files` is the whole: the aspects of a text and its constants, or its fault. `View`,
 //! `OperatorView`, `Seen`, `Found`, `Searching` and `Rests` are what the program's values stand for, and `Refusals` says that a result
 //! of rewriting is what is meant, or its refusal.

@@ -15,8 +15,10 @@ mod forms;
 mod headings;
 mod kinds;
 mod literals;
+mod making;
 mod operands;
 mod operators;
+mod outsets;
 mod statements;
 mod terms;
 

@@ -13,8 +13,10 @@ use std::process::Abort;
 /// What a text comes to.
 #[derive(Clone, Copy)]
 enum Told {
-    /// It declares one constant, `n` of class C: its kind, its term, and where its `new` stands.
+    /// It declares one constant, `n` of class C, and an attribute with its value: its kind, its term, and where its `new` stands.
     Made(&'static str, &'static str, u32),
+    /// It declares one constant, `N` of class C, and nothing else: its kind, what stands in its component, and where its `new` stands.
+    Fills(&'static str, &'static str, u32),
     /// It is refused, in this column of its only line.
     At(JavaCode, u32),
 }
@@ -97,12 +99,21 @@ fn same_term(a: &Term, b: &Term) -> bool {
     true
 }
 
-/// Whether the constant's term is this one, and its `new` stands there.
-fn is_made(rt: &impl Abort, alloc: Global, constant: &Constant, term: &str, column: u32) -> bool {
-    let Ok(term) = read_term(alloc, term) else {
+/// Whether what stands in a component is the only thing that stands in the term.
+fn is_alone_in(cell: &TermCell, term: &Term) -> bool {
+    match (cell, term.cells.as_slice()) {
+        (TermCell::One(m), [TermCell::One(n)]) => same_term(m, n),
+        (TermCell::Many(ms), [TermCell::Many(ns)]) => same_leaves(ms, ns),
+        _ => false,
+    }
+}
+
+/// Whether this, in a term alone, is what stands in the constant's component, and its `new` stands there.
+fn is_made(rt: &impl Abort, alloc: Global, constant: &Constant, alone: &str, column: u32) -> bool {
+    let Ok(term) = read_term(alloc, alone) else {
         panic!(rt; "no term");
     };
-    constant.at.column == column && same_term(&constant.term, &term)
+    constant.at.column == column && is_alone_in(&constant.cell, &term)
 }
 
 /// Whether the constant has this class, name and kind.
@@ -127,34 +138,53 @@ fn is_accessed(decl: &Decl, accessor: &str) -> bool {
     }
 }
 
-/// The only declaration of the file and its only constant.
-fn only(contents: &Contents) -> Option<(&Decl, &Constant)> {
+/// Whether these are none, or the one for the constant `n`.
+fn is_declared_for(decls: &[Decl], is_filling: bool) -> bool {
+    match decls {
+        [] => is_filling,
+        [decl] => !is_filling && is_accessed(decl, "getn"),
+        _ => false,
+    }
+}
+
+/// The declarations of the file's only aspect, and its only constant.
+fn only(contents: &Contents) -> Option<(&[Decl], &Constant)> {
     let [aspect] = contents.aspects.as_slice() else {
-        return None;
-    };
-    let [decl] = aspect.decls.as_slice() else {
         return None;
     };
     let [constant] = contents.constants.as_slice() else {
         return None;
     };
-    Some((decl, constant))
+    Some((aspect.decls.as_slice(), constant))
+}
+
+/// Whether the text is read so.
+fn is_read(rt: &impl Abort, alloc: Global, contents: &Contents, told: Told) -> bool {
+    let Some((decls, constant)) = only(contents) else {
+        return false;
+    };
+    match told {
+        Told::Made(kind, alone, column) => {
+            is_declared_for(decls, false)
+                && is_of(constant, "C", "n", kind)
+                && is_made(rt, alloc, constant, alone, column)
+        }
+        Told::Fills(kind, alone, column) => {
+            is_declared_for(decls, true)
+                && is_of(constant, "C", "N", kind)
+                && is_made(rt, alloc, constant, alone, column)
+        }
+        Told::At(_, _) => false,
+    }
 }
 
 /// Whether the text comes to that.
 fn comes_to(rt: &impl Abort, alloc: Global, text: &str, told: Told) -> bool {
     match parse_java(alloc, text, &[]) {
-        Ok(contents) => match (told, only(&contents)) {
-            (Told::Made(kind, term, column), Some((decl, constant))) => {
-                is_accessed(decl, "getn")
-                    && is_of(constant, "C", "n", kind)
-                    && is_made(rt, alloc, constant, term, column)
-            }
-            _ => false,
-        },
+        Ok(contents) => is_read(rt, alloc, &contents, told),
         Err(Fault::Refused { code, at }) => match told {
-            Told::Made(_, _, _) => false,
             Told::At(other, column) => code == other && at.column == column,
+            _ => false,
         },
         Err(Fault::Memory) => panic!(rt; "want of memory"),
     }
@@ -165,35 +195,113 @@ const ROWS: &[(&str, Told)] = &[
     // what is read
     (
         "aspect A { syn nta X C.n() = new X(); }",
-        Told::Made("X", "X()", 30),
+        Told::Made("X", "T(X())", 30),
     ),
     (
         "aspect A { syn lazy nta X C.n() { return new X(); } }",
-        Told::Made("X", "X()", 42),
+        Told::Made("X", "T(X())", 42),
     ),
     (
         "aspect A { public syn nta final lazy X C.n() = new X(); }",
-        Told::Made("X", "X()", 48),
+        Told::Made("X", "T(X())", 48),
     ),
     (
         "aspect A { syn nta X C.n() = new Y(\"a\", 1, -2, true, false); }",
-        Told::Made("X", "Y(\"a\",1,-2,true,false)", 30),
+        Told::Made("X", "T(Y(\"a\",1,-2,true,false))", 30),
     ),
     (
         "aspect A { syn nta X C.n() = new X(\"a\", new List(), new Opt()); }",
-        Told::Made("X", "X(\"a\",[],-)", 30),
+        Told::Made("X", "T(X(\"a\",[],-))", 30),
     ),
     (
         "aspect A { syn nta X C.n() = new X(new List<Y>(), new Opt<Y>(), new Y(0)); }",
-        Told::Made("X", "X([],-,Y(0))", 30),
+        Told::Made("X", "T(X([],-,Y(0)))", 30),
     ),
     (
         "aspect A { syn nta X C.n() = new X(new List<Y>().add(new Y(1)).add(new Z(2)), new Opt<Y>(new Y(3))); }",
-        Told::Made("X", "X([Y(1),Z(2)],Y(3))", 30),
+        Told::Made("X", "T(X([Y(1),Z(2)],Y(3)))", 30),
     ),
     (
         "aspect A { syn nta X C.n() = new X(-2147483648, 2147483647, \"\\n\\\"\"); }",
-        Told::Made("X", "X(-2147483648,2147483647,\"\\n\\\"\")", 30),
+        Told::Made("X", "T(X(-2147483648,2147483647,\"\\n\\\"\"))", 30),
+    ),
+    // components that are filled by their own accessors
+    (
+        "aspect A { syn nta X C.getN() = new X(); }",
+        Told::Fills("X", "T(X())", 33),
+    ),
+    (
+        "aspect A { syn lazy nta X C.getN() { return new Y(1); } }",
+        Told::Fills("X", "T(Y(1))", 45),
+    ),
+    (
+        "aspect A { syn nta List<X> C.getNList() = new List<X>(); }",
+        Told::Fills("X", "T([])", 43),
+    ),
+    (
+        "aspect A { syn nta List<X> C.getNList() = new List().add(new X()).add(new Y(1)); }",
+        Told::Fills("X", "T([X(),Y(1)])", 43),
+    ),
+    (
+        "aspect A { syn nta List<X> C.getNList() { return new List<X>().add(new X()); } }",
+        Told::Fills("X", "T([X()])", 50),
+    ),
+    (
+        "aspect A { syn nta List<X> C.getNList() { List<X> l = new List<X>(); return l; } }",
+        Told::Fills("X", "T([])", 55),
+    ),
+    (
+        "aspect A { syn nta List<X> C.getNList() { List<X> l = new List<X>().add(new X()); l.add(new Y(1)); l.add(new X()); return l; } }",
+        Told::Fills("X", "T([X(),Y(1),X()])", 55),
+    ),
+    // lists that are left out
+    (
+        "aspect A { syn nta List<X> C.getN() = new List<X>(); }",
+        Told::At(JavaCode::LeftOut, 20),
+    ),
+    (
+        "aspect A { syn nta List<X> C.getList() = new List<X>(); }",
+        Told::At(JavaCode::LeftOut, 20),
+    ),
+    (
+        "aspect A { syn nta List<X> C.nList() = new List<X>(); }",
+        Told::At(JavaCode::LeftOut, 20),
+    ),
+    (
+        "aspect A { syn nta List<X> C.getNList() = new X(); }",
+        Told::At(JavaCode::LeftOut, 43),
+    ),
+    (
+        "aspect A { syn nta X C.getN() = new List<X>(); }",
+        Told::At(JavaCode::LeftOut, 33),
+    ),
+    (
+        "aspect A { syn nta List<X> C.getNList() = f(); }",
+        Told::At(JavaCode::LeftOut, 30),
+    ),
+    (
+        "aspect A { syn nta List<X> C.getNList() { List<X> l = f(); return l; } }",
+        Told::At(JavaCode::LeftOut, 30),
+    ),
+    (
+        "aspect A { syn nta List<X> C.getNList() { List<X> l = new List<X>(); m.add(new X()); return l; } }",
+        Told::At(JavaCode::LeftOut, 70),
+    ),
+    (
+        "aspect A { syn nta List<X> C.getNList() { List<X> l = new List<X>(); l.clear(); return l; } }",
+        Told::At(JavaCode::LeftOut, 70),
+    ),
+    (
+        "aspect A { syn nta List<X> C.getNList() { List<X> l = new List<X>(); l.add(x); return l; } }",
+        Told::At(JavaCode::LeftOut, 76),
+    ),
+    (
+        "aspect A { syn nta List<X> C.getNList() { List<X> l = new List<X>(); return m; } }",
+        Told::At(JavaCode::LeftOut, 70),
+    ),
+    (
+        "aspect A { syn nta List<X> C.getNList() { List<X> l = new List<X>(); l.add(new X()); } }",
+        Told::At(JavaCode::Syntax, 86),
     ),
     // heads that are left out
     (
@@ -358,5 +466,5 @@ fn constants_stand_in_their_order(rt: HostRuntime) {
     holds_for(&rt, "n", is_of(n, "C", "n", "X"));
     holds_for(&rt, "o", is_of(o, "C", "o", "Y"));
     holds_for(&rt, "p", is_of(p, "D", "p", "Z"));
-    holds_for(&rt, "at", is_made(&rt, rt.alloc(), p, "Z()", 117));
+    holds_for(&rt, "at", is_made(&rt, rt.alloc(), p, "T(Z())", 117));
 }

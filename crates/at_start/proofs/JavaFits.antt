@@ -1,7 +1,7 @@
 -- What is read as users of JastAdd write it: each number in a body has 32 bits, and what is circular is boolean.
 use Rattle.std.proofs.Common.{◌≡◌, ◌+◌, ℕ, zero, suc, List, [], ◌∷◌, Bool, true, false, Option, None, Some, cond, map, refl, sym, subst, arith, true≢false}
 use Rattle.std.specs.Prelude.{IfSome, length, nat_le}
-use Rattle.std.specs.List.{AllByRecursion, flat_map}
+use Rattle.std.specs.List.{AllByRecursion, cons_option, filter_map, flat_map}
 use Rattle.std.proofs.lemmas.Option.{none-some}
 use Rattle.std.proofs.lemmas.List.Concat.{flat_map-cons}
 use lib.Chars.{codes}
@@ -21,7 +21,9 @@ use Rattle.at_java.specs.Expressions.{expression}
 use Rattle.at_java.specs.Statements as statements
 use Rattle.at_java.specs.Statements.{returned, condition, otherwise, conditional, element, loop, block}
 use Rattle.at_java.specs.Rewriting.{Meaning, Means, Open, Refused, rewritten}
-use Rattle.at_java.specs.Declarations.{Target, target, laziness, is_boolean, start, circular, Head, head, meant, block_body, body, ending, Declared, outset, making, made_term, declared_constant, without, computed, synthesized, inherited, own_equation, child_equation, equation, begins_method, method, other_declared, declared, limited, first_declared, behind_modifiers, declaration}
+use Rattle.at_java.specs.Declarations.{Target, target, laziness, is_boolean, start, circular, Head, head, meant, block_body, body, ending, Declared, accessing, accessing_if, declared_constant, without, computed, synthesized, inherited, own_equation, child_equation, equation, begins_method, method, other_declared, declared, limited, first_declared, behind_modifiers, declaration}
+use Rattle.at_java.specs.Outsets.{Outset, outset}
+use Rattle.at_java.specs.Making.{Making, making, made_term, made_list}
 use Rattle.at_java.specs.Aliases.{Alias, resolved_row}
 use Rattle.at_java.specs.Files.{Part, Contents, Declarations, sorted, declarations, named_aspect, aspect, aspects, imports, contents_in, most_aspects, most_declarations}
 use Rattle.at_java.specs.declared.JavaCode.TheVariants.{Syntax, LeftOut, Limit, NoValue}
@@ -182,20 +184,28 @@ is_boolean_form word start fits k b same at =
 no_kind : (start : Option Bool) (k : KindWord) (b : Bool) → None ≡ Some k → start ≡ Some b → k.kind ≡ syntax.Bool'
 no_kind start k b same at = absurd (none-some k same)
 
--- and so it does with the constant that it declares, if it does
+-- so does what comes of it among the aspects
 abbrev BothFit : Declared → Type 0
-BothFit d = DeclFits d.decl
+BothFit d = IfSome d.decl DeclFits
 
 without_fits : (read : Read Decl) → Gives DeclFits read → Gives BothFit (without read)
 without_fits read fits = gives_map DeclFits BothFit _ read fits (λ d is. is)
 
--- what stands for a constant is a call without arguments
+-- what stands for a constant, if anything does, is a call without arguments
+accessing_fits : (at : Place) (o : Outset) (m : Making) → IfSome (accessing_if at o m) DeclFits
+accessing_fits at o m = by o.is_accessor
+  where
+    by : (b : Bool) → IfSome (cond b None (Some (accessing at o m))) DeclFits
+    by true = tt
+    by false = (tt, is_boolean_form _ None (λ c none. absurd (none-some c none)))
+
 constant_fits : (at : Place) (row : Row) → Gives BothFit (declared_constant at row)
 constant_fits at row =
     gives_behind BothFit (laziness None row) _ (λ lazy rest.
     gives_behind BothFit (outset rest) _ (λ o behind.
-    gives_behind BothFit (making o.name.at behind) _ (λ m inner.
-    gives_behind BothFit (made_term m inner) _ (λ t left. (tt, is_boolean_form _ None (λ c none. absurd (none-some c none)))))))
+    gives_either BothFit o.is_list _ _ (λ is. gives_behind BothFit (made_list o.name.at behind) _ (λ l left. tt))
+    (gives_behind BothFit (making o.name.at behind) _ (λ m inner.
+    gives_behind BothFit (made_term m inner) _ (λ t left. accessing_fits at o m)))))
 
 computed_fits : (at : Place) (lazy : Option Place) (row : Row) → Gives DeclFits (computed at lazy row)
 computed_fits at lazy row =
@@ -276,6 +286,16 @@ AllFit = AllByRecursion AspectFits
 abbrev SortedFit : Declarations → Type 0
 SortedFit ds = AllByRecursion DeclFits ds.decls
 
+-- what comes of declarations fits
+sorted_fit : (ds : List Declared) → AllByRecursion BothFit ds → AllByRecursion DeclFits (filter_map (λ (d : Declared). d.decl) ds)
+sorted_fit [] fit = tt
+sorted_fit (d ∷ ds) fit = by d.decl fit.0 (sorted_fit ds fit.1)
+  where
+    by : (o : Option Decl) → IfSome o DeclFits → AllByRecursion DeclFits (filter_map (λ (e : Declared). e.decl) ds)
+        → AllByRecursion DeclFits (cons_option o (filter_map (λ (e : Declared). e.decl) ds))
+    by None is all = all
+    by (Some e) is all = (is, all)
+
 abbrev PartFits : Part → Type 0
 PartFits p = AspectFits p.aspect
 
@@ -288,7 +308,7 @@ named_fits row =
     gives_behind PartFits (sign_here (codes "{") rest) _ (λ at inner.
     gives_then SortedFit PartFits (declarations inner) _
     (gives_map (λ (c : Closed Declared). AllByRecursion BothFit c.items) SortedFit sorted (items_until declaration most_declarations inner)
-    (items_each BothFit declaration declaration_fits most_declarations inner) (λ c are. all_map DeclFits (λ (d : Declared). d.decl) c.items are))
+    (items_each BothFit declaration declaration_fits most_declarations inner) (λ c are. sorted_fit c.items are))
     (λ ds left are. are)))
 
 aspects_fit : (n : ℕ) (row : Row) → Gives ContentsFit (aspects n row)

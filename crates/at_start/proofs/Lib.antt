@@ -2,6 +2,7 @@ mod Naming
 mod Listing
 mod Rereading
 mod Declaring
+mod Slashing
 mod TermFiles
 mod Ruled
 mod PlantingLoops
@@ -10,6 +11,7 @@ mod PlantingShapes
 mod PlantingLevels
 mod PlantingFixes
 mod PlantingFaults
+mod PlantingFillings
 mod PlantedNames
 mod Started
 mod JavaGiven
@@ -23,7 +25,6 @@ mod JavaFits
 mod RulesTyped
 mod SameRuns
 mod Served
-mod Opened
 pub mod WholeLemmas
 mod OneMeaning
 mod OneOutput

@@ -1,7 +1,7 @@
 -- Files give one grammar, one set of rules and one tree.
 use Rattle.std.proofs.Common.{◌≡◌, ℕ, List, [], ◌∷◌, refl, sym, ap, ap₂, ◌∙◌, subst, None, Some}
 use Rattle.at_model.specs.Classes.{AreNamedApart, Classes}
-use Rattle.at_model.specs.Declarations.{Declarations, classes_of, first_fault}
+use Rattle.at_model.specs.Declarations.{Declarations, Place, classes_of, first_fault}
 use Rattle.at_model.specs.Rules.{Rules}
 use Rattle.at_model.specs.Terms.{term_of}
 use Rattle.at_model.specs.Trees.{Tree}
@@ -9,7 +9,9 @@ use Rattle.at_model.specs.Shaping.{shaped}
 use Rattle.at_model.proofs.of_texts.Shaped.{conforms_shaped}
 use Rattle.at_text.specs.Symbols.{symbols, words_keep}
 use Rattle.at_text.specs.Rows.{Row}
+use Rattle.at_text.proofs.Scanned.{cut_only, fault_only}
 use Rattle.at_text.proofs.TextTokens.{one_row}
+use Rattle.at_text.specs.Pieces.{Piece, spelled_at}
 use Rattle.at_grammar.proofs.Unique.{file_unique}
 use Rattle.at_jrag.specs.Syntax.{Aspect}
 use Rattle.at_jrag.specs.Grammar.{File}
@@ -18,7 +20,8 @@ use Rattle.at_tree.proofs.TextLaws.{one_term_each}
 use Rattle.at_typing.specs.Building.{rules_of}
 use Rattle.at_typing.specs.Located.{located}
 use Rattle.at_start.specs.Constants.{Placed, constants_from, planted_classes}
-use Rattle.at_start.specs.GrammarFiles.{Declares, GivesGrammar, declared}
+use Rattle.at_start.specs.GrammarFiles.{Declares, GivesGrammar, IsReadOf, declared}
+use Rattle.at_start.specs.Slashes.{Unslashes, all_slashed, blanked, cut, marks_of, slashes, uncut}
 use Rattle.at_java.specs.Aliases.{Alias}
 use Rattle.at_java.specs.Declarations.{Constant}
 use Rattle.at_java.specs.Files.{Contents, contents_of}
@@ -41,8 +44,26 @@ declared_once text ds es h k =
     let written = file_unique h.grammar k.grammar h.spells.0 k.spells.0 (sym h.spells.1 ∙ ap (symbols words_keep) rows ∙ k.spells.1) in
     h.means ∙ ap declared written ∙ sym k.means
 
-pub grammar_once : (bytes : List ℕ) (ds es : Declarations) → GivesGrammar bytes ds → GivesGrammar bytes es → ds ≡ es
-grammar_once bytes ds es h k = declared_once bytes ds es h.declares k.declares
+unslashed_once : (text read other : List ℕ) (ms ns : List Place) → Unslashes text read ms → Unslashes text other ns → (read ≡ other) × (ms ≡ ns)
+unslashed_once text _ _ _ _ (cut ps c) (cut qs d) =
+    let same = cut_only text ps qs c d in (
+      ap (λ (xs : List Piece). blanked text (slashes (all_slashed 0 (spelled_at 0 xs)))) same,
+      ap (λ (xs : List Piece). marks_of text (all_slashed 0 (spelled_at 0 xs))) same,
+    )
+unslashed_once text _ _ _ _ (cut ps c) (uncut e some fault) = absurd (some (fault_only text e fault ps c))
+unslashed_once text _ _ _ _ (uncut e some fault) (cut ps c) = absurd (some (fault_only text e fault ps c))
+unslashed_once text _ _ _ _ (uncut e some fault) (uncut f some' fault') = (refl, refl)
+
+read_once : (language : Language) (text read other : List ℕ) (ms ns : List Place) → IsReadOf language text read ms → IsReadOf language text other ns
+    → (read ≡ other) × (ms ≡ ns)
+read_once (Profile forms) text read other ms ns h k = (h.0 ∙ sym k.0, h.1 ∙ sym k.1)
+read_once JastAdd text read other ms ns h k = unslashed_once text read other ms ns h k
+
+pub grammar_once : (language : Language) (bytes : List ℕ) (ds es : Declarations) (ms ns : List Place) → GivesGrammar language bytes ds ms
+    → GivesGrammar language bytes es ns → (ds ≡ es) × (ms ≡ ns)
+grammar_once language bytes ds es ms ns h k =
+    let same = read_once language bytes h.read k.read ms ns h.is_read k.is_read in
+    (declared_once k.read ds es (subst (λ (r : List ℕ). Declares r ds) same.0 h.declares) k.declares, same.1)
 
 -- ---- the aspects
 
@@ -78,22 +99,23 @@ given_once language names files aspects others ks js h k =
     let same = all_held_once language names files h.contents k.contents h.hold k.hold in
     (h.aspects_are ∙ ap aspects_in same ∙ sym k.aspects_are, h.constants_are ∙ ap (constants_from 1) same ∙ sym k.constants_are)
 
-pub rules_once : (language : Language) (ds es : Declarations) (files : List (List ℕ)) (rules others : Rules) → ds ≡ es
-    → GivesRules language ds files rules → GivesRules language es files others → rules ≡ others
-rules_once language ds es files rules others same h k =
+pub rules_once : (language : Language) (ms ns : List Place) (ds es : Declarations) (files : List (List ℕ)) (rules others : Rules) → ms ≡ ns → ds ≡ es
+    → GivesRules language ms ds files rules → GivesRules language ns es files others → rules ≡ others
+rules_once language ms ns ds es files rules others marks same h k =
     let given = subst (λ (d : Declarations). AllGive language (aliases_in language (classes_of d)) files h.aspects h.constants) same h.given in
     let both = given_once language (aliases_in language (classes_of es)) files h.aspects k.aspects h.constants k.constants given k.given in
-    let classes : planted_classes ds h.constants ≡ planted_classes es k.constants = ap₂ planted_classes same both.1 in
-    (made_builds language (planted_classes ds h.constants) h.aspects rules h.built).1 ∙ ap₂
+    let classes : planted_classes ms ds h.constants ≡ planted_classes ns es k.constants =
+    ap₂ (λ (m : List Place) (d : Declarations). planted_classes m d h.constants) marks same ∙ ap (planted_classes ns es) both.1 in
+    (made_builds language (planted_classes ms ds h.constants) h.aspects rules h.built).1 ∙ ap₂
     (λ c as'. rules_of (arguments_in language) c (located 1 (read_in language c as'))) classes both.0
-    ∙ sym (made_builds language (planted_classes es k.constants) k.aspects others k.built).1
+    ∙ sym (made_builds language (planted_classes ns es k.constants) k.aspects others k.built).1
 
 -- their classes have names of their own
-pub given_apart : (language : Language) (ds : Declarations) (files : List (List ℕ)) (rules : Rules) → first_fault ds ≡ None
-    → GivesRules language ds files rules → AreNamedApart rules.classes
-given_apart language ds files rules faultless h =
-    let made = (made_builds language (planted_classes ds h.constants) h.aspects rules h.built).1 in
-    subst AreNamedApart (sym (ap (λ (r : Rules). r.classes) made)) (planted_apart ds h.constants faultless)
+pub given_apart : (language : Language) (marks : List Place) (ds : Declarations) (files : List (List ℕ)) (rules : Rules) → first_fault ds ≡ None
+    → GivesRules language marks ds files rules → AreNamedApart rules.classes
+given_apart language marks ds files rules faultless h =
+    let made = (made_builds language (planted_classes marks ds h.constants) h.aspects rules h.built).1 in
+    subst AreNamedApart (sym (ap (λ (r : Rules). r.classes) made)) (planted_apart marks ds h.constants faultless)
 
 -- ---- the tree
 

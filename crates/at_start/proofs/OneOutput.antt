@@ -25,11 +25,11 @@ same_flags rules old start _ _ _ new other (served {mid = mid} {rest = rest} {mo
 pub one_output : (files : Files) (slice other_slice : ℕ) (input one other : List ℕ) (a : MeansOutput files slice input one)
     (b : MeansOutput files other_slice input other) → PostNothing input → IsWithinMemory a.told → IsWithinMemory b.told → one ≡ other
 one_output files slice other_slice input one other a b no_post within within' =
-    let grammar = grammar_once files.grammar.bytes.items a.declarations b.declarations a.grammar b.grammar in
-    let rules = rules_once files.language a.declarations b.declarations (aspect_bytes files.aspects.items) a.rules b.rules grammar
+    let grammar = grammar_once files.language files.grammar.bytes.items a.declarations b.declarations a.marks b.marks a.grammar b.grammar in
+    let rules = rules_once files.language a.marks b.marks a.declarations b.declarations (aspect_bytes files.aspects.items) a.rules b.rules grammar.1 grammar.0
     a.aspects b.aspects in
     let given = subst (λ (r : Rules). GivesTree r.classes files.nodes files.tree.bytes.items b.opened) (sym rules) b.tree in
-    let apart = given_apart files.language a.declarations (aspect_bytes files.aspects.items) a.rules a.grammar.faultless a.aspects in
+    let apart = given_apart files.language a.marks a.declarations (aspect_bytes files.aspects.items) a.rules a.grammar.faultless a.aspects in
     let trees = tree_once a.rules.classes files.nodes files.tree.bytes.items a.opened b.opened apart a.tree given in
     let start = opening files.nodes a.opened in
     let outputs = subst (λ (r : Rules). Outputs r other_slice start input b.told b.new) (sym rules)

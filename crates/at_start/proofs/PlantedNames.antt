@@ -7,14 +7,14 @@ use Rattle.std.specs.Str.{bytes_eq}
 use Rattle.std.proofs.lemmas.List.{length-map}
 use Rattle.std.proofs.lemmas.Option.{slice_get-map}
 use Rattle.at_model.specs.Classes.{AreNamedApart, Class, Classes, class_of_name, name_of}
-use Rattle.at_model.specs.Declarations.{Declaration, Declarations, class_by, class_named, classes_of, first_fault}
+use Rattle.at_model.specs.Declarations.{Declaration, Declarations, class_by, class_named, classes_of, first_fault, Place}
 use Rattle.at_model.specs.Edits.{changed_at}
 use Rattle.at_class.specs.Fixing.{Fixed, fixed_as, with_fixed, with_part}
 use Rattle.at_class.proofs.Named.{position-map}
 use Rattle.at_class.proofs.Order.{none_broken}
 use Rattle.at_class.proofs.Sound.{classes_apart}
 use Rattle.at_java.specs.Declarations.{Constant}
-use Rattle.at_start.specs.Constants.{Placed, declaring, fixes_over, level, planted_classes, with_component, with_components}
+use Rattle.at_start.specs.Constants.{Placed, additions, declaring, fixes_over, level, planted_classes, whole_grammar, with_component, with_components}
 
 abbrev names : Classes → List (List ℕ)
 names classes = map (λ (k : Class). k.name) classes
@@ -84,10 +84,11 @@ unfolding level
 level_names ds ks zero = refl
 level_names ds ks (suc n) = fixed_names (fixes_over (level ds ks n) ds ks) (classes_of ds)
 
-planted_names : (ds : Declarations) (ks : List Placed) → names (planted_classes ds ks) ≡ names (classes_of ds)
-planted_names ds ks =
-    level_names (with_components ds ks) ks (length ks) ∙ classes_names (with_components ds ks) ∙ components_names ds ks ∙ sym (classes_names ds)
+planted_names : (marks : List Place) (ds : Declarations) (ks : List Placed) → names (planted_classes marks ds ks) ≡ names (classes_of ds)
+planted_names marks ds ks =
+    let whole = whole_grammar marks ds ks in
+    level_names whole ks (length ks) ∙ classes_names whole ∙ components_names ds (additions marks ds ks) ∙ sym (classes_names ds)
 
-pub planted_apart : (ds : Declarations) (ks : List Placed) → first_fault ds ≡ None → AreNamedApart (planted_classes ds ks)
-planted_apart ds ks faultless =
-    apart_as (planted_classes ds ks) (classes_of ds) (planted_names ds ks) (classes_apart ds (none_broken ds faultless).2)
+pub planted_apart : (marks : List Place) (ds : Declarations) (ks : List Placed) → first_fault ds ≡ None → AreNamedApart (planted_classes marks ds ks)
+planted_apart marks ds ks faultless =
+    apart_as (planted_classes marks ds ks) (classes_of ds) (planted_names marks ds ks) (classes_apart ds (none_broken ds faultless).2)

@@ -1,7 +1,6 @@
 -- Grammars in which classes have more components.
 use Rattle.std.proofs.Common.{◌≡◌, ◌∙◌, ℕ, zero, suc, ◌+◌, ◌<◌, ◌≤◌, true, false, Bool, List, [], ◌∷◌, ◌++◌, length, map, take, drop, get_or, set, Option, Some, None, if◌then◌else◌, refl, sym, ap, subst, add-one, append-nil, append_assoc, arith, Result, Ok, Err}
 use Rattle.std.specs.Result.{OnOk}
-use Rattle.std.specs.List.{All}
 use Rattle.std.specs.Str.{bytes_eq}
 use Rattle.std.proofs.Math.Seq.{drop-cons}
 use Rattle.std.proofs.lemmas.List.{drop_all, map-append, set_split, take_all, take_more}
@@ -13,9 +12,9 @@ use Rattle.at_java.specs.Declarations.{Constant}
 use Rattle.at_start.specs.Constants.{Placed, component, declaring, with_component, with_components}
 use Rattle.at_start.specs.ConstantFaults.{Refusal, Tells, breach, breaking, broken, first_breach, first_refusal, refusal, unnamed}
 use Rattle.at_start.specs.declared.fault.StartFault.{StartFault}
-use Rattle.std.specs.Option.{option_map, option_or}
+use Rattle.std.specs.Option.{option_map}
 use Rattle.at_start.specs.declared.code.Code.TheVariants as code
-use Rattle.at_start.proofs.PlantingLoops.{neither, tells_first}
+use Rattle.at_start.proofs.PlantingLoops.{neither}
 
 -- ---- one more component
 
@@ -64,20 +63,6 @@ one_at (x ∷ xs) (suc i) a b less is is' = one_at xs i a b (omega (arith, less)
 pub on_ok : {A E P Q : Type 0} (r : Result A E) → (P → Q) → OnOk r P → OnOk r Q
 on_ok (Ok v) f h = f h
 on_ok (Err e) f h = tt
-
--- one more constant
-pub more_components : {X : Type 0} (view : X → Placed) (xs : List X) (i : ℕ) (x : X) (before after zs : Declarations)
-    → i < length xs → x ≡ get_or xs i x → after ≡ with_component before (view x).constant
-    → with_components before (map view (drop i xs)) ≡ zs → with_components after (map view (drop (i + 1) xs)) ≡ zs
-more_components view xs i x before after zs less is new so_far =
-    let here : drop i xs ≡ x ∷ drop (suc i) xs = drop-cons xs i x less ∙ ap (λ y. y ∷ drop (suc i) xs) (sym is) in
-    ap (λ b. with_components b (map view (drop (i + 1) xs))) new
-    ∙ ap (λ n. with_components (with_component before (view x).constant) (map view (drop n xs))) (add-one i)
-    ∙ ap (λ ys. with_components before (map view ys)) (sym here) ∙ so_far
-
-pub no_more_components : {X : Type 0} (view : X → Placed) (xs : List X) (i : ℕ) (before zs : Declarations)
-    → length xs ≤ i → with_components before (map view (drop i xs)) ≡ zs → before ≡ zs
-no_more_components view xs i before zs past so_far = ap (λ ys. with_components before (map view ys)) (sym (drop_all i xs past)) ∙ so_far
 
 -- ---- names
 
@@ -135,29 +120,3 @@ tells_breaking ds ks f e broken told =
 
 pub none_breaking : (ds : Declarations) (ks : List Placed) → first_fault (with_components ds ks) ≡ None → breaking ds ks ≡ None
 none_breaking ds ks none = ap (λ (o : Option Fault). elim o as (λ _. Option Refusal) [ None ↦ None | Some g ↦ first_breach ds ks ]) none
-
--- one more of them is looked at
-module _ {X : Type 0} (view : X → Placed) (xs : List X) (i : ℕ) (x : X) (less : i < length xs) (is : x ≡ get_or xs i x) (ds before after : Declarations)
-    (so_far : first_breach ds (map view xs) ≡ first_breach before (map view (drop i xs))) where
-  breach_split : first_breach before (map view (drop i xs))
-      ≡ option_or (broken (with_component before (view x).constant) (view x)) (first_breach (with_component before (view x).constant) (map view (drop (i + 1) xs)))
-  breach_split =
-      let rest = drop (suc i) xs in
-      let there : drop i xs ≡ x ∷ rest = drop-cons xs i x less ∙ ap (λ y. y ∷ rest) (sym is) in
-      ap (λ ys. first_breach before (map view ys)) there
-      ∙ ap (λ n. option_or (broken (with_component before (view x).constant) (view x)) (first_breach (with_component before (view x).constant) (map view (drop n xs)))) (sym (add-one i))
-
-  pub breach_later : after ≡ with_component before (view x).constant → broken (with_component before (view x).constant) (view x) ≡ None
-      → first_breach ds (map view xs) ≡ first_breach after (map view (drop (i + 1) xs))
-  breach_later new none =
-      so_far ∙ breach_split ∙ ap (λ o. option_or o (first_breach (with_component before (view x).constant) (map view (drop (i + 1) xs)))) none
-      ∙ ap (λ b. first_breach b (map view (drop (i + 1) xs))) (sym new)
-
-  pub breach_here : (e : StartFault) → Tells (broken (with_component before (view x).constant) (view x)) e → Tells (first_breach ds (map view xs)) e
-  breach_here e told =
-      subst (λ (o : Option Refusal). Tells o e) (sym (so_far ∙ breach_split))
-      (tells_first (broken (with_component before (view x).constant) (view x)) (first_breach (with_component before (view x).constant) (map view (drop (i + 1) xs))) e told)
-
-pub breach_nowhere : {X : Type 0} (view : X → Placed) (xs : List X) (i : ℕ) (ds before : Declarations) → length xs ≤ i
-    → first_breach ds (map view xs) ≡ first_breach before (map view (drop i xs)) → first_breach ds (map view xs) ≡ None
-breach_nowhere view xs i ds before past so_far = so_far ∙ ap (λ ys. first_breach before (map view ys)) (drop_all i xs past)

@@ -1,12 +1,12 @@
 -- The first refusal among constants, and faults one behind the other.
-use Rattle.std.proofs.Common.{◌≡◌, ◌∙◌, ℕ, suc, ◌+◌, ◌<◌, ◌≤◌, List, [], ◌∷◌, ◌++◌, length, map, drop, get_or, Option, Some, None, Result, Ok, Err, refl, sym, ap, subst, add-one, append-nil, append_assoc, arith}
+use Rattle.std.proofs.Common.{◌≡◌, ◌∙◌, ℕ, suc, ◌+◌, ◌<◌, ◌≤◌, Bool, true, false, not, cond, List, [], ◌∷◌, ◌++◌, length, map, drop, get_or, Option, Some, None, is_some, refl, sym, ap, subst, add-one, append-nil, append_assoc}
 use Rattle.std.specs.Option.{option_or}
 use Rattle.std.proofs.Math.Seq.{drop-cons}
 use Rattle.std.proofs.lemmas.List.{drop_all}
 use Rattle.std.proofs.lemmas.Option.{none-some}
-use Rattle.at_text.specs.declared.place.Place.{Place}
-use Rattle.at_start.specs.Constants.{Placed}
-use Rattle.at_start.specs.ConstantFaults.{Refusal, Tells, first_refusal, told}
+use Rattle.at_model.specs.Declarations.{Declarations, Place}
+use Rattle.at_start.specs.Constants.{Placed, additions, filled, with_component}
+use Rattle.at_start.specs.ConstantFaults.{Refusal, Tells, broken, first_breach, first_refusal, told}
 use Rattle.at_start.specs.declared.fault.StartFault.{StartFault}
 use Rattle.at_start.specs.declared.fault.StartFault.TheVariants.{Refused, Memory}
 
@@ -60,6 +60,48 @@ module _ {X : Type 0} (f : Placed → Option Refusal) (view : X → Placed) (xs 
   pub none_at : (x : X) → i < length xs → x ≡ get_or xs i x → first_refusal f (map view (drop i xs)) ≡ None
       → (f (view x) ≡ None) × (first_refusal f (map view (drop (i + 1) xs)) ≡ None)
   none_at x less is none = neither (f (view x)) _ (sym (split x less is) ∙ none)
+
+-- ---- rules that are broken with those that fill none
+
+module _ {X : Type 0} (view : X → Placed) (marks : List Place) (ds : Declarations) (xs : List X) where
+  -- those from that position on that fill none
+  abbrev left : ℕ → List Placed
+  left n = additions marks ds (map view (drop n xs))
+
+  module _ (i : ℕ) (x : X) (less : i < length xs) (is : x ≡ get_or xs i x) where
+    left_here : left i ≡ cond (not (is_some (filled marks ds (view x).constant))) (view x ∷ left (i + 1)) (left (i + 1))
+    left_here =
+        let rest = drop (suc i) xs in
+        let there : drop i xs ≡ x ∷ rest = drop-cons xs i x less ∙ ap (λ y. y ∷ rest) (sym is) in
+        ap (λ ys. additions marks ds (map view ys)) there
+        ∙ ap (λ n. cond (not (is_some (filled marks ds (view x).constant))) (view x ∷ left n) (left n)) (sym (add-one i))
+
+    adds_here : is_some (filled marks ds (view x).constant) ≡ false → left i ≡ view x ∷ left (i + 1)
+    adds_here none = left_here ∙ ap (λ (t : Bool). cond (not t) (view x ∷ left (i + 1)) (left (i + 1))) none
+
+    module _ (whole after : Declarations) (before : Option Refusal) (so_far : before ≡ first_breach whole (left i)) where
+      -- this one fills one
+      pub fills_here : is_some (filled marks ds (view x).constant) ≡ true → before ≡ first_breach whole (left (i + 1))
+      fills_here fills =
+          so_far ∙ ap (first_breach whole) (left_here ∙ ap (λ (t : Bool). cond (not t) (view x ∷ left (i + 1)) (left (i + 1))) fills)
+
+      module _ (none : is_some (filled marks ds (view x).constant) ≡ false) where
+        breach_split : before ≡ option_or (broken (with_component whole (view x).constant) (view x)) (first_breach (with_component whole (view x).constant) (left (i + 1)))
+        breach_split = so_far ∙ ap (first_breach whole) (adds_here none)
+
+        pub breaks_later : after ≡ with_component whole (view x).constant → broken (with_component whole (view x).constant) (view x) ≡ None
+            → before ≡ first_breach after (left (i + 1))
+        breaks_later new unbroken =
+            breach_split ∙ ap (λ o. option_or o (first_breach (with_component whole (view x).constant) (left (i + 1)))) unbroken
+            ∙ ap (λ b. first_breach b (left (i + 1))) (sym new)
+
+        pub breaks_here : (e : StartFault) → Tells (broken (with_component whole (view x).constant) (view x)) e → Tells before e
+        breaks_here e told =
+            subst (λ (o : Option Refusal). Tells o e) (sym breach_split)
+            (tells_first (broken (with_component whole (view x).constant) (view x)) (first_breach (with_component whole (view x).constant) (left (i + 1))) e told)
+
+  pub breaks_nowhere : (i : ℕ) (whole : Declarations) (before : Option Refusal) → length xs ≤ i → before ≡ first_breach whole (left i) → before ≡ None
+  breaks_nowhere i whole before past so_far = so_far ∙ ap (λ ys. first_breach whole (additions marks ds (map view ys))) (drop_all i xs past)
 
 -- ---- items of a slice
 

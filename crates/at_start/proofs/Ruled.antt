@@ -17,7 +17,7 @@ use Rattle.at_text.specs.declared.fault.Failure.{Failure}
 use Rattle.at_text.specs.declared.fault.Failure.TheVariants.{For, Memory as Lacking}
 use Rattle.at_java.specs.Aliases.{Alias}
 use Rattle.at_start.specs.Lists.{aliases_in}
-use Rattle.at_model.specs.Declarations.{Declarations, classes_of}
+use Rattle.at_model.specs.Declarations.{Declarations, Place as Mark, classes_of}
 use Rattle.at_java.specs.Files.{Contents}
 use Rattle.at_start.specs.Constants.{Placed, constants_from, in_file, planted_classes}
 use Rattle.at_start.specs.ConstantFaults.{Tells, constants_fault}
@@ -106,12 +106,12 @@ unread_at language names sources i x contents (fault.Refused c at) within is h k
 }
 unread_at language names sources i x contents fault.Memory within is h k = tt
 
-pub unread_refuses : (language : Language) (ds : Declarations) (files : List (List ℕ)) (e : StartFault)
+pub unread_refuses : (language : Language) (marks : List Mark) (ds : Declarations) (files : List (List ℕ)) (e : StartFault)
     → IsUnread language (aliases_in language (classes_of ds)) files e
-    → IsAspectFault language ds files e
-unread_refuses language ds files (Refused file c (Some at)) h = no_file file c at h
-unread_refuses language ds files (Refused file c None) h = h
-unread_refuses language ds files Memory h = h
+    → IsAspectFault language marks ds files e
+unread_refuses language marks ds files (Refused file c (Some at)) h = no_file file c at h
+unread_refuses language marks ds files (Refused file c None) h = h
+unread_refuses language marks ds files Memory h = h
 
 -- ---- faults that are met before the declarations are gone through
 
@@ -144,50 +144,50 @@ made_builds language classes aspects rules made =
 
 -- ---- rules
 
-rule_refuses : (language : Language) (ds : Declarations) (files : List (List ℕ)) (aspects : List (List Aspect)) (constants : List Placed)
-    (e : StartFault) → AllGive language (aliases_in language (classes_of ds)) files aspects constants → constants_fault ds constants ≡ None
-    → IsRuleFault language (planted_classes ds constants) aspects e → IsAspectFault language ds files e
-rule_refuses language ds files aspects constants (Refused n c at) give stand (f, first, of_number, of_code, of_place) =
-    let placed = subst (λ (o : Option Place). IsAspectFault language ds files (Refused f.file (rule_code f.code) o))
+rule_refuses : (language : Language) (marks : List Mark) (ds : Declarations) (files : List (List ℕ)) (aspects : List (List Aspect)) (constants : List Placed)
+    (e : StartFault) → AllGive language (aliases_in language (classes_of ds)) files aspects constants → constants_fault marks ds constants ≡ None
+    → IsRuleFault language (planted_classes marks ds constants) aspects e → IsAspectFault language marks ds files e
+rule_refuses language marks ds files aspects constants (Refused n c at) give stand (f, first, of_number, of_code, of_place) =
+    let placed = subst (λ (o : Option Place). IsAspectFault language marks ds files (Refused f.file (rule_code f.code) o))
     (sym of_place) (breaks aspects constants f give stand first) in
-    let coded = subst (λ (k : Code). IsAspectFault language ds files (Refused f.file k at)) (sym of_code) placed in
-    subst (λ (m : ℕ). IsAspectFault language ds files (Refused m c at)) (sym of_number) coded
-rule_refuses language ds files aspects constants Memory give stand says = tt
+    let coded = subst (λ (k : Code). IsAspectFault language marks ds files (Refused f.file k at)) (sym of_code) placed in
+    subst (λ (m : ℕ). IsAspectFault language marks ds files (Refused m c at)) (sym of_number) coded
+rule_refuses language marks ds files aspects constants Memory give stand says = tt
 
-constant_refuses : (language : Language) (ds : Declarations) (files : List (List ℕ)) (aspects : List (List Aspect)) (constants : List Placed)
+constant_refuses : (language : Language) (marks : List Mark) (ds : Declarations) (files : List (List ℕ)) (aspects : List (List Aspect)) (constants : List Placed)
     (e : StartFault) → AllGive language (aliases_in language (classes_of ds)) files aspects constants
-    → Tells (constants_fault ds constants) e → IsAspectFault language ds files e
-constant_refuses language ds files aspects constants (Refused file c (Some at)) give told =
+    → Tells (constants_fault marks ds constants) e → IsAspectFault language marks ds files e
+constant_refuses language marks ds files aspects constants (Refused file c (Some at)) give told =
     no_constant aspects constants (record { file = file; code = c; at = at }) give told
-constant_refuses language ds files aspects constants (Refused file c None) give told = told
-constant_refuses language ds files aspects constants Memory give told = tt
+constant_refuses language marks ds files aspects constants (Refused file c None) give told = told
+constant_refuses language marks ds files aspects constants Memory give told = tt
 
 -- the rules of classes in which constants stand are those of what was read
-pub ruled_by : (language : Language) (ds : Declarations) (classes : Classes) (aspects : List (List Aspect)) (constants : List Placed)
-    (result : Result Rules StartFault) → classes ≡ planted_classes ds constants → constants_fault ds constants ≡ None → IsHierarchy classes
+pub ruled_by : (language : Language) (marks : List Mark) (ds : Declarations) (classes : Classes) (aspects : List (List Aspect)) (constants : List Placed)
+    (result : Result Rules StartFault) → classes ≡ planted_classes marks ds constants → constants_fault marks ds constants ≡ None → IsHierarchy classes
     → IfOk result AreCircularLazy → IfOk result (λ r. Makes language classes aspects (Ok r)) → IfErr result (IsRuleFault language classes aspects)
-    → IsRuled language ds aspects constants result
-ruled_by language ds classes aspects constants (Ok r) is stand hierarchy lazy built says =
+    → IsRuled language marks ds aspects constants result
+ruled_by language marks ds classes aspects constants (Ok r) is stand hierarchy lazy built says =
     (stand, subst IsHierarchy is hierarchy, lazy, subst (λ (k : Classes). Makes language k aspects (Ok r)) is built)
-ruled_by language ds classes aspects constants (Err e) is stand hierarchy lazy built says =
+ruled_by language marks ds classes aspects constants (Err e) is stand hierarchy lazy built says =
     inr (stand, subst (λ (k : Classes). IsRuleFault language k aspects e) is says)
 
-module _ (language : Language) (ds : Declarations) (files : List (List ℕ)) (aspects : List (List Aspect)) (constants : List Placed)
+module _ (language : Language) (marks : List Mark) (ds : Declarations) (files : List (List ℕ)) (aspects : List (List Aspect)) (constants : List Placed)
     (give : AllGive language (aliases_in language (classes_of ds)) files aspects constants) where
   -- the rules are those of files that were read
-  pub given_by : (result : Result Rules StartFault) → IsRuled language ds aspects constants result
-      → IfOk result (λ r. GivesRules language ds files r)
+  pub given_by : (result : Result Rules StartFault) → IsRuled language marks ds aspects constants result
+      → IfOk result (λ r. GivesRules language marks ds files r)
   given_by (Ok r) (stand, hierarchy, lazy, built) = record { aspects = aspects; constants = constants; given = give; stand = stand; built = built }
   given_by (Err e) ruled = tt
 
   -- a fault is one of files that were read
-  pub refused_by : (result : Result Rules StartFault) → IsRuled language ds aspects constants result
-      → IfErr result (IsAspectFault language ds files)
+  pub refused_by : (result : Result Rules StartFault) → IsRuled language marks ds aspects constants result
+      → IfErr result (IsAspectFault language marks ds files)
   refused_by (Ok r) ruled = tt
-  refused_by (Err e) (inl told) = constant_refuses language ds files aspects constants e give told
-  refused_by (Err e) (inr (stand, says)) = rule_refuses language ds files aspects constants e give stand says
+  refused_by (Err e) (inl told) = constant_refuses language marks ds files aspects constants e give told
+  refused_by (Err e) (inr (stand, says)) = rule_refuses language marks ds files aspects constants e give stand says
 
-pub lazy_by : (language : Language) (ds : Declarations) (aspects : List (List Aspect)) (constants : List Placed) (result : Result Rules StartFault)
-    → IsRuled language ds aspects constants result → IfOk result AreCircularLazy
-lazy_by language ds aspects constants (Ok r) (stand, hierarchy, lazy, built) = lazy
-lazy_by language ds aspects constants (Err e) ruled = tt
+pub lazy_by : (language : Language) (marks : List Mark) (ds : Declarations) (aspects : List (List Aspect)) (constants : List Placed) (result : Result Rules StartFault)
+    → IsRuled language marks ds aspects constants result → IfOk result AreCircularLazy
+lazy_by language marks ds aspects constants (Ok r) (stand, hierarchy, lazy, built) = lazy
+lazy_by language marks ds aspects constants (Err e) ruled = tt

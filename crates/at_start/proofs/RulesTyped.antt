@@ -18,7 +18,7 @@ use Rattle.at_typing.proofs.Starting.{file_plain}
 use Rattle.at_evaluate.specs.Meant.{AreCircularWell}
 use Rattle.at_java.specs.Aliases.{Alias}
 use Rattle.at_start.specs.Lists.{aliases_in}
-use Rattle.at_model.specs.Declarations.{Declarations, classes_of}
+use Rattle.at_model.specs.Declarations.{Declarations, Place as Mark, classes_of}
 use Rattle.at_java.specs.Files.{Contents}
 use Rattle.at_start.specs.Constants.{Placed, planted_classes}
 use Rattle.at_start.specs.AspectFiles.{AllGive, GivesRules, AllHold, IsRuled, aspects_in, reads_circular}
@@ -38,28 +38,28 @@ hold_spelled forms names (f ∷ fs) [] hold = absurd hold
 hold_spelled forms names (f ∷ fs) (a ∷ as') hold =
     ((forms, hold.0.written.0.tokens, hold.0.written.0.spells), hold_spelled forms names fs as' hold.1)
 
-pub given_well_formed : (language : Language) (ds : Declarations) (files : List (List ℕ)) (rules : Rules)
-    → (gives : GivesRules language ds files rules) → IsHierarchy (planted_classes ds gives.constants) → AreWellFormed rules
-given_well_formed (Profile forms) ds files rules gives hierarchy =
+pub given_well_formed : (language : Language) (marks : List Mark) (ds : Declarations) (files : List (List ℕ)) (rules : Rules)
+    → (gives : GivesRules language marks ds files rules) → IsHierarchy (planted_classes marks ds gives.constants) → AreWellFormed rules
+given_well_formed (Profile forms) marks ds files rules gives hierarchy =
     let give = gives.given in
-    built_well_formed Given (planted_classes ds gives.constants) gives.aspects rules hierarchy
+    built_well_formed Given (planted_classes marks ds gives.constants) gives.aspects rules hierarchy
     (subst (AllByRecursion IsSpelled) (sym give.aspects_are) (hold_spelled forms (aliases_in (Profile forms) (classes_of ds)) files give.contents give.hold))
     gives.built
-given_well_formed JastAdd ds files rules gives hierarchy =
-    let classes = planted_classes ds gives.constants in
+given_well_formed JastAdd marks ds files rules gives hierarchy =
+    let classes = planted_classes marks ds gives.constants in
     let names = aliases_in JastAdd (classes_of ds) in
     declared_well_formed Computed classes (located 1 (read_in JastAdd classes gives.aspects)) rules hierarchy
     (hold_ints names classes files gives.aspects gives.constants gives.given)
     (hold_booleans names classes files gives.aspects gives.constants gives.given)
     (made_builds JastAdd classes gives.aspects rules gives.built)
 
-pub well_formed_by : (language : Language) (ds : Declarations) (files : List (List ℕ)) (aspects : List (List Aspect)) (constants : List Placed)
+pub well_formed_by : (language : Language) (marks : List Mark) (ds : Declarations) (files : List (List ℕ)) (aspects : List (List Aspect)) (constants : List Placed)
     (give : AllGive language (aliases_in language (classes_of ds)) files aspects constants) (result : Result Rules StartFault)
-    → IsRuled language ds aspects constants result → IfOk result AreWellFormed
-well_formed_by language ds files aspects constants give (Ok rules) (stand, hierarchy, lazy, built) =
-    given_well_formed language ds files rules
+    → IsRuled language marks ds aspects constants result → IfOk result AreWellFormed
+well_formed_by language marks ds files aspects constants give (Ok rules) (stand, hierarchy, lazy, built) =
+    given_well_formed language marks ds files rules
     (record { aspects = aspects; constants = constants; given = give; stand = stand; built = built }) hierarchy
-well_formed_by language ds files aspects constants give (Err e) ruled = tt
+well_formed_by language marks ds files aspects constants give (Err e) ruled = tt
 
 -- ---- circular ones
 
@@ -92,12 +92,12 @@ hold_plain forms names off n (f ∷ fs) (a ∷ as') hold =
     (file_plain forms off n a.aspects hold.0.written.0.tokens [] hold.0.written.0.spells)
     (hold_plain forms names off (n + 1) fs as' hold.1)
 
-pub given_plain : (language : Language) → reads_circular language ≡ false → (ds : Declarations) (files : List (List ℕ)) (rules : Rules)
-    → GivesRules language ds files rules → HasNoneCircular rules
-given_plain (Profile forms) off ds files rules gives =
+pub given_plain : (language : Language) → reads_circular language ≡ false → (marks : List Mark) (ds : Declarations) (files : List (List ℕ)) (rules : Rules)
+    → GivesRules language marks ds files rules → HasNoneCircular rules
+given_plain (Profile forms) off marks ds files rules gives =
     let give = gives.given in
-    built_plain Given (planted_classes ds gives.constants) (located 1 gives.aspects) rules
+    built_plain Given (planted_classes marks ds gives.constants) (located 1 gives.aspects) rules
     (subst (λ (as' : List (List Aspect)). AllByRecursion IsNotCircular (located 1 as')) (sym give.aspects_are)
     (hold_plain forms (aliases_in (Profile forms) (classes_of ds)) off 1 files give.contents give.hold))
     gives.built
-given_plain JastAdd off ds files rules gives = absurd (true≢false off)
+given_plain JastAdd off marks ds files rules gives = absurd (true≢false off)

@@ -51,6 +51,7 @@ whole files slice report input left after a =
       written_whole (text_of r.told) after r.written,
       record {
         declarations = s.declarations;
+        marks = s.marks;
         grammar = s.grammar;
         rules = a.rules;
         aspects = s.aspects;

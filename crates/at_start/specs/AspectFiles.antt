@@ -1,7 +1,7 @@
 -- Which rules aspect files give, and by which fault of which file they are refused.
 use Rattle.std.specs.Prelude.{◌≡◌, ◌⊎◌, ℕ, ◌+◌, Bool, true, List, [], ◌∷◌, ◌++◌, length, map, Option, Some, None, Result, Ok, Err}
 use Rattle.at_model.specs.Classes.{Classes}
-use Rattle.at_model.specs.Declarations.{Declarations, classes_of}
+use Rattle.at_model.specs.Declarations.{Declarations, Place as Mark, classes_of}
 use Rattle.at_model.specs.Rules.{Rules}
 use Rattle.at_model.specs.WellFormed.{IsHierarchy}
 use Rattle.at_rules.specs.Circular.{AreCircularLazy}
@@ -142,14 +142,14 @@ abbrev pub Makes : Language → Classes → List (List Aspect) → Result Rules 
 Makes language classes aspects result =
     BuildsBehind (arguments_in language) classes (fault_in language classes aspects) (located 1 (read_in language classes aspects)) result
 
--- The files in that language give the rules over the classes that are declared: each file holds aspects and constants, all constants can
--- stand, and over the classes in which they are fixed all declarations together make the rules.
-pub record GivesRules (language : Language) (ds : Declarations) (files : List (List ℕ)) (rules : Rules) : Type 0 where
+-- The files in that language give the rules over the classes that are declared, with components marked so: each file holds aspects and
+-- constants, all constants can stand, and over the classes in which they are fixed all declarations together make the rules.
+pub record GivesRules (language : Language) (marks : List Mark) (ds : Declarations) (files : List (List ℕ)) (rules : Rules) : Type 0 where
   pub aspects : List (List Aspect)
   pub constants : List Placed
   pub given : AllGive language (aliases_in language (classes_of ds)) files aspects constants
-  pub stand : constants_fault ds constants ≡ None
-  pub built : Makes language (planted_classes ds constants) aspects (Ok rules)
+  pub stand : constants_fault marks ds constants ≡ None
+  pub built : Makes language (planted_classes marks ds constants) aspects (Ok rules)
 
 -- a rule's code among those of all files
 abbrev pub rule_code : RuleCode → Code
@@ -164,25 +164,26 @@ rule_code rule.ClassWithoutEquation = code.ClassWithoutEquation
 rule_code rule.InheritedWithoutEquation = code.InheritedWithoutEquation
 rule_code rule.EquationWithoutAttribute = code.EquationWithoutAttribute
 
--- The files are refused by the code at the place of the file of that number: it is the first that can't be read; or all can,
--- and it is the fault of their constants; or these can stand, and it is the first fault of their declarations.
-pub data RefusesAspects (language : Language) (ds : Declarations) (files : List (List ℕ)) : (file : ℕ) → Code → Place
+-- The files are refused by the code at the place of the file of that number: it is the first that can't be read; or all can, and it is
+-- the fault of their constants, which is one of the grammar where a component lacks its own; or these can stand, and it is the first fault
+-- of their declarations.
+pub data RefusesAspects (language : Language) (marks : List Mark) (ds : Declarations) (files : List (List ℕ)) : (file : ℕ) → Code → Place
     → Type 0 where
   no_file : (file : ℕ) (c : Code) (at : Place) → IsUnreadAt language (aliases_in language (classes_of ds)) files file c at
-      → RefusesAspects language ds files file c at
+      → RefusesAspects language marks ds files file c at
   no_constant : (aspects : List (List Aspect)) (constants : List Placed) (r : Refusal)
       → AllGive language (aliases_in language (classes_of ds)) files aspects constants
-      → constants_fault ds constants ≡ Some r → RefusesAspects language ds files r.file r.code r.at
+      → constants_fault marks ds constants ≡ Some r → RefusesAspects language marks ds files r.file r.code r.at
   breaks : (aspects : List (List Aspect)) (constants : List Placed) (f : Breach)
       → AllGive language (aliases_in language (classes_of ds)) files aspects constants
-      → constants_fault ds constants ≡ None → Makes language (planted_classes ds constants) aspects (Err (For f))
-      → RefusesAspects language ds files f.file (rule_code f.code) f.at
+      → constants_fault marks ds constants ≡ None → Makes language (planted_classes marks ds constants) aspects (Err (For f))
+      → RefusesAspects language marks ds files f.file (rule_code f.code) f.at
 
 -- the fault is one by which the files are refused; of want of memory nothing is said
-abbrev pub IsAspectFault : Language → Declarations → List (List ℕ) → StartFault → Type 0
-IsAspectFault language ds files (start.Refused file c (Some at)) = RefusesAspects language ds files file c at
-IsAspectFault language ds files (start.Refused file c None) = ⊥
-IsAspectFault language ds files start.Memory = Unit {0}
+abbrev pub IsAspectFault : Language → List Mark → Declarations → List (List ℕ) → StartFault → Type 0
+IsAspectFault language marks ds files (start.Refused file c (Some at)) = RefusesAspects language marks ds files file c at
+IsAspectFault language marks ds files (start.Refused file c None) = ⊥
+IsAspectFault language marks ds files start.Memory = Unit {0}
 
 -- the fault is the first of the declarations, in the file of its number and at its place; of want of memory nothing is said
 abbrev pub IsRuleFault : Language → Classes → List (List Aspect) → StartFault → Type 0
@@ -191,8 +192,8 @@ IsRuleFault language classes aspects (start.Refused file c at) =
 IsRuleFault language classes aspects start.Memory = Unit {0}
 
 -- The rules of what was read, whose constants can stand; or the fault of these, or else the first one of the declarations.
-abbrev pub IsRuled : Language → Declarations → List (List Aspect) → List Placed → Result Rules StartFault → Type 0
-IsRuled language ds aspects constants (Ok rules) = (constants_fault ds constants ≡ None) × IsHierarchy (planted_classes ds constants)
-    × AreCircularLazy rules × Makes language (planted_classes ds constants) aspects (Ok rules)
-IsRuled language ds aspects constants (Err e) = Tells (constants_fault ds constants) e
-    ⊎ ((constants_fault ds constants ≡ None) × IsRuleFault language (planted_classes ds constants) aspects e)
+abbrev pub IsRuled : Language → List Mark → Declarations → List (List Aspect) → List Placed → Result Rules StartFault → Type 0
+IsRuled language marks ds aspects constants (Ok rules) = (constants_fault marks ds constants ≡ None) × IsHierarchy (planted_classes marks ds constants)
+    × AreCircularLazy rules × Makes language (planted_classes marks ds constants) aspects (Ok rules)
+IsRuled language marks ds aspects constants (Err e) = Tells (constants_fault marks ds constants) e
+    ⊎ ((constants_fault marks ds constants ≡ None) × IsRuleFault language (planted_classes marks ds constants) aspects e)

@@ -2,12 +2,15 @@ pub mod Codes
 pub mod StartFaults
 pub mod Files
 pub mod FilesView
+pub mod Slashes
+pub mod SlashesView
 pub mod GrammarFiles
 pub mod ReadGrammar
 pub mod TreeFiles
 pub mod Lists
 pub mod NullCalls
 pub mod Constants
+pub mod Unmade
 pub mod PlacedView
 pub mod ConstantFaults
 pub mod Planted

@@ -1,6 +1,6 @@
 -- What files make: an engine, or the first fault in the order grammar, aspects, tree.
 use Rattle.std.specs.Prelude.{◌≡◌, ℕ, ◌+◌, Bool, true, false, List, [], length, map, Option, Some, None}
-use Rattle.at_model.specs.Declarations.{Declarations}
+use Rattle.at_model.specs.Declarations.{Declarations, Place as Mark}
 use Rattle.at_model.specs.Trees.{Tree}
 use Rattle.at_model.specs.Rules.{Rules}
 use Rattle.at_model.specs.WellFormed.{AreWellFormed}
@@ -37,8 +37,9 @@ IsReady e = IsSound recorded_by remembered_by e
 -- the files give these rules, and an engine that they make is in this state
 pub record Starts (files : Files) (rules : Rules) (state : State) : Type 0 where
   pub declarations : Declarations
-  pub grammar : GivesGrammar files.grammar.bytes.items declarations
-  pub aspects : GivesRules files.language declarations (aspect_bytes files.aspects.items) rules
+  pub marks : List Mark
+  pub grammar : GivesGrammar files.language files.grammar.bytes.items declarations marks
+  pub aspects : GivesRules files.language marks declarations (aspect_bytes files.aspects.items) rules
   pub opened : Tree
   pub tree : GivesTree rules.classes files.nodes files.tree.bytes.items opened
   pub state_is : state ≡ opening files.nodes opened
@@ -61,11 +62,12 @@ pub record IsStarted (files : Files) (also : Rules) (state : State) : Type 0 whe
 
 -- The file of that number is the first that is refused, by the code and at the place; a tree file's fault has none.
 pub data Refuses (files : Files) : (file : ℕ) → Code → Option Place → Type 0 where
-  by_grammar : (c : Code) (at : Place) → RefusesGrammar files.grammar.bytes.items c at → Refuses files 0 c (Some at)
-  by_aspects : (ds : Declarations) (file : ℕ) (c : Code) (at : Place) → GivesGrammar files.grammar.bytes.items ds
-      → RefusesAspects files.language ds (aspect_bytes files.aspects.items) file c at → Refuses files file c (Some at)
-  by_tree : (ds : Declarations) (rules : Rules) (c : Code) → GivesGrammar files.grammar.bytes.items ds
-      → GivesRules files.language ds (aspect_bytes files.aspects.items) rules
+  by_grammar : (c : Code) (at : Place) → RefusesGrammar files.language files.grammar.bytes.items c at → Refuses files 0 c (Some at)
+  by_aspects : (ds : Declarations) (marks : List Mark) (file : ℕ) (c : Code) (at : Place)
+      → GivesGrammar files.language files.grammar.bytes.items ds marks
+      → RefusesAspects files.language marks ds (aspect_bytes files.aspects.items) file c at → Refuses files file c (Some at)
+  by_tree : (ds : Declarations) (marks : List Mark) (rules : Rules) (c : Code) → GivesGrammar files.language files.grammar.bytes.items ds marks
+      → GivesRules files.language marks ds (aspect_bytes files.aspects.items) rules
       → RefusesTree rules.classes files.nodes files.tree.bytes.items c → Refuses files (length files.aspects.items + 1) c None
 
 -- all but the bytes of the tree is as it was, and so each name

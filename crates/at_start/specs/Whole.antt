@@ -1,7 +1,7 @@
 -- The whole: from the bytes of the files, and those of the lines, to the bytes that are written.
 use Rattle.std.specs.Prelude.{◌≡◌, ℕ, Bool, false, List, Option, None, Result, Ok, Err}
 use Rattle.std.specs.List.{AllByRecursion}
-use Rattle.at_model.specs.Declarations.{Declarations}
+use Rattle.at_model.specs.Declarations.{Declarations, Place as Mark}
 use Rattle.at_model.specs.Trees.{Tree}
 use Rattle.at_model.specs.Rules.{Rules}
 use Rattle.at_model.specs.Replies.{Reply}
@@ -57,9 +57,10 @@ AnswersFiles files slice (Err fault) readable left before after = IsStartFault f
 -- the machine without caches, from that tree on, tells for the bytes of the input.
 pub record MeansOutput (files : Files) (slice : ℕ) (input output : List ℕ) : Type 0 where
   pub declarations : Declarations
-  pub grammar : GivesGrammar files.grammar.bytes.items declarations
+  pub marks : List Mark
+  pub grammar : GivesGrammar files.language files.grammar.bytes.items declarations marks
   pub rules : Rules
-  pub aspects : GivesRules files.language declarations (aspect_bytes files.aspects.items) rules
+  pub aspects : GivesRules files.language marks declarations (aspect_bytes files.aspects.items) rules
   pub opened : Tree
   pub tree : GivesTree rules.classes files.nodes files.tree.bytes.items opened
   pub told : List (Bool × Reply)

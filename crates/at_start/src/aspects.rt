@@ -10,7 +10,7 @@ ghost use Rattle.at_java.specs.Seen.{constant_view, contents_view};
 ghost use Rattle.at_start.specs.Constants.{in_file};
 ghost use Rattle.at_start.specs.FilesView.{aspects_of};
 ghost use Rattle.at_start.specs.ReadGrammar.{IsDeclared};
-ghost use Rattle.at_class.specs.Grammar.{grammar_view};
+ghost use Rattle.at_class.specs.Grammar.{grammar_view, place_view};
 ghost use Rattle.at_start.specs.PlacedView.{placed_view};
 ghost use Rattle.at_start.specs.AspectFiles.{Holds, AllGive, GivesRules, IsRuled, IsReadingFaultOf, IsAspectFault, IsUnread, IsRuleFault, Makes, arguments_in, java_code, jrag_code, rule_code};
 ghost use Rattle.at_start.specs.Files.{IsText, max_file};
@@ -48,10 +48,10 @@ pub fn rules_of(
     aspects: &[Source],
 ) -> Result<Rules, StartFault>
     requires { IsDeclared declared }
-    ensures given { IfOk result (λ r. GivesRules language (grammar_view declared.grammar) (aspect_bytes aspects.now) r) }
+    ensures given { IfOk result (λ r. GivesRules language (map place_view declared.marks.items) (grammar_view declared.grammar) (aspect_bytes aspects.now) r) }
     ensures well_formed { IfOk result AreWellFormed }
     ensures circular { IfOk result AreCircularWell }
-    ensures refused { IfErr result (IsAspectFault language (grammar_view declared.grammar) (aspect_bytes aspects.now)) }
+    ensures refused { IfErr result (IsAspectFault language (map place_view declared.marks.items) (grammar_view declared.grammar) (aspect_bytes aspects.now)) }
 {
     let names = aliases_in(alloc, language, &declared.classes)?;
     let read = read_all(alloc, language, &names, aspects)?;
@@ -83,7 +83,8 @@ impl AllRead {
         language: Language,
     ) -> Result<Rules, StartFault>
         requires { IsDeclared declared }
-        ensures { IsRuled language (grammar_view declared.grammar) (map aspects_of self.aspects.items) (map placed_view self.constants.items) result }
+        ensures { IsRuled language (map place_view declared.marks.items) (grammar_view declared.grammar)
+            (map aspects_of self.aspects.items) (map placed_view self.constants.items) result }
     {
         let AllRead { aspects, constants } = self;
         let classes = plant(alloc, declared, &constants)?;

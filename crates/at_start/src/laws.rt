@@ -36,9 +36,10 @@ pub fn none_circular()
         → HasNoneCircular rules }
 {}
 
-/// Where no constant is declared none is refused, and the classes are those that the grammar declares.
+/// Where no constant is declared, and no component stands between slashes, none is refused, and the classes are those that the grammar
+/// declares.
 pub fn none_constant()
-    ensures { (ds : Declarations) → first_fault ds ≡ None → (constants_fault ds [] ≡ None) × (planted_classes ds [] ≡ classes_of ds) }
+    ensures { (ds : Declarations) → first_fault ds ≡ None → (constants_fault [] ds [] ≡ None) × (planted_classes [] ds [] ≡ classes_of ds) }
 {}
 
 /// Where no attribute is declared for ASTNode, aspects are read as if nothing ever could be.

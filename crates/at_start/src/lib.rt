@@ -5,13 +5,14 @@
 //! (`GrammarFiles`, `AspectFiles`, `TreeFiles`) over their bytes (`Files`); `Lists` are the short names of lists, which aspects may
 //! have, `Overloading` is how attributes of one name are told apart (`Pairs` says it of the code's table, `SampleOverloads` has a case),
 //! `Spreading` is what is read of attributes that are declared for ASTNode (at the root by `NullCalls`), and `Redeclaring` of those that
-//! are declared again below; `Constants` are the components in which constants stand (`Planted` says what becomes of the classes), and
-//! `ConstantFaults` for which constant files are refused; `StartFaults` and `Codes` are what is printed of a file that is refused.
-//! `ReadGrammar`, `FilesView` and `PlacedView` say what the code's values hold and stand for.
+//! are declared again below; `Slashes` are the components that a grammar marks, to be filled by constants; `Constants` are the components in
+//! which constants stand (`Planted` says what becomes of the classes), and `ConstantFaults` for which constant, or for want of which, files
+//! are refused; `StartFaults` and `Codes` are what is printed of a file that is refused. `ReadGrammar`, `FilesView`, `PlacedView` and
+//! `SlashesView` say what the code's values hold and stand for.
 //!
 //! **Where to begin:** `answer` in `serving.rt` is the whole, and `start`, below, its first half; `grammar.rt`, `aspects.rt`
-//! and `tree.rt` have what each kind of file gives, `lists.rt`, `overloaded.rt`, `everywhere.rt`, `redeclared.rt` and `constants.rt` what
-//! JastAdd's own language has beside its reader, `fault.rt` why there is no engine.
+//! and `tree.rt` have what each kind of file gives, `slashes.rt`, `lists.rt`, `overloaded.rt`, `everywhere.rt`, `redeclared.rt` and
+//! `constants.rt` what JastAdd's own language has beside its reader, `fault.rt` why there is no engine.
 //!
 //! **What it keeps true:** an engine that is made is sound, keeps nothing yet, and has just the classes, rules and
 //! tree of the files, as they are read in the language that these name.
@@ -40,6 +41,7 @@ pub mod overloaded_cases;
 mod redeclared;
 mod searches;
 mod serving;
+mod slashes;
 mod tree;
 
 use aspects::rules_of;
@@ -100,7 +102,7 @@ pub fn start_with<K: Bounded>(
     ensures refused { IfErr result (IsStartFault files.old) }
     ensures rest { AreSameButTree files.old files.new }
 {
-    let declared = match declared_by(alloc, &files.grammar.bytes) {
+    let declared = match declared_by(alloc, files.language, &files.grammar.bytes) {
         Ok(declared) => declared,
         Err(fault) => return Err(of_file(0, fault)),
     };

@@ -1,6 +1,6 @@
 //! Declarations: attributes, equations and methods.
 
-ghost use Rattle.std.specs.Prelude.{◌≡◌, ◌∷◌, ◌&&◌, ◌<◌, length, IfOk, IfErr, MatchBool, None, true, false, option_map};
+ghost use Rattle.std.specs.Prelude.{◌≡◌, ◌∷◌, ◌&&◌, ◌<◌, length, IfOk, IfErr, MatchBool, Some, None, true, false, option_map};
 ghost use lib.Chars.{codes};
 ghost use Rattle.at_text.specs.Symbols.{placed};
 ghost use Rattle.at_text.specs.Rows.{Row, left, sign, is_sign, next_is};
@@ -130,10 +130,10 @@ fn limited(at: Place, fault: ReadFault) -> ReadFault
 
 /// A declaration that declares no constant.
 fn with_none(decl: Decl) -> Declared
-    ensures { declared_view result ≡ record { decl = decl_view decl; constant = None } }
+    ensures { declared_view result ≡ record { decl = Some (decl_view decl); constant = None } }
 {
     Declared {
-        decl,
+        decl: Some(decl),
         constant: None,
     }
 }

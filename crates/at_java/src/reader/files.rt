@@ -1,6 +1,6 @@
 //! Aspects, and files of them.
 
-ghost use Rattle.std.specs.Prelude.{◌≡◌, ◌<◌, ◌++◌, ◌∷◌, length, [], map, cond, false, IfOk, IfErr, OnOk, MatchOption};
+ghost use Rattle.std.specs.Prelude.{◌≡◌, ◌<◌, ◌++◌, ◌∷◌, length, [], map, option_map, cond, false, IfOk, IfErr, OnOk, MatchOption};
 ghost use Rattle.std.specs.List.{filter_map};
 ghost use Rattle.at_text.specs.Rows.{left};
 ghost use Rattle.at_jrag.specs.View.{decl_view, word_view};
@@ -43,19 +43,42 @@ impl Drop for Declarations {
 }
 
 impl Declarations {
-    /// Takes one more.
-    fn takes(&mut self, declared: Declared) -> Result<(), AllocError>
-        ensures decls { OnOk result (map decl_view self.new.decls.items ≡ map decl_view self.old.decls.items ++ (declared_view declared).decl ∷ []) }
-        ensures constants { OnOk result (map constant_view self.new.constants.items
-            ≡ map constant_view self.old.constants.items ++ filter_map (λ d. d.constant) (declared_view declared ∷ [])) }
+    /// Takes what stands for a declaration, if anything does.
+    fn takes_decl(&mut self, decl: Option<Decl>) -> Result<(), AllocError>
+        ensures decls { OnOk result (map decl_view self.new.decls.items
+            ≡ map decl_view self.old.decls.items ++ filter_map (λ d. d) (option_map decl_view decl ∷ [])) }
+        ensures constants { OnOk result (self.new.constants ≡ self.old.constants) }
     {
-        let Declared { decl, constant } = declared;
+        let Some(decl) = decl else {
+            return Ok(());
+        };
         self.decls.push(decl)?;
+        Ok(())
+    }
+
+    /// Takes the constant, if there is one.
+    fn takes_constant(&mut self, constant: Option<Constant>) -> Result<(), AllocError>
+        ensures constants { OnOk result (map constant_view self.new.constants.items
+            ≡ map constant_view self.old.constants.items ++ filter_map (λ c. c) (option_map constant_view constant ∷ [])) }
+        ensures decls { OnOk result (self.new.decls ≡ self.old.decls) }
+    {
         let Some(constant) = constant else {
             return Ok(());
         };
         self.constants.push(constant)?;
         Ok(())
+    }
+
+    /// Takes one more.
+    fn takes(&mut self, declared: Declared) -> Result<(), AllocError>
+        ensures decls { OnOk result (map decl_view self.new.decls.items
+            ≡ map decl_view self.old.decls.items ++ filter_map (λ d. d.decl) (declared_view declared ∷ [])) }
+        ensures constants { OnOk result (map constant_view self.new.constants.items
+            ≡ map constant_view self.old.constants.items ++ filter_map (λ d. d.constant) (declared_view declared ∷ [])) }
+    {
+        let Declared { decl, constant } = declared;
+        self.takes_decl(decl)?;
+        self.takes_constant(constant)
     }
 
     /// The aspect of that name.

@@ -8,7 +8,7 @@ ghost use Rattle.at_tree.specs.View.{term_view, cell_view, to_cells, to_terms};
 ghost use Rattle.at_jrag.specs.View.{word_view};
 ghost use Rattle.at_java.specs.Read.{got, Fails};
 ghost use Rattle.at_java.specs.Operands.{items, max_arguments};
-ghost use Rattle.at_java.specs.Constants.{sign_of, word_of, name_of, below_zero, literal, child, opening, added, elements, most_elements, list, optional, made, cell, argument, given, is_container, class_of, node, term};
+ghost use Rattle.at_java.specs.Constants.{sign_of, word_of, name_of, below_zero, literal, child, opening, added, elements, most_elements, list_items, list, optional, made, cell, argument, given, is_container, class_of, node, term};
 
 use super::{Breach, ReadFault, Reader};
 use crate::JavaCode;
@@ -21,7 +21,7 @@ use at_tree::token::TokVal;
 pub const MAX_TERMS: usize = 64;
 
 /// How many elements a list may have.
-const MOST_ELEMENTS: usize = 4096;
+pub const MOST_ELEMENTS: usize = 4096;
 
 /// How many arguments may stand behind a class.
 const MAX_ARGUMENTS: usize = 255;
@@ -37,14 +37,14 @@ fn node(class: Word, cells: Vec<TermCell>) -> Term
 }
 
 /// A child.
-fn one(term: Term) -> TermCell
+pub fn one(term: Term) -> TermCell
     ensures { cell_view result ≡ One (term_view term) }
 {
     TermCell::One(term)
 }
 
 /// A list.
-fn many(terms: Vec<Term>) -> TermCell
+pub fn many(terms: Vec<Term>) -> TermCell
     ensures { cell_view result ≡ Many (to_terms (map term_view terms.items)) }
 {
     TermCell::Many(terms)
@@ -81,7 +81,7 @@ impl<'a> Reader<'a> {
     }
 
     /// A name; else what begins at this place is left out.
-    fn name_of(&mut self, at: Place) -> Result<Word, ReadFault>
+    pub fn name_of(&mut self, at: Place) -> Result<Word, ReadFault>
         ensures found { IfOk result (λ w. name_of at (left self.old.cursor.rest.now) ≡ got (word_view w) (left self.new.cursor.rest.now)) }
         ensures fault { IfErr result (λ e. Fails e (left self.new.cursor.rest.now) (name_of at (left self.old.cursor.rest.now))) }
     {
@@ -288,10 +288,20 @@ impl<'a> Reader<'a> {
         ensures found { IfOk result (λ c. list (term depth) at (left self.old.cursor.rest.now) ≡ got (cell_view c) (left self.new.cursor.rest.now)) }
         ensures fault { IfErr result (λ e. Fails e (left self.new.cursor.rest.now) (list (term depth) at (left self.old.cursor.rest.now))) }
     {
+        let terms = self.list_items(at, depth)?;
+        Ok(many(terms))
+    }
+
+    /// What is in a list, behind the `new` at this place and `List`.
+    #[cycle(term)]
+    pub fn list_items(&mut self, at: Place, depth: usize) -> Result<Vec<Term>, ReadFault>
+        ensures found { IfOk result (λ v. list_items (term depth) at (left self.old.cursor.rest.now)
+            ≡ got (map term_view v.items) (left self.new.cursor.rest.now)) }
+        ensures fault { IfErr result (λ e. Fails e (left self.new.cursor.rest.now) (list_items (term depth) at (left self.old.cursor.rest.now))) }
+    {
         self.opening(at)?;
         self.sign_of(at, ")")?;
-        let terms = self.elements(at, depth)?;
-        Ok(many(terms))
+        self.elements(at, depth)
     }
 
     /// `{ "." "add" "(" child ")" }`, at most 4,096.
@@ -317,7 +327,7 @@ impl<'a> Reader<'a> {
 
     /// `"add" "(" child ")"`, behind the list whose `new` has this place, and a `.`.
     #[cycle(term)]
-    fn added(&mut self, at: Place, depth: usize) -> Result<Term, ReadFault>
+    pub fn added(&mut self, at: Place, depth: usize) -> Result<Term, ReadFault>
         ensures found { IfOk result (λ t. added (term depth) at (left self.old.cursor.rest.now) ≡ got (term_view t) (left self.new.cursor.rest.now)) }
         ensures fault { IfErr result (λ e. Fails e (left self.new.cursor.rest.now) (added (term depth) at (left self.old.cursor.rest.now))) }
     {

@@ -2,15 +2,16 @@
 
 ghost use Rattle.std.specs.Prelude.{◌≡◌, None, Some, OnOk, map};
 ghost use Rattle.at_model.specs.Declarations.{AreNamed, Fault as GrammarFault, first_fault};
-ghost use Rattle.at_class.specs.Grammar.{grammar_view};
+ghost use Rattle.at_class.specs.Grammar.{grammar_view, place_view};
 ghost use Rattle.at_class.specs.Faults.{code_view};
-ghost use Rattle.at_start.specs.Constants.{with_component, with_components};
+ghost use Rattle.at_start.specs.Constants.{additions, whole_grammar, with_component};
 ghost use Rattle.at_start.specs.ConstantFaults.{Finds, Tells, breach, breaking, broken, encircled, first_breach, first_refusal, misfit, misshapen, oversized, refusal, told, unnamed, unstanding};
 ghost use Rattle.at_start.specs.PlacedView.{placed_view};
 
 use super::Placed;
+use super::filling::fills;
 use super::grammars::{add_component, copied};
-use super::shaping::{is_moderate, stands, tree_over};
+use super::shaping::{CellFault, cell_shaped, is_moderate, made_over, stands};
 use crate::code::Code;
 use crate::fault::StartFault;
 use at_class::{ClassCode, ClassTable};
@@ -18,11 +19,10 @@ use at_grammar::Grammar;
 use at_text::fault::Fault;
 use at_text::names::is_name;
 use at_text::place::Place;
-use at_tree::tree::{ShapeFault, shape};
 use std::alloc::Global;
 
 /// The fault with that code at the place in the constant's file.
-fn refused(placed: &Placed, code: Code, at: Place) -> StartFault
+pub fn refused(placed: &Placed, code: Code, at: Place) -> StartFault
     ensures { result ≡ told (refusal (placed_view placed.now) code at) }
 {
     StartFault::Refused {
@@ -53,32 +53,44 @@ fn look_at_name(placed: &Placed) -> Result<(), StartFault>
     Err(refused(placed, Code::AspectSyntax, name.at))
 }
 
-/// The fault of the first constant with which the grammar breaks a rule, where it does with all of them.
-pub fn refuse_breach(alloc: Global, grammar: &Grammar, constants: &[Placed]) -> StartFault
+/// The fault of the first constant with which the grammar breaks a rule, where it does with all that fill none of its components.
+pub fn refuse_breach(
+    alloc: Global,
+    marks: &[Place],
+    grammar: &Grammar,
+    constants: &[Placed],
+) -> StartFault
     requires named { AreNamed (grammar_view grammar.now) }
     requires faultless { first_fault (grammar_view grammar.now) ≡ None }
     requires names { first_refusal unnamed (map placed_view constants.now) ≡ None }
-    requires breaks { (f : GrammarFault) × (first_fault (with_components (grammar_view grammar.now) (map placed_view constants.now)) ≡ Some f) }
-    ensures { Tells (breaking (grammar_view grammar.now) (map placed_view constants.now)) result }
+    requires breaks { (f : GrammarFault)
+        × (first_fault (whole_grammar (map place_view marks.now) (grammar_view grammar.now) (map placed_view constants.now)) ≡ Some f) }
+    ensures { Tells (breaking (grammar_view grammar.now)
+        (additions (map place_view marks.now) (grammar_view grammar.now) (map placed_view constants.now))) result }
 {
-    match look_at_components(alloc, grammar, constants) {
+    match look_at_components(alloc, marks, grammar, constants) {
         Err(fault) => return fault,
         Ok(()) => unreachable!(),
     }
 }
 
-/// Looks whether the grammar breaks a rule with one of the constants behind those before it.
+/// Looks whether the grammar breaks a rule with one of the constants that fill none, behind those before it.
 fn look_at_components(
     alloc: Global,
+    marks: &[Place],
     grammar: &Grammar,
     constants: &[Placed],
 ) -> Result<(), StartFault>
     requires named { AreNamed (grammar_view grammar.now) }
     requires names { first_refusal unnamed (map placed_view constants.now) ≡ None }
-    ensures { Finds (first_breach (grammar_view grammar.now) (map placed_view constants.now)) result }
+    ensures { Finds (first_breach (grammar_view grammar.now)
+        (additions (map place_view marks.now) (grammar_view grammar.now) (map placed_view constants.now))) result }
 {
     let mut whole = copied(alloc, grammar)?;
     for placed in constants {
+        if fills(marks, grammar, &placed.constant) {
+            continue;
+        }
         look_at_component(alloc, &mut whole, placed)?;
     }
     Ok(())
@@ -154,11 +166,11 @@ fn shape_term(alloc: Global, classes: &ClassTable, placed: &Placed) -> Result<()
     let Some(kind) = classes.id_of(constant.kind.text.as_str()) else {
         return Err(refused(placed, Code::UnknownName, constant.kind.at));
     };
-    match shape(alloc, classes, &constant.term, kind) {
+    match cell_shaped(alloc, classes, &constant.cell, kind) {
         Ok(_) => return Ok(()),
-        Err(ShapeFault::Class) => return Err(refused(placed, Code::UnknownName, constant.at)),
-        Err(ShapeFault::Fit) => return Err(refused(placed, Code::Kind, constant.at)),
-        Err(ShapeFault::Memory) => Err(StartFault::Memory),
+        Err(CellFault::Class) => return Err(refused(placed, Code::UnknownName, constant.at)),
+        Err(CellFault::Fit) => return Err(refused(placed, Code::Kind, constant.at)),
+        Err(CellFault::Memory) => Err(StartFault::Memory),
     }
 }
 
@@ -193,10 +205,10 @@ fn look_at_size(alloc: Global, classes: &ClassTable, placed: &Placed) -> Result<
     ensures { Finds (oversized classes.now (placed_view placed.now)) result }
 {
     let constant = &placed.constant;
-    let Some(tree) = tree_over(alloc, classes, constant)? else {
+    let Some(cell) = made_over(alloc, classes, constant)? else {
         return Ok(());
     };
-    if is_moderate(&tree) {
+    if is_moderate(&cell) {
         return Ok(());
     }
     Err(refused(placed, Code::AspectLimit, constant.at))

@@ -3,29 +3,55 @@
 ghost use Rattle.std.specs.Prelude.{◌≡◌, map, position, string_bytes, IfOk, OnOk};
 ghost use Rattle.std.specs.Str.{bytes_eq};
 ghost use Rattle.at_model.specs.Declarations.{class_named};
-ghost use Rattle.at_class.specs.Grammar.{declaration_view, grammar_view, part_declaration_view};
+ghost use Rattle.at_class.specs.Grammar.{declaration_view, form_view, grammar_view, part_declaration_view, place_view};
+ghost use Rattle.at_tree.specs.View.{cell_view};
 ghost use Rattle.at_java.specs.Seen.{constant_view};
-ghost use Rattle.at_start.specs.Constants.{component, declaring, part_called, parts_declared, place_in, with_component, with_components};
+ghost use Rattle.at_start.specs.Constants.{bare, bare_class, component, declaring, form_of, part_called, parts_declared, place_in, whole_grammar, with_component};
 ghost use Rattle.at_start.specs.PlacedView.{placed_view};
 
 use super::Placed;
+use super::filling::{fills, is_marked};
 use at_grammar::{ClassDecl, Grammar, PartDecl, Shape};
 use at_java::Constant;
+use at_text::place::Place;
+use at_tree::term::TermCell;
 use std::alloc::{AllocError, Global};
 
-/// The grammar with a component for each constant, or want of memory.
+/// The grammar with a component for each constant that fills none, or want of memory.
 pub fn with_components(
     alloc: Global,
+    marks: &[Place],
     grammar: &Grammar,
     constants: &[Placed],
 ) -> Result<Grammar, AllocError>
-    ensures { IfOk result (λ g. grammar_view g ≡ with_components (grammar_view grammar.now) (map placed_view constants.now)) }
+    ensures { IfOk result (λ g. grammar_view g ≡ whole_grammar (map place_view marks.now) (grammar_view grammar.now) (map placed_view constants.now)) }
 {
     let mut whole = copied(alloc, grammar)?;
     for placed in constants {
-        add_component(alloc, &mut whole, &placed.constant)?;
+        if !fills(marks, grammar, &placed.constant) {
+            add_component(alloc, &mut whole, &placed.constant)?;
+        }
     }
     Ok(whole)
+}
+
+/// The grammar without its marked components, or want of memory.
+pub fn bare(alloc: Global, marks: &[Place], grammar: &Grammar) -> Result<Grammar, AllocError>
+    ensures { IfOk result (λ g. grammar_view g ≡ bare (map place_view marks.now) (grammar_view grammar.now)) }
+{
+    let mut classes = Vec::with_capacity(alloc, grammar.classes.len())?;
+    for class in &grammar.classes {
+        classes.push(bare_class(alloc, marks, class)?)?;
+    }
+    Ok(Grammar { classes })
+}
+
+fn bare_class(alloc: Global, marks: &[Place], class: &ClassDecl) -> Result<ClassDecl, AllocError>
+    ensures { IfOk result (λ d. declaration_view d ≡ bare_class (map place_view marks.now) (declaration_view class.now)) }
+{
+    let mut bare = class_copied(alloc, class)?;
+    bare.parts.retain(|part| !is_marked(marks, part));
+    Ok(bare)
 }
 
 /// The same grammar once more, or want of memory.
@@ -89,9 +115,21 @@ fn component(alloc: Global, constant: &Constant) -> Result<PartDecl, AllocError>
     Ok(PartDecl {
         name,
         kind,
-        shape: Shape::One,
+        shape: shape_of(&constant.cell),
         at: constant.name.at,
     })
+}
+
+/// How a component is written that such a cell fills.
+fn shape_of(cell: &TermCell) -> Shape
+    ensures { form_view result ≡ form_of (cell_view cell.now) }
+{
+    match cell {
+        TermCell::One(_) => Shape::One,
+        TermCell::Many(_) => Shape::Many,
+        TermCell::Empty => Shape::Maybe,
+        TermCell::Holds(_) => Shape::Tok,
+    }
 }
 
 /// Gives the constant's class its component, where there is such a class; or want of memory.

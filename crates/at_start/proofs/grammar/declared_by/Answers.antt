@@ -1,18 +1,16 @@
-use Rattle.std.proofs.Common.{subst, sym, List, ℕ}
-use Rattle.at_class.specs.Faults.{IsRefusedFor}
-use Rattle.at_class.specs.Grammar.{grammar_view}
-use Rattle.at_text.proofs.Recoded.{recoded}
-use Rattle.at_start.specs.GrammarFiles.{Declares, RefusesGrammar, IsGrammarFault, no_text, breaks}
-use Rattle.at_start.specs.declared.code.Code.{Code}
+use Rattle.std.proofs.Common.{[], refl, subst, sym}
+use Rattle.std.specs.Result.{IfErr}
+use Rattle.at_start.specs.GrammarFiles.{IsGrammarFault, IsReadFault, no_text}
+use Rattle.at_start.specs.declared.language.Language.TheVariants.{Profile}
+use Rattle.at_start.proofs.Declaring.{refused_so}
 use Rattle.at_start.proofs.grammar.declared_by.Goals as goal
 
 pub returns-in-Err-clause-refused : goal.returns-in-Err-clause-refused
 returns-in-Err-clause-refused c = no_text c.in-Err.code c.in-Err.ensures
 
-pub returns-in-Err-build-clause-refused : goal.returns-in-Err-build-clause-refused
-returns-in-Err-build-clause-refused c =
-    let bytes = c.args.bytes.now in
-    let ds = grammar_view c.in_ok-grammar.grammar in
-    let declares = subst (λ (t : List ℕ). Declares t ds) c.in-Ok.ensures.1 c.in_ok-grammar.ensures.declares in
-    recoded _ (IsRefusedFor ds) (IsGrammarFault bytes) c.in-Err-build.fault c.map_code.result c.map_code.ensures c.in-Err-build.ensures.refused
-    (λ k d at is first. subst (λ (x : Code). RefusesGrammar bytes x at) (sym is) (breaks ds k at c.in-Ok.ensures.0 declares first)) tt
+pub returns-in-Profile-clause-refused : goal.returns-in-Profile-clause-refused
+returns-in-Profile-clause-refused c =
+    let same = c.in-Ok.ensures.1 in
+    subst (λ l. IfErr c.built.result (IsGrammarFault l c.args.bytes.now)) (sym c.in-Profile.is)
+    (refused_so (Profile c.in-Profile.field-0) c.args.bytes.now c.args.bytes.now [] c.in-Ok.ensures.0 (refl, refl) c.built.result
+    (subst (λ t. IfErr c.built.result (IsReadFault t)) same c.built.ensures.refused))

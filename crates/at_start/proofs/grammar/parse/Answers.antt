@@ -1,7 +1,7 @@
 use Rattle.std.proofs.Common.{subst, sym}
 use Rattle.at_grammar.specs.Faults.{IsFault}
 use Rattle.at_text.proofs.Recoded.{recoded}
-use Rattle.at_start.specs.GrammarFiles.{RefusesGrammar, IsGrammarFault, no_grammar}
+use Rattle.at_start.specs.GrammarFiles.{RefusesRead, IsReadFault, no_grammar}
 use Rattle.at_start.specs.declared.code.Code.{Code}
 use Rattle.at_start.proofs.Declaring.{read_declared}
 use Rattle.at_start.proofs.Naming.{classes_named}
@@ -18,5 +18,5 @@ returns-in-Ok-clause-declares c =
 pub returns-in-Err-clause-refused : goal.returns-in-Err-clause-refused
 returns-in-Err-clause-refused c =
     let text = c.args.text.now in
-    recoded _ (IsFault text) (IsGrammarFault text) c.in-Err.fault c.map_code.result c.map_code.ensures c.in-Err.ensures.fault
-    (λ k d at is fault. subst (λ (x : Code). RefusesGrammar text x at) (sym is) (no_grammar k at c.requires fault)) tt
+    recoded _ (IsFault text) (IsReadFault text) c.in-Err.fault c.map_code.result c.map_code.ensures c.in-Err.ensures.fault
+    (λ k d at is fault. subst (λ (x : Code). RefusesRead text x at) (sym is) (no_grammar k at fault)) tt

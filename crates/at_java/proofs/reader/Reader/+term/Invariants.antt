@@ -30,17 +30,20 @@ decreases-made l = 16 * l.depth + 10
 abbrev pub decreases-list : goal.decreases-list
 decreases-list l = 16 * l.depth + 9
 
+abbrev pub decreases-list_items : goal.decreases-list_items
+decreases-list_items l = 16 * l.depth + 8
+
 abbrev pub decreases-optional : goal.decreases-optional
 decreases-optional l = 16 * l.depth + 9
 
 abbrev pub decreases-elements : goal.decreases-elements
-decreases-elements l = 16 * l.depth + 8
+decreases-elements l = 16 * l.depth + 7
 
 abbrev pub decreases-added : goal.decreases-added
-decreases-added l = 16 * l.depth + 7
+decreases-added l = 16 * l.depth + 6
 
 abbrev pub decreases-child : goal.decreases-child
-decreases-child l = 16 * l.depth + 6
+decreases-child l = 16 * l.depth + 5
 
 abbrev pub invariant-cells-loop-more : goal.invariant-cells-loop-more
 invariant-cells-loop-more l = items (argument (term l.depth)) max_arguments (left l.fn.self.cursor.rest.now)

@@ -1,0 +1,8 @@
+use Rattle.std.proofs.Common.{◌≡◌, map, take}
+use Rattle.std.specs.Prelude.{min}
+use Rattle.at_model.specs.Trees.{to_trees, trees_depth}
+use Rattle.at_class.specs.TreeView.{tree_view}
+use Rattle.at_start.proofs.constants.shaping.all_depth.Given as goal
+
+abbrev pub invariant-loop-tree : goal.invariant-loop-tree
+invariant-loop-tree l = l.deepest ≡ min (trees_depth (to_trees (map tree_view (take l.tree-index l.trees)))) 18446744073709551615
