@@ -4,7 +4,7 @@ from __future__ import annotations
 from pathlib import Path
 from typing import Any, Dict, List, Optional
 
-from attrd.authoring import Finding, Meaning, Place, Specification, completions
+from attrd.authoring import Finding, Meaning, Names, Place, Specification, completions
 from attrd.authoring.aspect_tree import Declaration
 from attrd_lsp.positions import Span, Text
 
@@ -48,16 +48,23 @@ def definition(folder: Folder, path: Path, offset: int) -> List[Json]:
 
 
 def equations(folder: Folder, path: Path, offset: int) -> List[Json]:
-    """Where the equations of the attribute at an offset stand."""
+    """Where the equations of the attribute at an offset stand, or the constant of a component."""
     names = folder.names()
     meaning = names.at(str(path), offset)
-    found: List[Place] = []
+    found = _constants(names, meaning)
     for placed in _declarations(folder, meaning):
         for it in names.specification.equations(placed):
             word = it.declaration.name
             if word is not None and Place(it.file, word.at, word.end) not in found:
                 found.append(Place(it.file, word.at, word.end))
     return [location_of(folder, it) for it in found]
+
+
+def _constants(names: Names, meaning: Optional[Meaning]) -> List[Place]:
+    """Where the constants of what is meant have their names."""
+    words = ((it.file, it.declaration.name) for it in names.specification.declarations if it.declaration.constant is not None)
+    places = [Place(file, word.at, word.end) for file, word in words if word is not None]
+    return [] if meaning is None else [it for it in meaning.declared if it in places]
 
 
 def _declarations(folder: Folder, meaning: Optional[Meaning]) -> List[Declaration]:

@@ -61,12 +61,12 @@ class Desk:
 
     Where the aspects don't declare what the language says, `checks` is None, and `why` the reason."""
 
-    def __init__(self, server: attrd.Server, files: Sequence[Source], tree: attrd.Node, posts: bool) -> None:
-        """`files` are the grammar and the aspects of the program. Raises GrammarFault."""
-        self.server, self.files, self.posts = server, tuple(files), posts
+    def __init__(self, server: attrd.Server, files: Sequence[Source], tree: attrd.Node, posts: bool, forms: str = "") -> None:
+        """`files` are the grammar and the aspects of the program, which reads these forms. Raises GrammarFault."""
+        self.server, self.files, self.posts, self.forms = server, tuple(files), posts, forms
         self.made: Callable[[], attrd.Node] = lambda: tree
         self.size = tree.size
-        self.grammar = attrd.Grammar.read(files[0].text)
+        self.grammar = attrd.Grammar.read(files[0].text, forms)
         self.checks: Optional[attrd.Diagnostics] = None
         self.why = ""
         self.session = server.session(SESSION)
@@ -86,7 +86,7 @@ class Desk:
     @property
     def specification(self) -> Specification:
         """What the files declare."""
-        return specified(self.files)
+        return specified(self.files, self.forms)
 
     def show(self, tree: attrd.Node) -> List[Edit]:
         """Makes this the program's tree, by few edits, which are returned. They go out with the lines that come next.
@@ -179,9 +179,9 @@ class Desk:
 
 
 @lru_cache(maxsize=2)
-def specified(files: Tuple[Source, ...]) -> Specification:
-    """What these files declare, the grammar and the aspects."""
-    return Specification(files[0], files[1:])
+def specified(files: Tuple[Source, ...], forms: str) -> Specification:
+    """What these files declare, the grammar and the aspects, where these forms are read."""
+    return Specification(files[0], files[1:], forms)
 
 
 @lru_cache(maxsize=1 << 14)

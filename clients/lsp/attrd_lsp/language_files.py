@@ -40,7 +40,7 @@ class LanguageFiles:
         try:
             text = self.text(self.language.grammar)
             if text not in self.read:
-                self.read = {text: Reader(self.language, attrd.Grammar.read(text))}
+                self.read = {text: Reader(self.language, attrd.Grammar.read(text, self.language.forms))}
             return self.read[text]
         except attrd.AttrdError:
             return Reader(self.language)
@@ -73,14 +73,14 @@ class LanguageFiles:
             fault.file = self.named(fault.file)
             raise
         texts = [authoring.Source(it.name, self.text(it)) for it in self.language.files]
-        desk = Desk(server, texts, tree, "--slice" in options)
+        desk = Desk(server, texts, tree, "--slice" in options, self.language.forms)
         desk.checks, desk.why = checks, why
         return desk
 
     def checks(self) -> Tuple[Optional[attrd.Diagnostics], str]:
         """What tells problems, or None and why nothing does. Files with faults are the program's to refuse."""
         try:
-            grammar = attrd.Grammar.read(self.text(self.language.grammar))
+            grammar = attrd.Grammar.read(self.text(self.language.grammar), self.language.forms)
         except attrd.GrammarFault:
             return None, "the grammar has a fault"
         names = [*self.language.errors, *self.language.warnings]

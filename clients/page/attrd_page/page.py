@@ -35,7 +35,7 @@ class Page:
         self.source = source
         self.hub, self.files = hub, list(files)
         self.program = None if program is None else [program, *forms_options(forms)]
-        self.grammar = Grammar.load(files[0])
+        self.grammar = Grammar.load(files[0], forms)
         sources = [Source(FilePath(name).name, read_file(name).decode("utf-8", "replace")) for name in (files[0], *files[2:])]
         self.specification = Specification(sources[0], sources[1:], forms)
         self.attributes: List[Attribute] = [it for source in sources[1:] for it in attributes_of(source.text)]

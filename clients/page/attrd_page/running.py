@@ -90,7 +90,7 @@ def _source(given: argparse.Namespace) -> SourceText:
     """The source text, as it stands in its file. Raises AttrdError where it, the parser or the grammar can't be loaded."""
     from .source import SourceText  # loads what makes edits of texts, which few pages have
 
-    return SourceText.load(given.parser, Grammar.load(given.grammar), given.source)
+    return SourceText.load(given.parser, Grammar.load(given.grammar, given.forms), given.source)
 
 
 def _tree_of_source(given: argparse.Namespace, folder: FilePath) -> str:

@@ -44,7 +44,7 @@ def _tell(given: argparse.Namespace, files: Dict[str, bytes]) -> int:
     found, following = check(grammar, aspects, given.program, given.forms)
     told = list(found)
     if given.tree is not None:
-        of_tree = check_tree(grammar, given.tree, files[given.tree], given.program, given.nodes)
+        of_tree = check_tree(grammar, given.tree, files[given.tree], given.program, given.nodes, given.forms)
         told += [] if of_tree is None else [of_tree]
     for it in told:
         print(it)

@@ -24,7 +24,8 @@ SENTENCES: Dict[str, Tuple[str, str]] = {
            "Name the component, as in `Left:Expr`; inherited components count, and Child, Parent, NumChild can't be used."),
     "G6": ("A token has a kind that isn't one.", "A token's kind is String, int or boolean."),
     "G7": ("This form of JastAdd is left out here.",
-           "Nonterminal attributes and other Java types can't be used: make it a child or a String."),
+           "Nonterminal attributes and other Java types can't be used: make it a child or a String. With `--forms jastadd` `/X/`, `/Name:X/` "
+           "and the same with a star are read: constants of aspects fill them."),
     "G8": ("The grammar is over a limit.", "There may be 1,000 classes, 32 components in a class (inherited ones count), and 4,194,304 bytes."),
     "G9": ("The file declares no class.", "The first class that is declared is that of the root."),
     "J1": ("No aspect goes on with what stands here.",
@@ -59,6 +60,11 @@ SENTENCES: Dict[str, Tuple[str, str]] = {
     "F7": ("A node doesn't fit the grammar.", "A node has a cell for each component, inherited ones first."),
     "F12": ("The tree is over a limit.", "There may be 65,536 nodes, 4,096 bytes in a token's text, and 4,194,304 in the file; `--nodes` has more nodes, and 64 bytes for each."),
 }
+
+
+# What a J7 in a grammar says.
+UNFILLED = ("No constant fills this component between slashes.",
+            "Write one in an aspect, as `syn nta X C.getName() = new X();`, and of a list `syn nta List<X> C.getNameList() = new List<X>();`.")
 
 
 @dataclass(frozen=True)
@@ -116,7 +122,7 @@ def explain(fault: Union[StartFault, GrammarFault], files: Sequence[Union[str, "
     if code.startswith("F"):
         return _of_tree(fault, file, data, names[0] if names else None, nodes)
     text = data.decode("utf-8", "replace")
-    sentence, hint = SENTENCES[code]
+    sentence, hint = UNFILLED if code == "J7" and names[:1] == [file] else SENTENCES[code]
     line, column = fault.line or 1, fault.column or 1
     lines = text.split("\n")
     source = lines[line - 1] if line <= len(lines) else ""
@@ -138,7 +144,8 @@ def _of_tree(fault: Union[StartFault, GrammarFault], file: str, data: bytes, gra
     code, name = fault.code or "", fault.name or ""
     sentence, hint = SENTENCES[code]
     try:
-        found = fault_of_tree(data, None if grammar is None else Grammar.load(grammar), nodes)
+        # the program took the grammar, so what stands between slashes in it was read
+        found = fault_of_tree(data, None if grammar is None else Grammar.load(grammar, "jastadd"), nodes)
     except AttrdError:
         found = None
     if found is None:

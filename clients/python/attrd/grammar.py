@@ -24,21 +24,24 @@ class Shape(Enum):
 
 @dataclass(frozen=True)
 class Part:
-    """A component: `kind` is a class, or the kind of a token: String, int or boolean."""
+    """A component: `kind` is a class, or the kind of a token: String, int or boolean. In one that `is_fixed` stands what a constant of an
+    aspect has written down; between slashes a grammar has such components."""
 
     name: str
     shape: Shape
     kind: str
+    is_fixed: bool = False
 
     def __str__(self) -> str:
         named = "" if self.name == self.kind else self.name + ":"
         form = {Shape.CHILD: "{}{}", Shape.LIST: "{}{}*", Shape.OPTIONAL: "[{}{}]", Shape.TOKEN: "<{}{}>"}[self.shape]
-        return form.format(named, self.kind)
+        return ("/{}/" if self.is_fixed else "{}").format(form.format(named, self.kind))
 
 
 @dataclass(frozen=True)
 class ClassOf:
-    """A class of nodes. `own` are the components that it declares, `parts` all of them, inherited ones first."""
+    """A class of nodes. `own` are the components that it declares, those between slashes among them; `parts` are all that have a cell in
+    terms, and `fixed` those between slashes, which have none, both with inherited ones first. `places` numbers `parts` by their names."""
 
     name: str
     is_abstract: bool
@@ -46,9 +49,10 @@ class ClassOf:
     own: Tuple[Part, ...]
     parts: Tuple[Part, ...]
     places: Dict[str, int] = field(compare=False, repr=False)
+    fixed: Tuple[Part, ...] = ()
 
     def part(self, name: str) -> Optional[Part]:
-        """The component of this name."""
+        """The component of this name, where it has a cell in terms."""
         at = self.places.get(name)
         return None if at is None else self.parts[at]
 
@@ -67,16 +71,17 @@ class Grammar:
         self._spelled: Optional[Dict[str, Node]] = None
 
     @staticmethod
-    def read(text: str) -> Grammar:
-        """The grammar that the text declares. Raises GrammarFault, with the code and the place that the server tells."""
+    def read(text: str, forms: str = "") -> Grammar:
+        """The grammar that the text declares, where these forms are read: with `jastadd` components between slashes are. Raises GrammarFault,
+        with the code and the place that the server tells."""
         from .grammar_reader import read_grammar
-        return read_grammar(text)
+        return read_grammar(text, forms)
 
     @staticmethod
-    def load(file: Union[str, "os.PathLike[str]"]) -> Grammar:
-        """The grammar of a file. Raises GrammarFault, or AttrdError where the file can't be read."""
+    def load(file: Union[str, "os.PathLike[str]"], forms: str = "") -> Grammar:
+        """The grammar of a file, where these forms are read. Raises GrammarFault, or AttrdError where the file can't be read."""
         from .grammar_reader import read_grammar_bytes
-        return read_grammar_bytes(read_file(file))
+        return read_grammar_bytes(read_file(file), forms)
 
     def _chain(self, name: str) -> Tuple[str, ...]:
         chain: List[str] = []
@@ -112,8 +117,12 @@ class Grammar:
         return known
 
     def parts(self, name: str) -> Tuple[Part, ...]:
-        """The components of a class, inherited ones first. Raises UnknownName where it isn't declared."""
+        """The components of a class that have a cell in terms, inherited ones first. Raises UnknownName where it isn't declared."""
         return self.class_named(name).parts
+
+    def components(self, name: str) -> Tuple[Part, ...]:
+        """All components of a class, those between slashes among them, inherited ones first. Raises UnknownName where it isn't declared."""
+        return tuple(part for it in reversed(self.ancestors(name)) for part in self.classes[it].own)
 
     def make(self, name: str, *cells: Any, **named: Any) -> Node:
         """A checked node: cells in order, or by the names of the components.
@@ -130,10 +139,17 @@ class Grammar:
             else:
                 raise TermFault("/", f"{name} has no cell for {part}")
         if named:
-            raise TermFault("/", f"{name} has no component {next(iter(named))}, or it is given twice")
+            raise TermFault("/", self._not_taken(known, next(iter(named))))
         node = Node(name, *given)
         self.check(node, name)
         return node
+
+    @staticmethod
+    def _not_taken(known: ClassOf, part: str) -> str:
+        """Why a cell of this name can't be given."""
+        fixed = next((it for it in known.fixed if it.name == part), None)
+        return f"{known.name} has no cell for {fixed}: a constant stands there" if fixed is not None \
+            else f"{known.name} has no component {part}, or it is given twice"
 
     def check(self, node: Node, wanted: Optional[str] = None, nodes: int = TREE_NODES) -> None:
         """Whether the tree fits the grammar, under a class (the start class where none is named), and has no more nodes than that.
@@ -151,11 +167,14 @@ class Grammar:
         _Check(self).tree(node, wanted)
 
     def cell(self, node: Node, part: str) -> Cell:
-        """What stands in a component of a node that fits. Raises UnknownName where its class has no such component."""
-        at = self.class_named(node.name).places.get(part)
-        if at is None:
-            raise UnknownName(f"{node.name} has no component {part}")
-        return node.cells[at]
+        """What stands in a component of a node that fits. Raises UnknownName where its class has no such component, or a constant stands
+        there, which no term has."""
+        known = self.class_named(node.name)
+        at = known.places.get(part)
+        if at is not None:
+            return node.cells[at]
+        is_fixed = any(it.name == part for it in known.fixed)
+        raise UnknownName(f"a constant stands in {part} of {node.name}: ask the server" if is_fixed else f"{node.name} has no component {part}")
 
     def node_at(self, tree: Node, path: Path) -> Optional[Node]:
         """The node to which a path leads in a tree that fits, or None."""

@@ -2,7 +2,7 @@
 from __future__ import annotations
 
 from dataclasses import dataclass, field
-from typing import Dict, List, Optional, Set, Tuple
+from typing import Dict, List, NamedTuple, Optional, Set, Tuple
 
 from .errors import GrammarFault, text_of
 from .grammar import ClassOf, Grammar, Part, Shape
@@ -13,6 +13,16 @@ FILE_BYTES, CLASSES, COMPONENTS = 4_194_304, 1_000, 32
 TOKEN_KINDS = ("String", "int", "boolean")
 
 
+class Component(NamedTuple):
+    """A component as it is written: its name, and the word of its class or of its kind, which are one where it has no name of its own. One
+    that `is_fixed` stands between slashes."""
+
+    name: Word
+    shape: Shape
+    kind: Word
+    is_fixed: bool = False
+
+
 @dataclass
 class Declared:
     """A class as it is written."""
@@ -20,15 +30,44 @@ class Declared:
     name: Word
     is_abstract: bool
     above: Optional[Word]
-    parts: List[Tuple[Word, Shape, Word]] = field(default_factory=list)
+    parts: List[Component] = field(default_factory=list)
+
+
+def without_slashes(words: List[Word]) -> Tuple[List[Word], Set[int]]:
+    """The words without the slashes round `X`, `Name:X`, `X*` and `Name:X*`, and the offsets of the words behind the first ones."""
+    found: List[Word] = []
+    marks: Set[int] = set()
+    at = 0
+    while at < len(words):
+        end = _behind_name(words, at + 1) if words[at].text == "/" else None
+        if end is not None:
+            marks.add(words[at + 1].at)
+            found += words[at + 1:end]
+        else:
+            found.append(words[at])
+        at = at + 1 if end is None else end + 1
+    return found, marks
+
+
+def _behind_name(words: List[Word], at: int) -> Optional[int]:
+    """The number of the slash behind a child or a list that begins at a word; None where there is none."""
+    texts, kinds = [it.text for it in words[at:at + 5]], [it.kind for it in words[at:at + 5]]
+    if kinds[:1] != ["name"]:
+        return None
+    behind = 3 if texts[1:2] == [":"] and kinds[2:3] == ["name"] else 1
+    behind += texts[behind:behind + 1] == ["*"]
+    return at + behind if texts[behind:behind + 1] == ["/"] else None
 
 
 class GrammarReader(WordReader):
-    """Reads class declarations."""
+    """Reads class declarations, where these forms are read: with `jastadd` components may stand between slashes."""
 
-    def __init__(self, scan: Scan) -> None:
+    def __init__(self, scan: Scan, forms: str = "") -> None:
         super().__init__(scan)
         self.declared: List[Declared] = []
+        self.fixed: Set[int] = set()
+        if "jastadd" in forms.split(","):
+            self.words, self.fixed = without_slashes(self.words)
 
     def file(self) -> List[Declared]:
         """All declarations. Raises GrammarFault."""
@@ -49,7 +88,8 @@ class GrammarReader(WordReader):
             self.want("sign", ";")
         return declared
 
-    def part(self) -> Tuple[Word, Shape, Word]:
+    def part(self) -> Component:
+        """The next component. Raises GrammarFault."""
         if self.next.kind == "sign" and self.next.text == "/":
             raise self.scan.fault("form left out", self.next.at, "G7")
         if self.take("sign", "<"):
@@ -57,15 +97,15 @@ class GrammarReader(WordReader):
         if self.take("sign", "["):
             name, kind = self.named()
             self.want("sign", "]")
-            return name, Shape.OPTIONAL, kind
+            return Component(name, Shape.OPTIONAL, kind)
         name, kind = self.named()
-        return name, Shape.LIST if self.take("sign", "*") else Shape.CHILD, kind
+        return Component(name, Shape.LIST if self.take("sign", "*") else Shape.CHILD, kind, name.at in self.fixed)
 
     def named(self) -> Tuple[Word, Word]:
         name = self.want("name")
         return name, self.want("name") if self.take("sign", ":") else name
 
-    def token(self) -> Tuple[Word, Shape, Word]:
+    def token(self) -> Component:
         name = self.want("name")
         kind = Word("reserved", "String", name.at)
         if self.take("sign", ":"):
@@ -73,7 +113,7 @@ class GrammarReader(WordReader):
             if self.next.kind == "sign" and self.next.text in (".", "<"):
                 raise self.scan.fault("form left out", self.next.at, "G7")
         self.want("sign", ">")
-        return name, Shape.TOKEN, kind
+        return Component(name, Shape.TOKEN, kind)
 
 
 class GrammarChecks:
@@ -106,7 +146,7 @@ class GrammarChecks:
     def unknown(self) -> None:
         for it in self.declared:
             used = [it.above] if it.above else []
-            used += [kind for _, shape, kind in it.parts if shape is not Shape.TOKEN]
+            used += [part.kind for part in it.parts if part.shape is not Shape.TOKEN]
             if any(word.text not in self.by_name for word in used):
                 self.refuse("G3", "unknown class", it.name)
 
@@ -122,15 +162,15 @@ class GrammarChecks:
 
     def token_kinds(self) -> None:
         for it in self.declared:
-            for name, shape, kind in it.parts:
-                if shape is Shape.TOKEN and kind.text not in TOKEN_KINDS:
-                    self.refuse("G6", "token kind", name)
+            for part in it.parts:
+                if part.shape is Shape.TOKEN and part.kind.text not in TOKEN_KINDS:
+                    self.refuse("G6", "token kind", part.name)
 
-    def inherited(self, it: Declared) -> List[Tuple[Word, Shape, Word]]:
+    def inherited(self, it: Declared) -> List[Component]:
         above = self.by_name[it.above.text] if it.above else None
         return self.all_parts(above) if above else []
 
-    def all_parts(self, it: Declared) -> List[Tuple[Word, Shape, Word]]:
+    def all_parts(self, it: Declared) -> List[Component]:
         chain: List[Declared] = []
         above: Optional[Declared] = it
         while above is not None:
@@ -140,8 +180,9 @@ class GrammarChecks:
 
     def components(self) -> None:
         for it in self.declared:
-            before = [(name.text, shape) for name, shape, _ in self.inherited(it)]
-            for name, shape, _ in it.parts:
+            before = [(part.name.text, part.shape) for part in self.inherited(it)]
+            for part in it.parts:
+                name, shape = part.name, part.shape
                 if name.text in ("Child", "Parent", "NumChild") or any(_clash(name.text, shape, *old) for old in before):
                     self.refuse("G5", "component twice", name)
                 before.append((name.text, shape))
@@ -152,14 +193,16 @@ class GrammarChecks:
                 self.refuse("G8", "limit", it.name)
 
     def class_of(self, it: Declared) -> ClassOf:
-        own = tuple(_part(*part) for part in it.parts)
-        parts = tuple(_part(*part) for part in self.all_parts(it))
+        own = tuple(map(part_of, it.parts))
+        every = tuple(map(part_of, self.all_parts(it)))
+        parts, fixed = tuple(part for part in every if not part.is_fixed), tuple(part for part in every if part.is_fixed)
         places = {part.name: at for at, part in enumerate(parts)}
-        return ClassOf(it.name.text, it.is_abstract, it.above.text if it.above else None, own, parts, places)
+        return ClassOf(it.name.text, it.is_abstract, it.above.text if it.above else None, own, parts, places, fixed)
 
 
-def _part(name: Word, shape: Shape, kind: Word) -> Part:
-    return Part(name.text, shape, kind.text)
+def part_of(written: Component) -> Part:
+    """The component that is written so."""
+    return Part(written.name.text, written.shape, written.kind.text, written.is_fixed)
 
 
 def _clash(name: str, shape: Shape, other: str, other_shape: Shape) -> bool:
@@ -167,20 +210,20 @@ def _clash(name: str, shape: Shape, other: str, other_shape: Shape) -> bool:
             or (other_shape is Shape.LIST and name in ("Num" + other, other + "List")))
 
 
-def read_grammar(text: str) -> Grammar:
-    """The grammar that the text declares. Raises GrammarFault with the server's code and place."""
+def read_grammar(text: str, forms: str = "") -> Grammar:
+    """The grammar that the text declares, where these forms are read. Raises GrammarFault with the server's code and place."""
     if utf8_bytes(text_of("a grammar", text)) > FILE_BYTES:
         raise GrammarFault("G8", "limit", 1, 1)
-    reader = GrammarReader(Scan(text))
+    reader = GrammarReader(Scan(text), forms)
     return GrammarChecks(reader.scan, reader.file()).run()
 
 
-def read_grammar_bytes(content: bytes) -> Grammar:
-    """The grammar of a file's bytes. Raises GrammarFault: G1 at 1:1 where they are no UTF-8."""
+def read_grammar_bytes(content: bytes, forms: str = "") -> Grammar:
+    """The grammar of a file's bytes, where these forms are read. Raises GrammarFault: G1 at 1:1 where they are no UTF-8."""
     if len(content) > FILE_BYTES:
         raise GrammarFault("G8", "limit", 1, 1)
     try:
         text = content.decode("utf-8")
     except UnicodeDecodeError:
         raise GrammarFault("G1", "syntax", 1, 1) from None
-    return read_grammar(text)
+    return read_grammar(text, forms)

@@ -130,7 +130,7 @@ class Prompt:
         texts = [read_file(it).decode("utf-8", "replace") for it in aspects]
         options = forms_options(forms)
         server = start(grammar, tree, *aspects, program=program, options=options, nodes=nodes)
-        known, sources = Grammar.load(grammar), [Source(name, text) for name, text in zip(aspects, texts)]
+        known, sources = Grammar.load(grammar, forms), [Source(name, text) for name, text in zip(aspects, texts)]
         specification = Specification(Source(grammar, read_file(grammar).decode("utf-8")), sources, forms)
         if not faults:
             return Prompt(server, known, specification, None)

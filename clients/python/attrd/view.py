@@ -35,10 +35,12 @@ class View:
         return self.grammar.is_below(self.node.name, name)
 
     def __getitem__(self, part: str) -> Named:
-        """What stands in a component. Raises UnknownName, with the components that there are."""
+        """What stands in a component. Raises UnknownName, with the components that there are; a constant stands in none of a view."""
         try:
             cell = self.grammar.cell(self.node, part)
         except UnknownName:
+            if any(it.name == part for it in self.grammar.class_named(self.node.name).fixed):
+                raise
             known = ", ".join(it.name for it in self.grammar.parts(self.node.name)) or "none"
             raise UnknownName(f"{self.node.name} has no component {part}; it has {known}") from None
         if isinstance(cell, Node):

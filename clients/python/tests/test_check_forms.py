@@ -237,20 +237,24 @@ class Receivers(unittest.TestCase):
 class MadeNodes(unittest.TestCase):
     """What is told of nonterminal attributes where constant ones are read."""
 
-    def test_a_constant_is_no_list(self):
-        for kind, made in (("List<Stmt>", "new List<Stmt>()"), ("List<Stmt>", "null"), ("Opt<Expr>", "new Opt<Expr>()")):
+    def test_lists_and_optionals(self):
+        for kind, made, said in (("List<Stmt>", "new List<Stmt>()", "its name is `get..List`"), ("List<Stmt>", "null", "its name is `get..List`"),
+                                 ("Opt<Expr>", "new Opt<Expr>()", "An optional is none by itself")):
             text = f"aspect A {{ syn nta {kind} Program.known() = {made}; }}"
             found = check(GRAMMAR, [CALC, Source("x.jrag", text)], PROGRAM, "jastadd").findings
             self.assertEqual([(it.code, it.column, it.section) for it in found], [("J10", 20, section(11))], text)
-            self.assertIn("A constant is one node: declare one that has the list", found[0].hint, text)
+            self.assertIn(said, found[0].hint, text)
 
     def test_in_a_grammar(self):
-        for component in ("/Num/", "/One:Num/", "/Num*/"):
+        for component, part in (("/<ID>/", "and no token"), ("/[Num]/", "no optional"), ("/Num", "Between slashes stands a class, with a name"),
+                                ("/Num:One", ""), ("/Num/", None), ("/One:Num/", None), ("/Num*/", None), ("/Many:Num*/", None)):
             grammar = Source("x.ast", f"Program ::= {component};\nNum;\n")
-            for forms, part in (("jastadd", "`syn nta Num Program.getOne() = new Num(1);` is asked as `getOne()`"), ("", "make it a child")):
-                (found,) = check(grammar, [], PROGRAM, forms).findings
-                self.assertEqual((found.code, found.column, found.section), ("G7", 13, section(11)), component)
-                self.assertIn(part, found.hint, component)
+            read = check(grammar, [], PROGRAM, "jastadd").findings
+            self.assertEqual([(it.code, it.column, it.section) for it in read], [] if part is None else [("G7", 13, section(11))], component)
+            self.assertTrue(part is None or part in read[0].hint, component)
+            (found,) = check(grammar, [], PROGRAM).findings
+            self.assertEqual((found.code, found.column, found.section), ("G7", 13, section(11)), component)
+            self.assertIn("With `--forms jastadd` `/X/`, `/Name:X/` and the same with a star are read", found.hint, component)
         text = "aspect A { syn nta Num Program.getOne() = new Num(1); syn int Program.one() = getOne().getValue(); }"
         self.assertEqual(check(GRAMMAR, [CALC, Source("x.jrag", text)], PROGRAM, "jastadd").findings, [])
 

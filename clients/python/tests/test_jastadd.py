@@ -146,6 +146,8 @@ CONSTANTS = """aspect A {
   syn nta C P.j(int n) = new C(n, true); //: J10/11
   syn nta C P.k() = new C(1 + 1, true); //: J10/11
   syn nta List<S> P.l() = new List<S>(); //: J10/11
+  syn nta List<S> P.getLList() { List<S> l = new List<S>(); l.add(new S("x")); return l; }
+  syn nta List<S> P.getMList() { List<S> l = new List<S>(); for (S s : getR().getSs()) l.add(s); return l; } //: J10/11
   syn nta R P.m() { List<S> l = new List<S>(); return new R(l, new Opt()); } //: J10/11
   inh nta C S.n(); eq P.getChild().n() = null; //: J10/11
   syn C P.o() = new C(1, true); //: J10/11
@@ -154,10 +156,12 @@ CONSTANTS = """aspect A {
   eq R.head().i() = 4; //: J3/11
   eq P.nothing().i() = 5; //: J3/0
   syn nta S P.getOne() = new S("1");
-  eq P.getgetOne().i() = 6;
-  eq P.getOne().i() = 7; //: J3/11
+  eq P.getgetOne().i() = 6; //: J3/0
+  eq P.getOne().i() = 7; eq P.getL(int n).i() = n;
   syn int P.p() = getnix().size(); //: J3/0
-  syn int P.q() = gete().i();
+  syn int P.q() = gete().i() + getOne().i() + getNumL() + getNumM() + getL(0).i();
+  syn nta S P.getR() = new S("2"); //: J2/11
+  syn int P.r() { for (S s : getLs()) if (s.i() > 0) return s.i(); return getMList().nix(); }
 }
 """
 # What is wrong with the name of a component, each alone: an equation, what is said, and the beginning of the hint.
@@ -166,9 +170,8 @@ MISNAMED = [
      "the equation is for one of these, or for all nodes below a node above, by `getChild()`."),
     ("eq P.heads().i() = 5;", "P has no component heads. There is head, and 2 more.", ""),
     ("eq R.gets().i() = 7;", "R has no component of the accessor gets. There is getS, getC.", ""),
-    ("syn nta S P.getOne() = new S(\"1\"); eq P.getOne().i() = 8;",
-     "P has no component of the accessor getOne. There is getgetOne, getnone, gethead, getR.",
-     "A name that begins with `get` is that of an accessor: that of this constant is `getgetOne()`."),
+    ("syn nta S P.getOne() = new S(\"1\"); eq P.getgetOne().i() = 8;",
+     "P has no component of the accessor getgetOne. There is getOne, getnone, gethead, getR.", ""),
 ]
 PLANTED = Source("s.ast", "P ::= R; R ::= S* [C]; S ::= <Name>; T : S; C ::= <N:int> <B:boolean>; V ::= <Name>;")
 # Declarations behind `syn nta`, and whether each is a constant.
@@ -177,7 +180,16 @@ WRITTEN = [
     ("R P.a() = new R(new List(), new Opt());", True), ("lazy R P.a() = new R(new List<S>().add(new S(\"\")), new Opt<C>(new C(1, false)));", True),
     ("R P.a() = new R(new List<S>(new S(\"\")), new Opt());", False), ("S P.a() = new S(\"x\" + 1);", False), ("S P.a() = new S(x);", False),
     ("S P.a() = null;", False), ("S P.a();", False), ("S P.a(int n) = new S(\"x\");", False), ("int P.a() = new S(\"x\");", False),
-    ("List<S> P.a() = new List<S>();", False), ("S P.a() = new S(\"x\").b();", False), ("S P.a() { return new S(\"x\"); return null; }", False),
+    ("List<S> P.a() = new List<S>();", False), ("S P.getA() = new S(\"x\");", True), ("List<S> P.getAList() = new List<S>();", True),
+    ("List<S> P.getAList() = new List().add(new S(\"x\")).add(new S(\"y\"));", True), ("List<S> P.getAList() { return new List<S>(); }", True),
+    ("List<S> P.getAList() { List<S> l = new List<S>(); return l; }", True), ("List<S> P.getList() = new List<S>();", False),
+    ("List<S> P.getAList() { List<S> l = new List<S>().add(new S(\"x\")); l.add(new S(\"y\")); l.add(new S(\"z\")); return l; }", True),
+    ("List<S> P.getAList() { List<S> l = new List<S>(); m.add(new S(\"x\")); return l; }", False),
+    ("List<S> P.getAList() { List<S> l = new List<S>(); l.add(x); return l; }", False), ("List<S> P.getA() = new List<S>();", False),
+    ("List<S> P.getAList() { List<S> l = new List<S>(); return m; }", False), ("List<S> P.getAList() { List l = new List(); return l; }", False),
+    ("List<S> P.getAList() { List<S> l = new List(); l.add(new S(\"x\")); return l; }", True), ("List<S> P.getAList() = new S(\"x\");", False),
+    ("S P.getAList() = new List<S>();", False), ("Opt<S> P.getA() = new Opt<S>();", False), ("List P.getAList() = new List();", False),
+    ("List<S> P.getAList(int n) = new List<S>();", False), ("List<List<S>> P.getAList() = new List<List<S>>();", False), ("S P.a() = new S(\"x\").b();", False), ("S P.a() { return new S(\"x\"); return null; }", False),
     ("S P.a() = new List();", False), ("C P.a() = new C(-\"x\", true);", False), ("C P.a() = new C(1 2);", False),
 ]
 

@@ -10,12 +10,13 @@ from ..grammar import Part, Shape
 from ..scanning import Scan
 from .aspect_tree import Declaration, Expression, Form
 from .constant_reader import CONTAINERS
+from .filling import Unfilled
 from .finding import Finding
 from .hints import Hints
 from .mending import Refused
 from .reaching import classes_without, way_without
 from .specification import NODES, Placed, Specification, is_java_kind
-from .ways import OF_CONSTANTS, section
+from .ways import FILL, FILLED_BY_NONE, OF_CONSTANTS, section
 
 _WORD = re.compile(r"\w+|\S|\Z")
 # What a call of Java names: a package, a class and a method.
@@ -51,9 +52,20 @@ class Advice:
             sentence = f"The class {word} is declared already, at {place}."
         elif fault.code == "G1":
             sentence = f"No grammar goes on with {_shown(word)} here."
-        way = self.hints.of_grammar(fault.code, word)
+        way = self.hints.of_grammar(fault.code, word, text[start + len(word):].lstrip()[:1])
         return Finding(self.specification.grammar_file.name, fault.code, fault.name, fault.line, fault.column, start, start + len(word),
                        sentence.strip(), way.hint, section(way.section))
+
+    def of_unfilled(self, it: Unfilled) -> Finding:
+        """The finding of a component between slashes that no constant fills."""
+        file, text = self.specification.grammar_file
+        line, begin = text.count("\n", 0, it.name.at) + 1, text.rfind("\n", 0, it.name.at) + 1
+        way = self.hints.filling(FILLED_BY_NONE if it.meant is None else FILL, it.of, it.part)
+        meant = None if it.meant is None else it.meant.declaration
+        other = "" if it.meant is None or meant is None or meant.name is None \
+            else f" `{meant.name.text}` at {self._line(it.meant.file, meant.start)} is none."
+        return Finding(file, "J7", "class without equation", line, it.name.at - begin + 1, it.name.at, it.name.end,
+                       f"No constant fills {it.of}'s component {it.part}.{other}", way.hint, section(way.section))
 
     def of_aspects(self, refused: Refused) -> Finding:
         """The finding of a fault of the aspects."""
@@ -101,6 +113,8 @@ class Advice:
             return "A class has more than 32 components with this one."
         if refused.sort == "component":
             return f"{self._line_of_component(it)} has a component already of this name, or of a name that doesn't go with it."
+        if refused.sort in ("kind of component", "filled"):
+            return self._of_filling(refused, it)
         if refused.sort == "kind of tree":
             return f"There is no class {word}. {self._near(word, self.specification.classes)}".strip()
         made = [made for made in it.made if made.form is Form.NEW and made.word.text not in CONTAINERS]
@@ -116,11 +130,22 @@ class Advice:
         forms = [f"{known} ::= {' '.join(map(str, grammar.parts(known)))}" for known in dict.fromkeys(made.word.text for made in made) if known in grammar]
         return f"An argument doesn't fit its component: {'; '.join(forms)}."
 
+    def _of_filling(self, refused: Refused, it: Declaration) -> Optional[str]:
+        """What is said of a constant that doesn't fit the component between slashes, or fills one that another constant fills."""
+        part, of = self.specification.filled(it), "" if it.of is None else it.of.text
+        if part is None:
+            return None
+        first = self.specification.constant_in(of, part.name)
+        if refused.sort == "filled" and first is not None:
+            return f"The component {part} of {of} is filled already, at {self._line(first.file, first.declaration.start)}."
+        own = "" if it.tree_kind is None else it.tree_kind.text
+        return f"This is {_article(own + ('' if it.element is None else '*'))}, and the component is {part}."
+
     def _line_of_component(self, it: Declaration) -> str:
         """The class of a constant, or one below it that has a component of that name."""
-        of, name = "" if it.of is None else it.of.text, "" if it.name is None else it.name.text
-        below = self.specification.grammar.concrete_below(of) if of in self.specification.grammar else ()
-        return next((known for known in below if any(part.name == name for part in self.specification.grammar.parts(known))), of)
+        of, grammar = "" if it.of is None else it.of.text, self.specification.grammar
+        below = grammar.concrete_below(of) if of in grammar else ()
+        return next((known for known in below if any(part.name == it.component for part in grammar.components(known))), of)
 
     def _is_somewhere(self, name: str) -> bool:
         known = self.specification

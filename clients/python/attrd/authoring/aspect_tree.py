@@ -90,8 +90,8 @@ class Declaration:
 
     `of` is its class and `name` its attribute; an equation for a component has the word that names it in `getter`, the `accessor` for
     which that stands (`getStmt`), and perhaps the name of an `index`. `is_lazy` is whether it says `lazy`, `is_circular` whether it says
-    `circular [..]`. Where a tree is written down that stands in each node of the class, `constant` is the word `nta`, and the tree is the
-    body. `pieces` are stretches that this profile leaves out (`circular [..]`, `nta`, types of Java). `locals` are the names that are
+    `circular [..]`. Where a tree is written down that stands in each node of the class, or a list of some, `constant` is the word `nta`, the
+    body what is written down, `component` the name of the component in which that stands, and `element` the class of a list's elements. `pieces` are stretches that this profile leaves out (`circular [..]`, `nta`, types of Java). `locals` are the names that are
     bound in its body, each behind the kind that is written in front of it, and `untaken` the offsets of statements in it that aren't
     taken. `made` are all expressions that were read, whole ones and those of what could not be read to its end. Of the form other, `sort`
     says what it is in JastAdd2: method, field, coll and the like, or nothing where that isn't known.
@@ -113,6 +113,8 @@ class Declaration:
     is_lazy: bool = False
     is_circular: bool = False
     constant: Optional[Word] = None
+    component: str = ""
+    element: Optional[Word] = None
     pieces: List[Piece] = field(default_factory=list)
     locals: List[Tuple[Word, Binding]] = field(default_factory=list)
     untaken: List[int] = field(default_factory=list)
@@ -121,5 +123,17 @@ class Declaration:
 
     @property
     def is_declaring(self) -> bool:
-        """Whether it declares an attribute, or what may stand for one: a method, or a collection attribute."""
-        return (self.form in ("syn", "inh") or self.sort in ("method", "coll")) and self.name is not None and self.of is not None
+        """Whether it declares an attribute, or what may stand for one: a method, or a collection attribute. A constant with the name of an
+        accessor declares none: it is asked by that."""
+        return (self.form in ("syn", "inh") or self.sort in ("method", "coll")) and self.name is not None and self.of is not None \
+            and not self.is_named_by_accessor
+
+    @property
+    def is_named_by_accessor(self) -> bool:
+        """Whether it is a constant with the name of an accessor of its component, as `getOne` or `getNamesList`."""
+        return self.constant is not None and self.name is not None and self.component != self.name.text
+
+    @property
+    def tree_kind(self) -> Optional[Word]:
+        """The class of a constant's tree, or of the elements of its list."""
+        return self.element or self.kind

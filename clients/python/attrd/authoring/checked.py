@@ -9,6 +9,7 @@ from typing import Generator, List, NamedTuple, Sequence
 
 from ..errors import GrammarFault, TermFault
 from .advice import Advice
+from .filling import unfilled
 from .finding import Finding
 from .mending import Mending, Refused
 from .refusal import Judge, offset_of
@@ -33,7 +34,9 @@ def checking(grammar: Source, aspects: Sequence[Source], program: str = "attrd",
     Raises AttrdError where the program can't be started, or doesn't know a form.
     """
     specification = Specification(grammar, aspects, forms).with_any_node()
+    advice = Advice(specification)
     found = [_of_grammar(specification, it) for it in specification.whole.faults]
+    found += [advice.of_unfilled(it) for it in unfilled(specification) if aspects and not it.follows]
     found.sort(key=lambda it: it.start)
     if specification.whole.grammar is None:
         return Checked(found, 0)
@@ -43,7 +46,7 @@ def checking(grammar: Source, aspects: Sequence[Source], program: str = "attrd",
     except TermFault as fault:
         endless = Finding(grammar.name, "G", "no finite tree", 1, 1, 0, 0, fault.reason, "Have a list or an optional where the class comes again.")
         return Checked(found or [endless], 0)
-    mending, advice = Mending(specification, judge), Advice(specification)
+    mending = Mending(specification, judge)
     refused: List[Refused] = []
     while aspects and len(refused) < MOST:
         yield

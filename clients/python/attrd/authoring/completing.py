@@ -4,6 +4,7 @@ from __future__ import annotations
 import re
 from typing import Dict, Iterable, Optional, Tuple
 
+from ..grammar import Shape
 from ..scanning import Scan
 from .aspect_tree import Declaration, Expression, Form
 from .constant_reader import CONTAINERS
@@ -12,6 +13,8 @@ from .java_reader import KINDS
 from .specification import Source, Specification
 
 _BEGUN = re.compile(r"\w*\Z")
+# Where the name of a constant stands.
+_CONSTANT = re.compile(r"\bsyn\b[^;={}]*\bnta\b[^;={}]*\Z")
 # Where the class of a constant's node stands.
 _NEW = re.compile(r"\bnew\s+\Z")
 _HEAD = re.compile(r"\b(syn|inh|eq)\s+[^;={}]*\Z")
@@ -107,10 +110,22 @@ class Completing:
             return {**words, **{it: "" for it in ("nta", *PLAIN)}, **kinds} if self._is_jastadd() else words
         if owner is None:
             return self._classes() if head and head[1] == "eq" else kinds
+        empty = self._unfilled(owner[1]) if self._is_jastadd() and _CONSTANT.search(self.front) else {}
+        if empty:
+            return empty
         getters = {name: it.kind for name, it in self.specification.accessors(owner[1]).items() if name == "get" + it.part.name}
         attributes = {} if owner[1] not in self.specification.grammar else self._on(owner[1])
         own = {name: told for name, told in attributes.items() if name not in self.specification.accessors(owner[1])}
         return {**getters, "getChild": "", **own}
+
+    def _unfilled(self, of: str) -> Dict[str, str]:
+        """The names of constants that may fill what a class has between slashes, where none does but one that stands at the place."""
+        own = self.specification.grammar.classes[of].own if of in self.specification.grammar else ()
+        others = [it for file, it in self.specification.declarations if not (file == self.file and it.start <= len(self.front) <= it.end)]
+        filled = {it.component for it in others if it.constant is not None and it.of is not None and it.of.text == of}
+        empty = [it for it in own if it.is_fixed and it.name not in filled]
+        lists = {f"get{it.name}List": f"List<{it.kind}>" for it in empty if it.shape is Shape.LIST}
+        return {**{f"get{it.name}": it.kind for it in empty if it.shape is Shape.CHILD}, **lists}
 
     def _classes(self) -> Dict[str, str]:
         return {name: "class" for name in self.specification.classes}

@@ -13,11 +13,11 @@ class WholeGrammar:
     """A grammar as it is written. `faults` are all that it has, `declared` its classes, `grammar` what is left without what is wrong.
 
     `grammar` is None where no class could be read. `broken` are the names of classes that couldn't be read to their end, and of those
-    that are named and not declared.
+    that are named and not declared. With the form `jastadd` components may stand between slashes.
     """
 
-    def __init__(self, text: str) -> None:
-        reader = _LenientReader(text)
+    def __init__(self, text: str, forms: str = "") -> None:
+        reader = _LenientReader(text, forms)
         reader.read()
         self.declared: List[Declared] = list(reader.declared)
         self.broken = reader.broken
@@ -32,8 +32,8 @@ class WholeGrammar:
 class _LenientReader(GrammarReader):
     """Reads on behind a fault, with the next semicolon."""
 
-    def __init__(self, text: str) -> None:
-        super().__init__(Scan(text, is_lenient=True))
+    def __init__(self, text: str, forms: str) -> None:
+        super().__init__(Scan(text, is_lenient=True), forms)
         self.faults: List[GrammarFault] = []
         self.broken: Set[str] = set()
 
@@ -76,7 +76,7 @@ class _AllChecks(GrammarChecks):
         self.token_kinds()
         self.components()
         for it in self.declared:
-            it.parts = [part for part in it.parts if part[0].at not in self.refused]
+            it.parts = [part for part in it.parts if part.name.at not in self.refused]
         self.limits()
         return Grammar([self.class_of(it) for it in self.declared])
 
@@ -86,8 +86,8 @@ class _AllChecks(GrammarChecks):
             if it.above is not None and it.above.text not in self.by_name:
                 self.refuse("G3", "unknown class", it.above)
                 it.above = None
-            missing = [kind for _, shape, kind in it.parts if shape is not Shape.TOKEN and kind.text not in self.by_name]
+            missing = [part.kind for part in it.parts if part.shape is not Shape.TOKEN and part.kind.text not in self.by_name]
             for kind in missing:
                 self.refuse("G3", "unknown class", kind)
             self.missing.update(kind.text for kind in missing)
-            it.parts = [part for part in it.parts if part[2] not in missing]
+            it.parts = [part for part in it.parts if part.kind not in missing]

@@ -5,13 +5,14 @@ import re
 from typing import List, Optional
 
 from ..explaining import SENTENCES
-from ..grammar import Shape
+from ..grammar import Part, Shape
 from .aspect_tree import Declaration, Expression, Form, Piece
+from .filling import filler
 from .mending import Refused
 from .specification import NODES, Placed, Specification, is_java_kind
-from .ways import (AT_ROOT, BELOW_ROOT, BY_ACCESSOR, BY_KINDS, COMPUTED, EQUATION_OF_ANY, FIFTH, FORMS, IN_JASTADD, JAVA_TYPES, KIND_OF_ANY,
-                   LIST_CONSTANT, NAMES, NO_VALUE, NUMBERS, OF_CONSTANTS, OF_JAVA, OF_LISTS, OF_OBJECTS, OF_OTHERS, OF_SETS, ONE_LINE,
-                   OTHER_KIND, OTHERWISE, OVERLOADED, OVERRIDDEN, TOO_MANY, TWO_FORMS, TWO_TYPES, Way, way_of_body)
+from .ways import (AT_ROOT, BELOW_ROOT, BY_KINDS, COMPUTED, EQUATION_OF_ANY, FIFTH, FILL, FORMS, IN_JASTADD, JAVA_TYPES, KIND_OF_ANY,
+                   LIST_CONSTANT, NAMES, NEVER_FILLED, NO_VALUE, NUMBERS, OF_CONSTANTS, OF_JAVA, OF_LISTS, OF_OBJECTS, OF_OTHERS, OF_SETS,
+                   ONE_LINE, OPT_CONSTANT, OTHER_KIND, OTHERWISE, OVERLOADED, OVERRIDDEN, TOO_MANY, TWO_FORMS, TWO_TYPES, Way, way_of_body)
 
 _SEVERAL = re.compile(r"get(\w+)s")
 _OPTIONAL = re.compile(r"get(\w+)Opt")
@@ -26,13 +27,13 @@ class Hints:
     def __init__(self, specification: Specification) -> None:
         self.specification = specification
 
-    def of_grammar(self, code: str, word: str) -> Way:
-        """What helps with a fault of the grammar at a word."""
+    def of_grammar(self, code: str, word: str, behind: str = "") -> Way:
+        """What helps with a fault of the grammar at a word, with the sign that stands behind it."""
         if code == "G2" and word not in NODES:
             return Way(SENTENCES[code][1])
         is_of_node, is_made = word in ("Child", "Parent", "NumChild"), word == "/"
         if code == "G7" and is_made and self._is_jastadd():
-            return IN_JASTADD["component"]
+            return IN_JASTADD[{"<": "component token", "[": "component optional"}.get(behind, "component")]
         numbers = {"G2": 2, "G5": 3 if is_of_node else 15, "G6": 1, "G7": 11 if is_made else 1}
         return Way(SENTENCES[code][1], numbers.get(code, 0))
 
@@ -41,7 +42,8 @@ class Hints:
         otherwise = Way(SENTENCES[refused.code][1])
         it = refused.declaration
         if refused.sort in OF_CONSTANTS:
-            return OF_CONSTANTS[refused.sort]
+            is_of_list = refused.sort == "component" and it is not None and self.specification.meant(it) is not None
+            return OF_CONSTANTS["kind of component" if is_of_list else refused.sort]
         if refused.code == "J10":
             return self._of_form(refused, text) or NAMES.get(word) or OTHERWISE
         if refused.code == "J1":
@@ -74,6 +76,9 @@ class Hints:
 
     def _of_form(self, refused: Refused, text: str) -> Optional[Way]:
         sort, it, piece = refused.sort, refused.declaration, self.piece(refused)
+        meant = None if it is None or sort == "nta" else self.specification.meant(it)
+        if meant is not None and it is not None and it.of is not None:
+            return self.filling(FILL, it.of.text, meant)
         if piece is not None:
             body = way_of_body(sort, text[piece.start:piece.end], self._is_jastadd())
             if body is not None:
@@ -83,11 +88,16 @@ class Hints:
         if sort == "circular" and "circular" in self.specification.forms:
             return FORMS["circular kind" if it is not None and it.kind is not None and it.kind.text != "boolean" else "circular start"]
         if self._is_jastadd() and sort == "nta" and it is not None and it.kind is not None and it.kind.text.partition("<")[0] in NODES:
-            return LIST_CONSTANT
+            return OPT_CONSTANT if it.kind.text.startswith("Opt") else LIST_CONSTANT
         made = _MADE.match(text, refused.offset)
         if sort == "new" and made and made[1] not in (*self.specification.classes, *NODES):
             return OF_OBJECTS
         return IN_JASTADD[sort] if self._is_jastadd() and sort in _OTHERWISE_IN_JASTADD else FORMS.get(sort)
+
+    def filling(self, told: str, of: str, part: Part) -> Way:
+        """What helps where nothing fills a component between slashes, with a constant that would; by what is told around that."""
+        plain = filler(self.specification, of, part)
+        return NEVER_FILLED if plain is None else Way(told.format(plain), 11)
 
     def _of_word(self, refused: Refused, text: str, word: str) -> Optional[Way]:
         """What helps where no aspect goes on with a word."""
@@ -134,8 +144,9 @@ class Hints:
 
     def _of_getter(self, name: str, it: Declaration) -> Optional[Way]:
         """What helps where an equation is for a component that isn't there: for what `nta` declares, or `getStmts`."""
-        if any(placed.declaration.constant is not None for placed in self.specification.named(name)):
-            return OF_OTHERS if it.accessor != name else Way(BY_ACCESSOR.format(f"get{name}()"), 11)
+        if any(f"get{placed.declaration.component}" == it.accessor for placed in self.specification.declarations
+               if placed.declaration.constant is not None):
+            return OF_OTHERS
         if any(piece.sort == "nta" for placed in self.specification.named(name) for piece in placed.declaration.pieces):
             return Way(f"`{name}()` is made by an equation: make it a child in the grammar, and let the equation be for its accessor.", 11)
         return self._of_accessor(it.accessor, None)
@@ -183,9 +194,8 @@ class Hints:
             return None
         if name in NAMES:
             return NAMES[name]
-        grammar = self.specification.grammar
         owners = [of] if of is not None and of in self.specification.classes else list(self.specification.classes)
-        parts = {part.name: part.shape for owner in owners if owner in grammar for part in grammar.parts(owner)}
+        parts = {part.name: part.shape for owner in owners for part in self.specification.parts(owner)}
         several, optional = _SEVERAL.fullmatch(name), _OPTIONAL.fullmatch(name)
         if several and parts.get(several[1]) is Shape.LIST:
             part = several[1]

@@ -9,7 +9,7 @@ from ..grammar import Shape
 from ..scanning import Word
 from .aspect_tree import Binding, Declaration, Expression, Form
 from .java_reader import KINDS
-from .specification import Placed, Specification, component_of
+from .specification import Placed, Specification
 
 # What a name means: a class, a component of a class, an attribute, or a name that is bound in one declaration.
 Key = Tuple[str, ...]
@@ -55,10 +55,10 @@ class Names:
             yield from self._class(file, it.name)
             if it.above is not None:
                 yield from self._class(file, it.above)
-            for name, shape, kind in it.parts:
-                if shape is not Shape.TOKEN:
-                    yield from self._class(file, kind)
-                yield from self._component(file, name, it.name.text, name.text)
+            for part in it.parts:
+                if part.shape is not Shape.TOKEN:
+                    yield from self._class(file, part.kind)
+                yield from self._component(file, part.name, it.name.text, part.name.text)
 
     def _of_aspects(self) -> Iterator[Meaning]:
         for placed in self.specification.declarations:
@@ -69,13 +69,15 @@ class Names:
 
     def _header(self, placed: Placed) -> Iterator[Meaning]:
         file, it = placed
-        kinds = [it.kind, it.of, *(binding.kind for binding in it.parameters)]
+        kinds = [it.tree_kind, it.of, *(binding.kind for binding in it.parameters)]
         for word in kinds:
             if word is not None and word.text not in KINDS:
                 yield from self._class(file, word)
         if it.getter is not None and it.of is not None:
             yield from self._accessor(file, it.getter, it.accessor, it.of.text)
-        if it.name is not None and it.of is not None:
+        if it.name is not None and it.of is not None and self.specification.filled(it) is not None:
+            yield from self._component(file, it.name, it.of.text, it.component)
+        elif it.name is not None and it.of is not None:
             yield from self._attribute(file, it.name, self._declared(placed, it.name.text, it.of.text))
         for binding in [*it.parameters, *([Binding(it.index)] if it.index is not None else [])]:
             yield self._bound(file, binding.name, binding, it)
@@ -120,21 +122,24 @@ class Names:
     def _accessor(self, file: str, word: Word, name: str, of: str) -> Iterator[Meaning]:
         """The meaning of a word that stands for the accessor of that name."""
         accessor = self.specification.accessors(of).get(name)
-        if accessor is not None and accessor.constant is not None:
+        if accessor is not None and accessor.constant is not None and self.specification.filled(accessor.constant.declaration) is None:
             yield from self._attribute(file, word, [accessor.constant])
         elif accessor is not None:
             yield from self._component(file, word, accessor.of, accessor.part.name)
 
     def _component(self, file: str, word: Word, of: str, part: str) -> Iterator[Meaning]:
         known = self.specification.classes.get(of)
-        names = [name for name, _, _ in known.parts if name.text == part] if known is not None else []
+        names = [it.name for it in known.parts if it.name.text == part] if known is not None else []
         if names and of in self.specification.grammar:
-            declared = (_place(self.specification.grammar_file.name, names[0]),)
-            yield Meaning(_place(file, word), ("component", of, part), declared, self.told_of_component(of, part))
+            constant = self.specification.constant_in(of, part)
+            filled = [constant] if constant is not None and self.specification.filled(constant.declaration) is not None else []
+            declared = [(self.specification.grammar_file.name, names[0]), *((it.file, it.declaration.name) for it in filled)]
+            places = tuple(_place(file, name) for file, name in declared if name is not None)
+            yield Meaning(_place(file, word), ("component", of, part), places, self.told_of_component(of, part))
 
     def _declared(self, placed: Placed, name: str, of: str) -> List[Placed]:
         """The declarations for which a declaration or an equation may be, with an attribute's name and a class."""
-        if placed.declaration.is_declaring:
+        if placed.declaration.is_declaring or placed.declaration.constant is not None:
             return [placed]
         count = len(placed.declaration.parameters)
         if placed.declaration.getter is not None:
@@ -165,19 +170,23 @@ class Names:
             return f"class {name}"
         it = grammar.class_named(name)
         above = f" : {it.superclass}" if it.superclass else ""
-        own = f" ::= {' '.join(map(str, it.parts))}" if it.parts else ""
+        every = grammar.components(name)
+        own = f" ::= {' '.join(map(str, every))}" if every else ""
         below = [sub.name for sub in grammar if sub.superclass == name]
         told = f"{'abstract ' if it.is_abstract else ''}{name}{above}{own};"
-        parts = [component_of(it) for it in self.specification.constants(name)]
-        constants = ", ".join(f"{it.kind} {it.name}()" for it in parts)
+        constants = ", ".join(map(_constant_head, self.specification.constants(name)))
         return told + (f"\nconstants: {constants}" if constants else "") + (f"\nbelow it: {', '.join(below)}" if below else "")
 
     def told_of_component(self, of: str, part: str) -> str:
-        """A component and its accessors with their kinds."""
+        """A component and its accessors with their kinds; of one between slashes also the constant that fills it."""
         known = {name: it.kind for name, it in self.specification.accessors(of).items() if it.part.name == part}
-        form = next(it for it in self.specification.grammar.parts(of) if it.name == part)
+        form = next((it for it in self.specification.grammar.components(of) if it.name == part), None)
+        if form is None:
+            return f"{of} {part}"
         spelled = [f"{kind} {name}({'int' if form.shape is Shape.LIST and name == 'get' + part else ''})" for name, kind in known.items()]
-        return f"{of} ::= {form}\n" + "\n".join(spelled)
+        constant = self.specification.constant_in(of, part) if form.is_fixed else None
+        filled = [self.told_of_attribute(constant)] if constant is not None else ["no constant fills it"] if form.is_fixed else []
+        return "\n".join([f"{of} ::= {form}", *spelled, *filled])
 
     def told_of_attribute(self, placed: Placed) -> str:
         """The head of an attribute's declaration, of a constant with its tree, the comment above it, and the classes that have equations."""
@@ -185,8 +194,14 @@ class Names:
         head = re.sub(r"\s+", " ", text[it.start:it.end if it.constant is not None else it.parameters_end or it.end])
         comment = _COMMENT.search(text[:it.start])
         lines = [line.strip().lstrip("/* ").rstrip("*/ ") for line in comment[0].strip().splitlines()] if comment else []
-        by = [_equation_head(equation.declaration) for equation in self.specification.equations(it)]
+        by = [] if it.is_named_by_accessor else [_equation_head(equation.declaration) for equation in self.specification.equations(it)]
         return "\n".join([head, *(line for line in lines if line), *([f"equations: {', '.join(by)}"] if by else [])])
+
+
+def _constant_head(placed: Placed) -> str:
+    """How a constant is asked, with its kind."""
+    it = placed.declaration
+    return f"{'' if it.kind is None else it.kind.text} {'' if it.name is None else it.name.text}()"
 
 
 def _equation_head(it: Declaration) -> str:

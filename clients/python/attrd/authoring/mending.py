@@ -4,12 +4,15 @@ from __future__ import annotations
 from dataclasses import dataclass, replace
 from typing import Dict, List, Optional, Set, Tuple
 
+from ..grammar import Part, Shape
 from ..scanning import Scan, Word
 from .aspect_tree import Declaration, Expression, Form, Piece
+from .constant_reader import component_named
+from .filling import filler, unfilled
 from .java_reader import KINDS
 from .patched import Patched
 from .reaching import classes_without, way_without
-from .refusal import ANY_NODE, TOP, Judge, Refusal, offset_of
+from .refusal import ANY_NODE, OF_GRAMMAR, TOP, Judge, Refusal, offset_of
 from .specification import NODES, Specification, is_class_kind, is_java_kind
 
 # An expression of each kind.
@@ -27,7 +30,8 @@ class Refused:
 
     `declaration` is that in which it stands, None where it stands in none; `expression` the one that is refused, where that is known.
     `follows` is whether it only follows from a fault that was told before. `sort` says which form isn't taken, where that is known: that
-    of a piece, or of the declaration; or what of a constant is refused: its component, its tree, or that it stands in itself.
+    of a piece, or of the declaration; or what of a constant is refused: its component, its tree, that it stands in itself, or how it fills
+    a component between slashes.
     """
 
     file: int
@@ -47,7 +51,9 @@ class Mending:
         self.specification, self.judge = specification, judge
         self.patched = [Patched(it.text) for it in specification.aspects]
         self.names = [it.name for it in specification.aspects]
+        # What stands behind the aspects: constants in the place of those that are missing, and equations above the root.
         self.extra: List[str] = []
+        self._filled: Set[Tuple[str, str]] = set()
         # Names of what was taken away or has another kind in the copy, of attributes with other parameters there, and with equations less.
         self.tainted: Set[str] = set(specification.whole.broken)
         self.retyped: Set[str] = set()
@@ -66,7 +72,11 @@ class Mending:
         self._told: Set[Tuple[int, int, str]] = set()
         self._waiting: List[Refused] = []
         # The first fault is the program's first one, unless that is one of the grammar: it follows from none.
-        self._is_first = not specification.whole.faults
+        missing = unfilled(specification)
+        self._is_first = not specification.whole.faults and not missing
+        for it in missing:
+            if not it.follows:
+                self._fill(it.of, it.part)
 
     def next(self) -> Optional[Refused]:
         """The next fault, which is mended then; None where the program takes what is left. Raises AttrdError."""
@@ -93,6 +103,9 @@ class Mending:
         if it is None or id(it) in self._blanked:
             return self._outside(refusal, offset)
         piece = self._piece(refusal, offset, it)
+        meant = self.specification.meant(it)
+        if meant is not None and (piece is not None or (refusal.code in ("J9", "J12") and not it.pieces)):
+            return self._mend_meant(refusal, offset, it, meant)
         if piece is not None:
             return self._mend_piece(refusal, offset, it, piece)
         sort = self._sort_of_constant(refusal, offset, it)
@@ -117,8 +130,29 @@ class Mending:
         return refusal.file, offset, f"{refusal.code} at"
 
     def _ask(self, patched: List[Patched]) -> Optional[Refusal]:
-        extra = [f"aspect Mended {{ {' '.join(self.extra)} }}"] if self.extra else []
-        return self.judge.refusal([*(it.text for it in patched), *extra])
+        while True:
+            extra = [f"aspect Mended {{ {' '.join(self.extra)} }}"] if self.extra else []
+            refusal = self.judge.refusal([*(it.text for it in patched), *extra])
+            component = self.judge.component_at(refusal.offset) if refusal is not None and refusal.file == OF_GRAMMAR else None
+            if component is None:
+                return refusal
+            self._fill(*component)
+
+    # Constants of components between slashes.
+
+    def _fill(self, of: str, part: Part, file: int = 0, it: Optional[Declaration] = None) -> None:
+        """Has another constant fill a component between slashes, in the place of a declaration where one is given. Where none is found the
+        component goes: what asks for it only follows."""
+        plain = None if (of, part.name) in self._filled else filler(self.specification, of, part)
+        if it is not None:
+            self.patched[file].put(it.start, it.end, plain or " ")
+            self._blanked.add(id(it))
+        elif plain is not None:
+            self.extra.append(plain)
+        self._filled.add((of, part.name))
+        if plain is None:
+            self.judge.drop(of, part.name)
+            self.tainted.update(accessors_of(part))
 
     # Where a fault stands.
 
@@ -193,6 +227,8 @@ class Mending:
         elif piece.sort == "parameter kind":
             self._retype(it, {known.name.text for known in it.parameters if known.kind is not None and known.kind.at == piece.start})
         elif piece.sort in ("nta", "index") and it.body is not None:
+            component = component_named("" if it.name is None else it.name.text, True) if piece.sort == "nta" else ""
+            self.tainted.update(accessors_of(Part(component, Shape.LIST, "")) if component else ())
             if it.kind is not None and is_java_kind(it.kind.text):
                 self._put_kind(refusal.file, it, it.kind)
             self._put_body(refusal.file, it)
@@ -211,22 +247,56 @@ class Mending:
         if it.constant is None or it.name is None or id(it) in self._bodies:
             return ""
         is_named, is_in_body = offset == it.name.at, offset >= it.parameters_end
+        is_kind = it.tree_kind is not None and offset == it.tree_kind.at
         if refusal.code in ("J2", "J11") and is_named:
             return "component"
         if refusal.code in ("J3", "J4") and is_in_body:
             return "tree"
-        if refusal.code == "J3" and it.kind is not None and offset == it.kind.at:
-            return "kind of tree"
+        if refusal.code in ("J3", "J4") and is_kind:
+            return "kind of tree" if refusal.code == "J3" else "kind of component"
+        if refusal.code == "J6" and is_named:
+            return "filled"
         return "itself" if refusal.code == "J10" and is_in_body else ""
 
     def _mend_constant(self, refusal: Refusal, offset: int, it: Declaration, sort: str) -> Refused:
-        """Has an attribute in the place of a constant, so that its class has no such component: what asks for that only follows."""
-        assert it.constant is not None and it.name is not None
-        self.patched[refusal.file].put(it.constant.at, it.constant.end, " ")
-        self._put_body(refusal.file, it)
-        self.tainted.add(f"get{it.name.text}")
+        """Has another constant in the place of one that fills a component between slashes, and of any other one an attribute, so that its class
+        has no such component, or nothing where it declares none: what asks for that only follows."""
+        assert it.constant is not None and it.name is not None and it.of is not None
+        part = self.specification.filled(it)
+        if sort == "filled":
+            self.patched[refusal.file].put(it.start, it.end, " ")
+            self._blanked.add(id(it))
+        elif part is not None:
+            self._fill(it.of.text, part, refusal.file, it)
+        else:
+            self._unplant(refusal, it)
         self._told.update([(refusal.file, it.start, refusal.code), self._key(refusal, offset)])
         return Refused(refusal.file, refusal.code, refusal.name, offset, it, None, False, sort)
+
+    def _unplant(self, refusal: Refusal, it: Declaration) -> None:
+        """Takes a constant away that is a component of its own, or has an attribute in its place."""
+        assert it.constant is not None and it.name is not None
+        if it.is_named_by_accessor:
+            self.patched[refusal.file].put(it.start, it.end, " ")
+            self._blanked.add(id(it))
+        else:
+            self.patched[refusal.file].put(it.constant.at, it.constant.end, " ")
+            self._put_body(refusal.file, it)
+        there = self.specification.grammar.components(it.of.text) if it.of is not None and it.of.text in self.specification.grammar else ()
+        known = {name for part in there for name in accessors_of(part)}
+        self.tainted.update(accessors_of(Part(it.component, Shape.CHILD if it.element is None else Shape.LIST, "")) - known)
+
+    def _mend_meant(self, refusal: Refusal, offset: int, it: Declaration, part: Part) -> Refused:
+        """Has a constant in the place of a declaration that would fill a component between slashes if it were one. Where all of it is read,
+        only that is told which it doesn't fill."""
+        assert it.of is not None
+        piece = self._piece(refusal, offset, it)
+        if it.pieces:
+            self._fill(it.of.text, part, refusal.file, it)
+        else:
+            self.patched[refusal.file].put(it.start, it.end, " ")
+            self._blanked.add(id(it))
+        return Refused(refusal.file, refusal.code, refusal.name, offset, it, None, not it.pieces, "" if piece is None else piece.sort)
 
     def _put_piece(self, file: int, it: Declaration, piece: Piece) -> None:
         self._pieces.add(id(piece))
@@ -319,7 +389,7 @@ class Mending:
             self.patched[file].put(it.name.at, it.name.end, f"{it.name.text}__{it.start}")
             self._taint(it)
             if it.constant is not None:
-                self.tainted.add(f"get{it.name.text}")
+                self.tainted.add(f"get{it.component}")
 
     def _put_any_node(self, it: Declaration) -> bool:
         """Whether what an equation is for is declared for ASTNode or its like alone, of which that is told then; it is put right."""
@@ -581,6 +651,12 @@ class Mending:
         """Whether a declaration had a word that was none, or its attribute has another kind now."""
         declared = self._attribute(it) if it.form == "eq" else it
         return id(it) in self._marred or id(declared) in self._kinds or id(it) in self._kinds
+
+
+def accessors_of(part: Part) -> Set[str]:
+    """The names of the accessors of a component that is a child or a list."""
+    name = part.name
+    return {f"get{name}", *((f"getNum{name}", f"get{name}List", f"get{name}s") if part.shape is Shape.LIST else ())}
 
 
 def _is_of_any_node(it: Declaration) -> bool:

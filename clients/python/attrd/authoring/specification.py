@@ -8,6 +8,7 @@ from ..grammar import ClassOf, Grammar, Part, Shape
 from ..grammar_reader import Declared
 from .aspect_reader import FOLDS, words_of
 from .aspect_tree import Binding, Declaration, Expression, Form
+from .constant_reader import component_named
 from .grammar_faults import WholeGrammar
 from .jastadd_reader import read_aspects
 from .java_reader import KINDS
@@ -37,7 +38,7 @@ class Placed(NamedTuple):
 
 class Accessor(NamedTuple):
     """An accessor: the class that declares the component, the component, and the kind of its value; that of a list is `Stmt*`. Of a
-    component in which a constant stands `constant` is the declaration of that."""
+    component in which a constant stands `constant` is the declaration of that; None where it stands between slashes, and none fills it."""
 
     of: str
     part: Part
@@ -51,7 +52,7 @@ class Specification:
     def __init__(self, grammar: Source, aspects: Sequence[Source], forms: str = "") -> None:
         self.grammar_file, self.aspects = grammar, list(aspects)
         self.forms = words_of(forms)
-        self.whole = WholeGrammar(grammar.text)
+        self.whole = WholeGrammar(grammar.text, forms)
         self.grammar: Grammar = self.whole.grammar or WholeGrammar("Nothing;").grammar  # type: ignore[assignment]
         self.classes: Dict[str, Declared] = {}
         for it in self.whole.declared:
@@ -152,13 +153,34 @@ class Specification:
         return [it for it in found if it is not None]
 
     def constants(self, of: str) -> List[Placed]:
-        """The constants that stand in each node of a class, those of the classes above first."""
+        """The constants that stand in each node of a class in components of their own, those of the classes above first."""
         above = self.grammar.ancestors(of) if of in self.grammar else ()
-        return [placed for it in reversed(above) for placed in self._constants.get(it, ())]
+        return [placed for it in reversed(above) for placed in self._constants.get(it, ()) if self.filled(placed.declaration) is None]
+
+    def filled(self, constant: Declaration) -> Optional[Part]:
+        """The component between slashes that a constant fills: one that its class itself declares."""
+        return None if constant.of is None else self._slashed(constant.of.text, constant.component)
+
+    def _slashed(self, of: str, name: str) -> Optional[Part]:
+        own = self.grammar.classes[of].own if of in self.grammar else ()
+        return next((it for it in own if it.is_fixed and it.name == name), None)
+
+    def constant_in(self, of: str, part: str) -> Optional[Placed]:
+        """The constant that fills a component between slashes of the class that declares it; the first one, where there are several."""
+        return next((it for it in self._constants.get(of, ()) if it.declaration.component == part), None)
+
+    def meant(self, it: Declaration) -> Optional[Part]:
+        """The component between slashes that a declaration would fill if it were a constant, or one that is a list: it is for that class, and
+        has the name of such a constant. None of a constant that fills one."""
+        if it.of is None or it.name is None or it.getter is not None or self.filled(it) is not None:
+            return None
+        names = (component_named(it.name.text, False), component_named(it.name.text, True))
+        found = [self._slashed(it.of.text, name) for name in names if name != it.name.text]
+        return next((part for part in found if part is not None), None)
 
     def parts(self, of: str) -> List[Part]:
         """The components of a class, those in which constants stand of a class that is there among them."""
-        found = list(self.grammar.parts(of)) if of in self.grammar else []
+        found = list(self.grammar.components(of)) if of in self.grammar else []
         return [*found, *(component_of(placed) for placed in self.constants(of) if component_of(placed).kind in self.grammar)]
 
     def accessors(self, of: str) -> Dict[str, Accessor]:
@@ -168,19 +190,24 @@ class Specification:
         return self._accessors[of]
 
     def _accessors_of(self, of: str) -> Iterator[Tuple[str, Accessor]]:
-        for part in self.grammar.parts(of):
+        for part in self.grammar.components(of):
             owner = self.owner(of, part.name)
-            yield f"get{part.name}", Accessor(owner, part, part.kind)
-            if part.shape is Shape.LIST:
-                yield f"getNum{part.name}", Accessor(owner, part, "int")
-                yield f"get{part.name}List", Accessor(owner, part, part.kind + "*")
-                if "jastadd" in self.forms:
-                    yield f"get{part.name}s", Accessor(owner, part, part.kind + "*")
-            elif part.shape is Shape.OPTIONAL:
-                yield f"has{part.name}", Accessor(owner, part, "boolean")
+            yield from self._accessors_to(Accessor(owner, part, part.kind, self.constant_in(owner, part.name) if part.is_fixed else None))
         for placed in self.constants(of):
             part, declared = component_of(placed), placed.declaration
-            yield f"get{part.name}", Accessor("" if declared.of is None else declared.of.text, part, part.kind, placed)
+            yield from self._accessors_to(Accessor("" if declared.of is None else declared.of.text, part, part.kind, placed))
+
+    def _accessors_to(self, plain: Accessor) -> Iterator[Tuple[str, Accessor]]:
+        """The accessors of a component, of which the plain one is given."""
+        name, several = plain.part.name, plain.part.kind + "*"
+        yield f"get{name}", plain
+        if plain.part.shape is Shape.LIST:
+            yield f"getNum{name}", plain._replace(kind="int")
+            yield f"get{name}List", plain._replace(kind=several)
+            if "jastadd" in self.forms:
+                yield f"get{name}s", plain._replace(kind=several)
+        elif plain.part.shape is Shape.OPTIONAL:
+            yield f"has{name}", plain._replace(kind="boolean")
 
     def owner(self, of: str, part: str) -> str:
         """The class that declares a component that a class has."""
@@ -286,10 +313,10 @@ class Specification:
 
 
 def component_of(placed: Placed) -> Part:
-    """The component in which a constant stands."""
+    """The component in which a constant stands, as its declaration has it."""
     it = placed.declaration
-    assert it.name is not None and it.kind is not None
-    return Part(it.name.text, Shape.CHILD, it.kind.text)
+    assert it.tree_kind is not None
+    return Part(it.component, Shape.CHILD if it.element is None else Shape.LIST, it.tree_kind.text, True)
 
 
 def _kinds_of(it: Declaration) -> List[Optional[str]]:

@@ -100,8 +100,16 @@ TWO_TYPES = Way("All `inh` declarations of a name say the same types, and the sa
 NUMBERS = Way("A parameter is a String or a node: a number that is an index is the element, and one that grows on the way down is an "
               "inherited attribute.", 6)
 TOO_MANY = Way("There are two parameters at most: of three one is mostly a node that can be asked, with the others as its arguments.", 8)
-LIST_CONSTANT = Way("A constant is one node: declare one that has the list, `syn nta Block Program.known() = new Block(new List().add(new "
-                    "Print(new Num(1))));`, and ask that for its list.", 11)
+_LIST_WRITTEN = "`syn nta List<Num> Program.getOnesList() = new List<Num>().add(new Num(1));`"
+LIST_CONSTANT = Way(f"A list is written down, and its name is `get..List`: {_LIST_WRITTEN} A body may have it in a local variable, "
+                    "add each node by a statement `l.add(new Num(1));`, and return it; nothing else stands there.", 11)
+OPT_CONSTANT = Way("An optional is none by itself: `syn nta Num Program.getOne() = new Num(1);` is always there, and what isn't there needs no "
+                   "constant.", 11)
+# Where a declaration has the name of a constant that fills a component between slashes, and isn't one; with that constant.
+FILL = "The grammar has it between slashes: write `syn nta`, and behind it what always stands there, as `{}`"
+FILLED_BY_NONE = "A component between slashes is filled by a constant of the aspects: `{}`"
+NEVER_FILLED = Way("A component between slashes is filled by a constant of the aspects, `syn nta X C.getName() = new X();`: its class has to "
+                   "have a finite tree, in which no node has that component.", 11)
 KIND_OF_ANY = Way("`ASTNode` is no kind: name the class that is meant, or declare one abstract class above all others, and name that one.", 2)
 EQUATION_OF_ANY = Way("What holds for all nodes stands with the declaration, `syn int ASTNode.size() = 1;`; a class overrides it by `eq`.", 2)
 FIFTH = Way("There are four parameters at most: of five one is mostly a node that can be asked, with others as its arguments.", 8)
@@ -124,8 +132,10 @@ OF_CONSTANTS: Dict[str, Way] = {
     "tree": Way("An argument stands for each component, inherited ones first, without constants: a literal for a token, `new Y(..)` for a "
                 "child, `new List()` with `.add(new Y(..))` for a list, `new Opt()` or `new Opt(new Y(..))` for an optional.", 11),
     "kind of tree": Way("The kind of a constant is a class of the grammar.", 11),
+    "kind of component": Way("A constant that fills a component between slashes has just its kind, a class for `/X/` and a list for `/X*/`; the "
+                             "node may be one of a class below.", 11),
+    "filled": Way("One constant fills a component between slashes: take one of them out, or give it another name.", 11),
     "itself": Way("What is always there can't go on without an end: declare it for classes of which its own tree has none.", 11)}
-BY_ACCESSOR = "A name that begins with `get` is that of an accessor: that of this constant is `{}`."
 OF_OTHERS = Way("A constant stands in the nodes of its class and of those below it: the equation is for one of these, or for all nodes below a "
                 "node above, by `getChild()`.", 11)
 _EVERYWHERE = "`syn String ASTNode.name() = \"\";`, and each class that would implement it has its own by `eq`."
@@ -133,9 +143,11 @@ _EVERYWHERE = "`syn String ASTNode.name() = \"\";`, and each class that would im
 IN_JASTADD: Dict[str, Way] = {
     "interface": Way(f"Take it out, and declare its methods for all nodes: {_EVERYWHERE} In place of `instanceof` ask a boolean one.", 2),
     "implements": Way(f"Take it out: what the interface has is declared for all nodes, {_EVERYWHERE}", 2),
-    "component": Way("Take it out of the grammar. What is always there is written down in an aspect, as one component more: `syn nta Num "
-                     "Program.getOne() = new Num(1);` is asked as `getOne()`. A token, and what depends on the tree, becomes a `syn "
-                     "lazy` attribute, which answers the value, or what would be asked of the node.", 11),
+    "component": Way("Between slashes stands a class, with a name before it or a star behind it: `/Num/`, `/One:Num/`, `/Ones:Num*/`; a "
+                     "constant of the aspects fills it, `syn nta Num Program.getOne() = new Num(1);`.", 11),
+    "component token": Way("Between slashes stands a class, and no token: take it out, and have a `syn lazy` attribute answer its value.", 11),
+    "component optional": Way("Between slashes stands no optional: what is always there is `/One:Num/`, and of what depends on the tree a `syn "
+                              "lazy` attribute answers what would be asked of the node.", 11),
     "nta": Way(f"What is always there is written down: {_WRITTEN} What depends on the tree is an attribute that answers what would be asked "
                "of the node.", 11),
     "new": Way(f"Equations make no nodes. What is always there is a constant, {_WRITTEN}", 11),
