@@ -36,13 +36,9 @@ def page_files(name):
     return {it[1]: it[2] for it in re.finditer(r"^```file (\S+)\n(.*?)^```$", page_text(name), re.M | re.S)}
 
 
-def refused_files(page, name):
-    """What a page says of files of this name: pairs of a text and what stands behind the arrow."""
-    return [(text, told) for _, text, told in refused_rows(page, name)]
-
-
 def refused_rows(page, name):
-    """The same with the words of the command line: triples of these, options and files, of a text and of what stands behind the arrow."""
+    """What a page says of files of this name: triples of the words of the command line, options and files, of a text and of what stands behind
+    the arrow."""
     whole = page_text(page)
     found = []
     for block in re.finditer(rf"^```refused {re.escape(name)} in ([^\n]*)\n(.*?)^```$", whole, re.M | re.S):

@@ -15,7 +15,7 @@ from attrd.__main__ import main
 from attrd.authoring import Source, Specification, check
 from attrd.authoring.patched import Patched
 from attrd.authoring.refusal import Judge
-from support import CALCULATOR, PROGRAM, SAMPLES, page_files, refused_files, refused_rows
+from support import CALCULATOR, PROGRAM, SAMPLES, page_files, refused_rows
 
 GRAMMAR = Source("calc.ast", (CALCULATOR / "calc.ast").read_text())
 CALC = Source("calc.jrag", (CALCULATOR / "calc.jrag").read_text())
@@ -123,14 +123,15 @@ class Aspects(unittest.TestCase):
 
     def test_each_refused_file_of_the_manual(self):
         """The fault that the program tells is among those that are found, at its place."""
-        count = 0
+        count, pages = 0, page_files("MANUAL.md")
         for words, text, told in refused_rows("MANUAL.md", "x.jrag"):
             found = re.fullmatch(r"(J\d+) .* at (\d+):(\d+)", told)
             if len(text) > 20_000 or "\udcff" in text:
                 continue
             forms = words[1] if words[0] == "--forms" else ""
             files = [*([CALC] if CALC.name in words else []), Source("x.jrag", text)]
-            findings = check(GRAMMAR, files, PROGRAM, forms).findings
+            grammar = next(it for it in words if it.endswith(".ast"))
+            findings = check(GRAMMAR if grammar == "calc.ast" else Source(grammar, pages[grammar]), files, PROGRAM, forms).findings
             if found is None:
                 self.assertEqual((told, findings), ("accepted", []), text)
             else:
@@ -188,9 +189,10 @@ class Grammars(unittest.TestCase):
         self.assertEqual([it.name for it in bad_check(grammar=Source("x.ast", "A ::= A;")).findings], ["no finite tree"])
 
     def test_each_refused_grammar_of_the_manual(self):
-        for text, told in refused_files("MANUAL.md", "x.ast"):
+        for words, text, told in refused_rows("MANUAL.md", "x.ast"):
             if len(text) < 20_000:
-                findings = bad_check(grammar=Source("x.ast", text)).findings
+                aspects = [Source(it, page_files("MANUAL.md")[it]) for it in words if it == "standard.jrag"]
+                findings = check(Source("x.ast", text), aspects, PROGRAM, "jastadd" if "jastadd" in words else "").findings
                 self.assertIn(told.split(" ")[0], [it.code for it in findings], text)
 
 

@@ -161,7 +161,7 @@ CONSTANTS = """aspect A {
   syn int P.p() = getnix().size(); //: J3/0
   syn int P.q() = gete().i() + getOne().i() + getNumL() + getNumM() + getL(0).i();
   syn nta S P.getR() = new S("2"); //: J2/11
-  syn int P.r() { for (S s : getLs()) if (s.i() > 0) return s.i(); return getMList().nix(); }
+  syn int P.r() { for (S s : getLs()) if (s.i() > 0) return s.i(); for (S s : getMList()) if (s.nix()) return 1; return getM(0).i(); } //: J3/0
 }
 """
 # What is wrong with the name of a component, each alone: an equation, what is said, and the beginning of the hint.

@@ -91,7 +91,7 @@ class Declaration:
     `of` is its class and `name` its attribute; an equation for a component has the word that names it in `getter`, the `accessor` for
     which that stands (`getStmt`), and perhaps the name of an `index`. `is_lazy` is whether it says `lazy`, `is_circular` whether it says
     `circular [..]`. Where a tree is written down that stands in each node of the class, or a list of some, `constant` is the word `nta`, the
-    body what is written down, `component` the name of the component in which that stands, and `element` the class of a list's elements. `pieces` are stretches that this profile leaves out (`circular [..]`, `nta`, types of Java). `locals` are the names that are
+    body what is written down, and `component` the name of the component in which that stands; `element` is the class of a list's elements. `pieces` are stretches that this profile leaves out (`circular [..]`, `nta`, types of Java). `locals` are the names that are
     bound in its body, each behind the kind that is written in front of it, and `untaken` the offsets of statements in it that aren't
     taken. `made` are all expressions that were read, whole ones and those of what could not be read to its end. Of the form other, `sort`
     says what it is in JastAdd2: method, field, coll and the like, or nothing where that isn't known.

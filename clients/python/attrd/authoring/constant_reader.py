@@ -27,7 +27,8 @@ class ConstantReader(StatementReader):
         kind = self.java_kind()
         if kind is None:
             raise self.fault()
-        declared.kind, element = kind, self._element(first)
+        declared.kind = kind
+        declared.element = element = self._element(first)
         declared.of = self.want("name")
         self.want("sign", ".")
         declared.name = self.attribute_name()
@@ -39,7 +40,7 @@ class ConstantReader(StatementReader):
         if tree is None:
             self._leave_body(declared, word)
         else:
-            declared.constant, declared.body, declared.component, declared.element = word, tree, component, element
+            declared.constant, declared.body, declared.component = word, tree, component
 
     def _element(self, first: int) -> Optional[Word]:
         """The class of the elements, where just `List<Y>` was read from a word on."""

@@ -141,18 +141,26 @@ class Mending:
     # Constants of components between slashes.
 
     def _fill(self, of: str, part: Part, file: int = 0, it: Optional[Declaration] = None) -> None:
-        """Has another constant fill a component between slashes, in the place of a declaration where one is given. Where none is found the
-        component goes: what asks for it only follows."""
+        """Has another constant fill a component between slashes, in the place of a declaration where one is given, unless yet another one fills
+        it. Where none is found the component goes: what asks for it only follows."""
         plain = None if (of, part.name) in self._filled else filler(self.specification, of, part)
         if it is not None:
-            self.patched[file].put(it.start, it.end, plain or " ")
-            self._blanked.add(id(it))
+            other = self.specification.constant_in(of, part.name)
+            is_filled = (of, part.name) in self._filled or (other is not None and other.declaration is not it)
+            self._put_away(file, it, "" if is_filled or plain is None else plain)
+            if is_filled:
+                return
         elif plain is not None:
             self.extra.append(plain)
         self._filled.add((of, part.name))
         if plain is None:
             self.judge.drop(of, part.name)
             self.tainted.update(accessors_of(part))
+
+    def _put_away(self, file: int, it: Declaration, plain: str = "") -> None:
+        """Puts a text in the place of a whole declaration, of which nothing more is told."""
+        self.patched[file].put(it.start, it.end, plain or " ")
+        self._blanked.add(id(it))
 
     # Where a fault stands.
 
@@ -219,6 +227,10 @@ class Mending:
 
     def _mend_piece(self, refusal: Refusal, offset: int, it: Declaration, piece: Piece) -> Refused:
         """Puts what is plain in the place of a piece. That a name is a reserved word is told once, where it stands first."""
+        empty = self._empty_list(it) if piece.sort == "nta" else None
+        if empty is not None:
+            self._put_away(refusal.file, it, empty)
+            return Refused(refusal.file, refusal.code, refusal.name, offset, it, None, False, piece.sort)
         self._put_piece(refusal.file, it, piece)
         follows = False
         if piece.sort == "kind":
@@ -227,8 +239,6 @@ class Mending:
         elif piece.sort == "parameter kind":
             self._retype(it, {known.name.text for known in it.parameters if known.kind is not None and known.kind.at == piece.start})
         elif piece.sort in ("nta", "index") and it.body is not None:
-            component = component_named("" if it.name is None else it.name.text, True) if piece.sort == "nta" else ""
-            self.tainted.update(accessors_of(Part(component, Shape.LIST, "")) if component else ())
             if it.kind is not None and is_java_kind(it.kind.text):
                 self._put_kind(refusal.file, it, it.kind)
             self._put_body(refusal.file, it)
@@ -239,6 +249,14 @@ class Mending:
             self._reserved.add(word)
         self._told.add((refusal.file, it.start, piece.sort))
         return Refused(refusal.file, refusal.code, refusal.name, offset, it, None, follows, piece.sort)
+
+    def _empty_list(self, it: Declaration) -> Optional[str]:
+        """The empty list that may stand in the place of a constant which is a list that isn't taken, so that what asks for it is looked at."""
+        name, of = "" if it.name is None else component_named(it.name.text, True), "" if it.of is None else it.of.text
+        is_known = it.element is not None and it.element.text in self.specification.grammar and of in self.specification.grammar
+        if not name or not is_known or it.element is None or f"get{name}" in self.specification.accessors(of):
+            return None
+        return filler(self.specification, of, Part(name, Shape.LIST, it.element.text))
 
     # Constants.
 
@@ -264,8 +282,7 @@ class Mending:
         assert it.constant is not None and it.name is not None and it.of is not None
         part = self.specification.filled(it)
         if sort == "filled":
-            self.patched[refusal.file].put(it.start, it.end, " ")
-            self._blanked.add(id(it))
+            self._put_away(refusal.file, it)
         elif part is not None:
             self._fill(it.of.text, part, refusal.file, it)
         else:
@@ -277,14 +294,13 @@ class Mending:
         """Takes a constant away that is a component of its own, or has an attribute in its place."""
         assert it.constant is not None and it.name is not None
         if it.is_named_by_accessor:
-            self.patched[refusal.file].put(it.start, it.end, " ")
-            self._blanked.add(id(it))
+            self._put_away(refusal.file, it)
         else:
             self.patched[refusal.file].put(it.constant.at, it.constant.end, " ")
             self._put_body(refusal.file, it)
-        there = self.specification.grammar.components(it.of.text) if it.of is not None and it.of.text in self.specification.grammar else ()
-        known = {name for part in there for name in accessors_of(part)}
-        self.tainted.update(accessors_of(Part(it.component, Shape.CHILD if it.element is None else Shape.LIST, "")) - known)
+        known = self.specification.grammar.components(it.of.text) if it.of is not None and it.of.text in self.specification.grammar else ()
+        own = Part(it.component, Shape.CHILD if it.element is None else Shape.LIST, "")
+        self.tainted.update(accessors_of(own) - {name for part in known for name in accessors_of(part)})
 
     def _mend_meant(self, refusal: Refusal, offset: int, it: Declaration, part: Part) -> Refused:
         """Has a constant in the place of a declaration that would fill a component between slashes if it were one. Where all of it is read,
@@ -294,8 +310,7 @@ class Mending:
         if it.pieces:
             self._fill(it.of.text, part, refusal.file, it)
         else:
-            self.patched[refusal.file].put(it.start, it.end, " ")
-            self._blanked.add(id(it))
+            self._put_away(refusal.file, it)
         return Refused(refusal.file, refusal.code, refusal.name, offset, it, None, not it.pieces, "" if piece is None else piece.sort)
 
     def _put_piece(self, file: int, it: Declaration, piece: Piece) -> None:

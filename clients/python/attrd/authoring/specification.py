@@ -309,7 +309,10 @@ class Specification:
         if accessor is not None:
             return accessor.kind
         placed = self.attribute(of, name, len(call.arguments)) if of is not None else None
-        return None if placed is None or placed.declaration.kind is None else placed.declaration.kind.text
+        if placed is None or placed.declaration.kind is None:
+            return None
+        element = placed.declaration.element
+        return placed.declaration.kind.text if element is None else f"{element.text}*"
 
 
 def component_of(placed: Placed) -> Part:
