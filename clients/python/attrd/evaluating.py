@@ -160,8 +160,9 @@ class Evaluation:
             above = yield from self.value(among.receiver)
         if not isinstance(above, Path):
             raise Stopped("a fold goes over a list of null")
-        part = among.word.text[len("get"):-len("List")]
-        cell = self.grammar.cell(self._node(above), part)
+        node = self._node(above)
+        part = _listed(self.grammar, node.name, among.word.text)
+        cell = self.grammar.cell(node, part)
         name, count = body.bound[-1].name.text, len(cell) if isinstance(cell, tuple) else 0
         values: List[AskValue] = []
         self._folds += 1
@@ -188,8 +189,15 @@ def _is_too_far(part: Expression, value: AskValue) -> bool:
 
 def _accessor(grammar: Grammar, of: str, name: str) -> Optional[Tuple[str, str]]:
     """The front of an accessor's name and its component, or None where the name is no accessor of the class."""
-    parts = {it.name for it in grammar.parts(of)}
+    parts = {it.name for it in grammar.components(of)}
     return next(((front, name[len(front):]) for front in ("getNum", "has", "get") if name.startswith(front) and name[len(front):] in parts), None)
+
+
+def _listed(grammar: Grammar, of: str, name: str) -> str:
+    """The list of a class that an accessor names: by `List` at its end, or by an `s`, where no list is named otherwise."""
+    whole = name[len("get"):-len("List")]
+    is_whole = name.endswith("List") and any(it.name == whole for it in grammar.components(of))
+    return whole if is_whole else name[len("get"):-len("s")]
 
 
 def _wrapped(number: int) -> int:

@@ -122,7 +122,8 @@ class Grammar:
 
     def components(self, name: str) -> Tuple[Part, ...]:
         """All components of a class, those between slashes among them, inherited ones first. Raises UnknownName where it isn't declared."""
-        return tuple(part for it in reversed(self.ancestors(name)) for part in self.classes[it].own)
+        known = self.class_named(name)
+        return tuple(part for it in reversed(self._above[name]) for part in self.classes[it].own) if known.fixed else known.parts
 
     def make(self, name: str, *cells: Any, **named: Any) -> Node:
         """A checked node: cells in order, or by the names of the components.

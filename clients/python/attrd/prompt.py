@@ -9,6 +9,7 @@ from typing import TYPE_CHECKING, Callable, Dict, List, Optional, Sequence, Text
 
 from . import commands
 from .authoring import Source, Specification
+from .authoring.planting import planted
 from .declarations import Attribute, attributes_of
 from .document import Document
 from .errors import AttrdError
@@ -119,7 +120,7 @@ class Prompt:
         self._session = server.session(999)
         self._document: Optional[Document] = None
         self._marks: Dict[str, int] = {}
-        self.completion = Completion(grammar, attributes, self._tree, self._where)
+        self.completion = Completion(planted(specification), attributes, self._tree, self._where)
 
     @staticmethod
     def start(grammar: str, tree: str, aspects: Sequence[str], program: str, faults: Sequence[str],

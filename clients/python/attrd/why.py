@@ -10,6 +10,7 @@ from typing import Dict, Generator, List, Mapping, NamedTuple, Optional, Tuple
 
 from . import commands
 from .authoring.aspect_tree import Declaration, Expression
+from .authoring.planting import planted
 from .authoring.specification import Placed, Specification
 from .errors import AttrdError
 from .evaluating import Evaluation, Look, Stopped
@@ -131,7 +132,7 @@ class Why:
     """Finds reasons over a specification and a tree of its grammar."""
 
     def __init__(self, specification: Specification, tree: Node) -> None:
-        self.specification, self.tree = specification, tree
+        self.specification, self.grammar, self.tree = specification, planted(specification), tree
 
     def reason_with_circle(self, instance: Instance) -> Asking:
         """The reason as `reason` has it; where the answer is `circular`, with the cycle. Raises NoReason."""
@@ -162,7 +163,7 @@ class Why:
         return Circle(tuple(instances), circular, tuple(told for is_circular, told in named.values() if not is_circular))
 
     def _declaration(self, instance: Instance) -> Optional[Placed]:
-        node = self.specification.grammar.node_at(self.tree, instance.path)
+        node = self.grammar.node_at(self.tree, instance.path)
         return None if node is None else self.specification.attribute(node.name, instance.attribute, len(instance.arguments))
 
     def _place(self, placed: Placed) -> str:
@@ -181,7 +182,7 @@ class Why:
         bound: Dict[str, AskValue] = {known.name.text: value for known, value in zip(it.parameters, instance.arguments)}
         if it.index is not None and index is not None:
             bound[it.index.text] = index
-        evaluation = Evaluation(self.specification.grammar, self.tree, at, bound, bounds.looks)
+        evaluation = Evaluation(self.grammar, self.tree, at, bound, bounds.looks)
         stopped = ""
         steps: List[Step] = []
         try:
@@ -218,7 +219,7 @@ class Why:
 
     def _equation(self, instance: Instance) -> Tuple[Placed, Path, Optional[int]]:
         """The equation that gives an instance, the node for which it is evaluated, and the index of the element below that."""
-        node = self.specification.grammar.node_at(self.tree, instance.path)
+        node = self.grammar.node_at(self.tree, instance.path)
         if node is None:
             raise NoReason(f"there is no node at {instance.path}")
         declared = self.specification.attribute(node.name, instance.attribute, len(instance.arguments))
@@ -228,13 +229,13 @@ class Why:
         if declared.declaration.form == "inh":
             return self._above(instance, found)
         by_class = {it.declaration.of.text: it for it in found if it.declaration.of is not None}
-        nearest = next((by_class[it] for it in self.specification.grammar.ancestors(node.name) if it in by_class), None)
+        nearest = next((by_class[it] for it in self.grammar.ancestors(node.name) if it in by_class), None)
         if nearest is None:
             raise NoReason(f"{node.name} comes to no equation for {instance.attribute}")
         return nearest, instance.path, None
 
     def _above(self, instance: Instance, found: List[Placed]) -> Tuple[Placed, Path, Optional[int]]:
-        grammar, path = self.specification.grammar, instance.path
+        grammar, path = self.grammar, instance.path
         while path.steps:
             step, path = path.steps[-1], path.parent
             node = grammar.node_at(self.tree, path)

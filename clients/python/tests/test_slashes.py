@@ -5,8 +5,12 @@ import attrd
 from attrd import Grammar, Node
 from attrd.authoring import Names, Source, Specification, check, completions, searches
 from attrd.authoring.filling import filler, unfilled
+from attrd.authoring.planting import planted
 from attrd.authoring.refusal import written
 from attrd.grammar import Shape
+from attrd.prompt import Completion
+from attrd.replies import Value
+from attrd.why import Why, read_instance
 from support import PROGRAM
 
 TEXT = "P ::= A /X/ /Name:X/ /Y*/ /Names:Y*/ B;\nA; B; X ::= <N>; Y; Z : Y; abstract Q : P ::= /Own:Y/ <T>; R : Q;\n"
@@ -207,6 +211,66 @@ class Filling(unittest.TestCase):
                          [("P", "Name", TEXT.index("Name"), True, False), ("P", "Y", TEXT.index("Y*"), True, True),
                           ("P", "Names", TEXT.index("Names"), False, False), ("Q", "Own", TEXT.index("Own"), False, False)])
         self.assertEqual(unfilled(specification(FILLED)), [])
+
+
+class Planting(unittest.TestCase):
+    """Constants in trees: reasons go through them, and paths to them are completed. What is asked is answered here."""
+
+    GRAMMAR = Source("g.ast", "P ::= /X/ Y* /Zs:Z*/; X ::= <N> [Y] Z*; Y ::= <N>; Z ::= <I:int> <B:boolean>; Q : P;")
+    ASPECT = """aspect A {
+  syn nta X P.getX() = new X("a\\"b", new Opt(new Y("c")), new List<Z>().add(new Z(-3, true)));
+  syn nta List<Z> P.getZsList() { List<Z> l = new List<Z>(); l.add(new Z(1, false)); l.add(new Z(2, true)); return l; }
+  syn nta Y P.more() = new Y("d");
+  syn nta Y X.getInner() = new Y("e");
+  inh P Y.p(); eq P.getChild().p() = this;
+  syn String Y.n() = p().getX().getInner().getN();
+  syn boolean Y.any() { for (Z z : p().getZss()) if (z.getB() && z.getI() == p().getNumZs()) return true; return false; }
+  inh int Z.i(); eq P.getZs(int k).i() = k + getNumZs() + getZs(k).getI(); eq X.getZ().i() = 5;
+  syn Y Y.other() = p().more();
+}
+"""
+
+    def setUp(self):
+        self.specification = specification(self.ASPECT, grammar=self.GRAMMAR)
+        self.tree = attrd.read_term('Q([Y("y")])')
+
+    def reason(self, asked, **answers):
+        """The reason of an instance, where attributes are answered so."""
+        running = Why(self.specification, self.tree).reason(read_instance(asked))
+        try:
+            wanted = next(running)
+            while True:
+                wanted = running.send(Value(answers[wanted.attribute]))
+        except StopIteration as end:
+            return end.value
+
+    def test_trees(self):
+        grammar = planted(self.specification)
+        known = {path: str(grammar.node_at(self.tree, attrd.Path.read(path))) for path in (
+            "/X", "/X/Y", "/X/Z:0", "/X/Inner", "/Zs:1", "/Zs:2", "/more", "/Y:0", "/Nix")}
+        self.assertEqual(known, {"/X": 'X("a\\"b",Y("c"),[Z(-3,true)])', "/X/Y": 'Y("c")', "/X/Z:0": "Z(-3,true)", "/X/Inner": 'Y("e")',
+                                 "/Zs:1": "Z(2,true)", "/Zs:2": "None", "/more": 'Y("d")', "/Y:0": 'Y("y")', "/Nix": "None"})
+        self.assertEqual([str(it) for it in grammar.components("Q")], ["/X/", "Y*", "/Zs:Z*/", "/more:Y/"])
+        self.assertEqual([str(step) for step, _ in grammar.children(self.tree)], ["Y:0", "X", "Zs:0", "Zs:1", "more"])
+        plain = specification("aspect A { syn int P.a() = 1; }", grammar=Source("g.ast", "P;"))
+        self.assertIs(planted(plain), plain.grammar)
+
+    def test_reasons(self):
+        found = self.reason("/Y:0 n()", p="/", n='"e"')
+        self.assertEqual([(str(it.path), it.part, it.value if isinstance(it.value, str) else str(it.value)) for it in found.looks],
+                         [("/", "X", "/X"), ("/X", "Inner", "/X/Inner"), ("/X/Inner", "N", "e")])
+        self.assertEqual([(it.front, it.part, it.value) for it in self.reason("/Y:0 any()", p="/", any="true").looks][-1:], [("List", "Zs", 2)])
+        found = self.reason("/Zs:1 i()", i="5")
+        self.assertEqual((found.head, str(found.at), found.bound, found.stopped), ("P.getZs().i()", "/", {"k": 1}, ""))
+        self.assertEqual([str(it.value) for it in found.looks], ["2", "/Zs:1", "2"])
+        self.assertEqual(self.reason("/X/Z:0 i()", i="5").head, "X.getZ().i()")
+        self.assertEqual([it.text for it in self.reason("/more other()", p="/", more="/more", other="/more").steps], ["p()", "p().more()"])
+
+    def test_paths_are_completed(self):
+        completion = Completion(planted(self.specification), [], lambda: self.tree, lambda mark: None)
+        self.assertEqual(completion.words("show /"), ["/X", "/Y:0", "/Zs:0", "/Zs:1", "/more"])
+        self.assertEqual(completion.words("ask /X/"), ["/X/Inner", "/X/Y", "/X/Z:0"])
+        self.assertEqual(completion.words("insert / "), ["Y"])
 
 
 class Faults(unittest.TestCase):
