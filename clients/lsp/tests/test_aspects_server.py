@@ -169,6 +169,84 @@ class OfPlaces(unittest.TestCase):
         self.assertIn("KindUse ::=", str(client.ask("textDocument/hover", client.place("kinds.jrag", "KindUse"))))
 
 
+SLASHES = {
+    "known.ast": "Program ::= /Unknown:Type/ Use* /Predefined:Type*/;\nType ::= <Name>;\nUse ::= <Name>;\n",
+    "known.jrag": """aspect Known {
+  syn nta Type Program.getUnknown() = new Type("?");
+  syn nta List<Type> Program.getPredefinedList() = new List<Type>().add(new Type("int"));
+  syn nta Type Program.getMore() = new Type("more");
+}
+""",
+    "used.jrag": """aspect Used {
+  inh Type Use.type();
+  eq Program.getUse().type() = getNumPredefined() > 0 ? getPredefined(0) : getUnknown();
+  inh int Type.n();
+  eq Program.Unknown().n() = getMore().n();
+  eq Program.getChild().n() = 1;
+}
+"""}
+
+
+class OfSlashes(unittest.TestCase):
+    """What is answered of components between slashes, and of the constants that fill them."""
+
+    client: AspectsClient
+
+    @classmethod
+    def setUpClass(cls) -> None:
+        temporary = tempfile.TemporaryDirectory(prefix="attrd-aspects-")
+        cls.addClassCleanup(temporary.cleanup)
+        for file, text in SLASHES.items():
+            (Path(temporary.name) / file).write_text(text, "utf-8")
+        cls.client = AspectsClient(Path(temporary.name), None, "--forms", "jastadd")
+        cls.addClassCleanup(cls.client.close)
+
+    def setUp(self) -> None:
+        self.addCleanup(self.client.leave)
+        for file in SLASHES:
+            self.client.open(file)
+
+    def told(self, *place: Any) -> str:
+        return str(self.client.ask("textDocument/hover", self.client.place(*place))["contents"]["value"])
+
+    def lines(self, method: str, *place: Any) -> List[str]:
+        return self.client.stretches(self.client.ask(f"textDocument/{method}", self.client.place(*place)))
+
+    def test_hover(self) -> None:
+        told = "Program ::= /Unknown:Type/\nType getUnknown()\nsyn nta Type Program.getUnknown() = new Type(\"?\");"
+        for place in ("known.ast", "Unknown"), ("known.jrag", "getUnknown"), ("used.jrag", "getUnknown"), ("used.jrag", "Unknown()", 1):
+            self.assertEqual(self.told(*place), told, place)
+        self.assertEqual(self.told("used.jrag", "getMore"), "syn nta Type Program.getMore() = new Type(\"more\");")
+        self.assertIn("= new List<Type>().add(new Type(\"int\"));", self.told("known.ast", "Predefined"))
+        self.assertEqual(self.told("known.ast", "Program"), "Program ::= /Unknown:Type/ Use* /Predefined:Type*/;\nconstants: Type getMore()")
+
+    def test_definitions_and_references(self) -> None:
+        self.assertEqual(self.lines("definition", "used.jrag", "getUnknown"), ["known.ast:1 Unknown", "known.jrag:2 getUnknown"])
+        self.assertEqual(self.lines("definition", "used.jrag", "getNumPredefined"), ["known.ast:1 Predefined", "known.jrag:3 getPredefinedList"])
+        self.assertEqual(self.lines("definition", "used.jrag", "getMore"), ["known.jrag:4 getMore"])
+        self.assertEqual(self.lines("implementation", "known.ast", "Unknown"), ["known.jrag:2 getUnknown"])
+        self.assertEqual(self.lines("implementation", "used.jrag", "getMore"), ["known.jrag:4 getMore"])
+        self.assertEqual(self.lines("references", "known.jrag", "getUnknown"),
+                         ["known.ast:1 Unknown", "known.jrag:2 getUnknown", "used.jrag:3 getUnknown", "used.jrag:5 Unknown"])
+
+    def test_completions_and_symbols(self) -> None:
+        found = {it["label"]: it["detail"] for it in self.client.ask("textDocument/completion", self.client.place("used.jrag", "getUnknown"))}
+        self.assertLessEqual({"getUnknown": "Type getUnknown", "getPredefinedList": "Type* getPredefinedList", "getMore": "Type getMore"}.items(), found.items())
+        self.client.change("known.jrag", 'Unknown() = new Type("?");', "")
+        found = self.client.ask("textDocument/completion", self.client.place("known.jrag", "get", 0, 3))
+        self.assertEqual([(it["label"], it["detail"]) for it in found], [("getUnknown", "Type")])
+        told = self.client.ask("textDocument/documentSymbol", {"textDocument": {"uri": self.client.uri("known.jrag")}})
+        self.assertIn("Program.getMore", [it["name"] for it in told])
+
+    def test_faults(self) -> None:
+        self.assertEqual(self.client.diagnoses("known.ast"), [])
+        self.client.change("known.jrag", "syn nta Type Program.getUnknown()", "syn nta Use Program.getUnknown()")
+        self.assertEqual(self.client.diagnoses("known.jrag"), ["2 J4"])
+        self.client.change("known.jrag", 'syn nta Use Program.getUnknown() = new Type("?");', "")
+        self.client.change("known.ast", "\n", " \n")
+        self.assertEqual(self.client.diagnoses("known.ast"), ["1 J7"])
+
+
 class OfStatements(unittest.TestCase):
     """What is answered of places in bodies of statements, in the sample that is written as users of JastAdd write it: one server, and a
     folder for each test."""

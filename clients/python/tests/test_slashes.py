@@ -7,6 +7,7 @@ from attrd.authoring import Names, Source, Specification, check, completions, se
 from attrd.authoring.filling import filler, unfilled
 from attrd.authoring.planting import planted
 from attrd.authoring.refusal import written
+from attrd.declarations import attributes_of
 from attrd.grammar import Shape
 from attrd.prompt import Completion
 from attrd.replies import Value
@@ -265,6 +266,10 @@ class Planting(unittest.TestCase):
         self.assertEqual([str(it.value) for it in found.looks], ["2", "/Zs:1", "2"])
         self.assertEqual(self.reason("/X/Z:0 i()", i="5").head, "X.getZ().i()")
         self.assertEqual([it.text for it in self.reason("/more other()", p="/", more="/more", other="/more").steps], ["p()", "p().more()"])
+
+    def test_a_constant_is_an_attribute_unless_it_is_an_accessor(self):
+        self.assertEqual([(it.of, it.name, it.kind) for it in attributes_of(self.ASPECT)],
+                         [("P", "more", "Y"), ("Y", "p", "P"), ("Y", "n", "String"), ("Y", "any", "boolean"), ("Z", "i", "int"), ("Y", "other", "Y")])
 
     def test_paths_are_completed(self):
         completion = Completion(planted(self.specification), [], lambda: self.tree, lambda mark: None)
