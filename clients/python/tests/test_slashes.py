@@ -1,9 +1,11 @@
 """Components between slashes, which constants of aspects fill where `--forms jastadd` has the program read them."""
+import tempfile
 import unittest
+from pathlib import Path
 
 import attrd
 from attrd import Grammar, Node
-from attrd.authoring import Names, Source, Specification, check, completions, searches
+from attrd.authoring import Names, Source, Specification, check, check_tree, completions, searches
 from attrd.authoring.filling import filler, unfilled
 from attrd.authoring.planting import planted
 from attrd.authoring.refusal import written
@@ -284,6 +286,24 @@ class Faults(unittest.TestCase):
         aspects = [Source("0.jrag", FILLED), Source("1.jrag", USED.replace(" + getNamess(0).nix()", ""))]
         self.assertEqual(check(GRAMMAR, aspects, PROGRAM, "jastadd").findings, [])
         self.assertEqual(check(GRAMMAR, [], PROGRAM, "jastadd").findings, [])
+
+    def test_a_tree_file_has_no_cell_for_them(self):
+        for term, told in (("P(A(),B())", None), ("P(A(),X(\"\"),B())", "P has 2 cells (A B), and 3 are given")):
+            with tempfile.TemporaryDirectory() as folder:
+                file = Path(folder, "tree.txt")
+                file.write_text(term)
+                found = check_tree(GRAMMAR, str(file), term.encode(), PROGRAM, forms="jastadd")
+            self.assertEqual(None if found is None else found.message, told and f"A node doesn't fit the grammar: at /, {told}.")
+
+    def test_what_is_explained(self):
+        with tempfile.TemporaryDirectory() as folder:
+            files = [Path(folder, name) for name in ("g.ast", "tree.txt", "none.jrag")]
+            for file, text in zip(files, (TEXT, "P(A(),B())", "aspect N { }")):
+                file.write_text(text)
+            with self.assertRaises(attrd.StartFault) as caught:
+                attrd.start(*files, program=PROGRAM, options=["--forms", "jastadd"])
+            told = attrd.explain(caught.exception, files)
+        self.assertEqual((told.code, told.line, told.column, told.sentence), ("J7", 1, 10, "No constant fills this component between slashes."))
 
     def test_all_faults_are_found_in_one_run(self):
         findings = check(GRAMMAR, [Source("x.jrag", FAULTS)], PROGRAM, "jastadd").findings
