@@ -161,7 +161,7 @@ CONSTANTS = """aspect A {
   syn int P.p() = getnix().size(); //: J3/0
   syn int P.q() = gete().i() + getOne().i() + getNumL() + getNumM() + getL(0).i();
   syn nta S P.getR() = new S("2"); //: J2/11
-  syn int P.r() { for (S s : getLs()) if (s.i() > 0) return s.i(); for (S s : getMList()) if (s.nix()) return 1; return getM(0).i(); } //: J3/0
+  syn int P.r() { for (S s : getLList()) if (s.i() > 0) return s.i(); for (S s : getMList()) if (s.nix()) return 1; return getM(0).i(); } //: J3/0
 }
 """
 # What is wrong with the name of a component, each alone: an equation, what is said, and the beginning of the hint.
@@ -171,7 +171,7 @@ MISNAMED = [
     ("eq P.heads().i() = 5;", "P has no component heads. There is head, and 2 more.", ""),
     ("eq R.gets().i() = 7;", "R has no component of the accessor gets. There is getS, getC.", ""),
     ("syn nta S P.getOne() = new S(\"1\"); eq P.getgetOne().i() = 8;",
-     "P has no component of the accessor getgetOne. There is getOne, getnone, gethead, getR.", ""),
+     "P has no component of the accessor getgetOne. There is getOne, getnone, gethead, and 1 more.", ""),
 ]
 PLANTED = Source("s.ast", "P ::= R; R ::= S* [C]; S ::= <Name>; T : S; C ::= <N:int> <B:boolean>; V ::= <Name>;")
 # Declarations behind `syn nta`, and whether each is a constant.

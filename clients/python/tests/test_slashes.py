@@ -163,7 +163,7 @@ class Meanings(unittest.TestCase):
         known = self.names.specification
         self.assertEqual({name: (it.of, it.kind) for name, it in known.accessors("R").items() if it.part.name in ("Own", "Y", "More")}, {
             "getY": ("P", "Y"), "getNumY": ("P", "int"), "getYList": ("P", "Y*"), "getYs": ("P", "Y*"), "getOwn": ("Q", "Y"),
-            "getMore": ("P", "X"), "getNumMore": ("P", "int"), "getMoreList": ("P", "X*"), "getMores": ("P", "X*")})
+            "getMore": ("P", "X"), "getNumMore": ("P", "int"), "getMoreList": ("P", "X*")})
         self.assertEqual([it.shape for it in known.parts("P") if it.is_fixed], [Shape.CHILD, Shape.CHILD, Shape.LIST, Shape.LIST, Shape.LIST, Shape.CHILD])
         self.assertEqual(known.grammar.parts("P"), Grammar.read("P ::= A B; A; B;").parts("P"))
 

@@ -192,22 +192,13 @@ class Specification:
     def _accessors_of(self, of: str) -> Iterator[Tuple[str, Accessor]]:
         for part in self.grammar.components(of):
             owner = self.owner(of, part.name)
-            yield from self._accessors_to(Accessor(owner, part, part.kind, self.constant_in(owner, part.name) if part.is_fixed else None))
+            plain = Accessor(owner, part, part.kind, self.constant_in(owner, part.name) if part.is_fixed else None)
+            yield from _accessors_to(plain)
+            if part.shape is Shape.LIST and "jastadd" in self.forms:
+                yield f"get{part.name}s", plain._replace(kind=part.kind + "*")
         for placed in self.constants(of):
             part, declared = component_of(placed), placed.declaration
-            yield from self._accessors_to(Accessor("" if declared.of is None else declared.of.text, part, part.kind, placed))
-
-    def _accessors_to(self, plain: Accessor) -> Iterator[Tuple[str, Accessor]]:
-        """The accessors of a component, of which the plain one is given."""
-        name, several = plain.part.name, plain.part.kind + "*"
-        yield f"get{name}", plain
-        if plain.part.shape is Shape.LIST:
-            yield f"getNum{name}", plain._replace(kind="int")
-            yield f"get{name}List", plain._replace(kind=several)
-            if "jastadd" in self.forms:
-                yield f"get{name}s", plain._replace(kind=several)
-        elif plain.part.shape is Shape.OPTIONAL:
-            yield f"has{name}", plain._replace(kind="boolean")
+            yield from _accessors_to(Accessor("" if declared.of is None else declared.of.text, part, part.kind, placed))
 
     def owner(self, of: str, part: str) -> str:
         """The class that declares a component that a class has."""
@@ -313,6 +304,17 @@ class Specification:
             return None
         element = placed.declaration.element
         return placed.declaration.kind.text if element is None else f"{element.text}*"
+
+
+def _accessors_to(plain: Accessor) -> Iterator[Tuple[str, Accessor]]:
+    """The accessors of a component, of which the plain one is given, but for the short name of a list."""
+    name = plain.part.name
+    yield f"get{name}", plain
+    if plain.part.shape is Shape.LIST:
+        yield f"getNum{name}", plain._replace(kind="int")
+        yield f"get{name}List", plain._replace(kind=plain.part.kind + "*")
+    elif plain.part.shape is Shape.OPTIONAL:
+        yield f"has{name}", plain._replace(kind="boolean")
 
 
 def component_of(placed: Placed) -> Part:
