@@ -1,4 +1,4 @@
-"""Tests what needs no proof, but for tests of clients that take long, in four minutes on two processors. Nothing is proved by it.
+"""Tests what needs no proof, but for tests of clients that take long, in three minutes on two processors. Nothing is proved by it.
 
     python3 -m tools.quick PAGE|FOLDER ..
 
@@ -45,7 +45,7 @@ LESS = (("ATTRD_HUB_POINTS", "10"), ("ATTRD_PAIRS", "250"), ("ATTRD_CIRCULAR_SES
 SELDOM = (("ATTRD_MEMORY_EVERY", "5"), ("ATTRD_CALLS_EVERY", "5"))
 SHORT = ("ATTRD_SHORT", "1")
 # Tests of clients that take long and start no program, so that they run while it is built.
-APART = ("test_check.Grammars.test_each_refused_grammar_of_the_manual", "test_grammars", "test_hub_journal", "test_hub_lines", "test_hub_loop.Looking", "test_hub_package", "test_hub_turns",
+APART = ("test_grammars", "test_hub_journal", "test_hub_lines", "test_hub_loop.Looking", "test_hub_package", "test_hub_turns",
          "test_lsp_again.Edits.test_edits_of_a_part_make_the_whole_tree", "test_lsp_again.Readings", "test_lsp_again.Texts",
          "test_lsp_positions", "test_lsp_source", "test_lsp_syntax", "test_page_source.OfALanguageServer.test_a_grammar_that_is_refused",
          "test_page_source.OfALanguageServer.test_a_text_that_has_no_tree", "test_replies", "test_terms", "test_update.Edits",
