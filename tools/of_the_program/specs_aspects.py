@@ -5,7 +5,7 @@ from pathlib import Path
 from typing import Dict, Iterator, List, NamedTuple, Optional, Sequence, Tuple, Union
 
 from tools.of_the_program.specs_grammar import ANY, Grammar
-from tools.of_the_program.specs_reading import Aspects, Declared, Equation, Expr, Parameter, Return, Statement
+from tools.of_the_program.specs_reading import Aspects, Constant, Declared, Equation, Expr, Parameter, Return, Said, Statement
 from tools.of_the_program.specs_trees import Node
 
 EVERY = "ASTNode"
@@ -40,12 +40,15 @@ class Specification:
         self.names = frozenset(name for _, name in self.declared)
         self.found: Dict[Tuple[str, str], Optional[Declared]] = {}
 
-    def add(self, said: Union[Declared, Equation]) -> None:
-        """Takes in a declaration or an equation."""
+    def add(self, said: Said) -> None:
+        """Takes in a declaration, an equation or a constant."""
+        if isinstance(said, Constant):
+            self.grammar.add_constant(said.of, said.part, said.cell)
+            if said.attribute:
+                self.add(said.attribute)
+            return
         if isinstance(said, Declared):
             self.declared[said.of, said.name] = said
-            if said.constant:
-                self.grammar.add_constant(said.of, said.name, *said.constant)
         elif said.component is not None:
             self.places[said.of, said.component, said.name] = said
         if said.body is not None and not (isinstance(said, Equation) and said.component):

@@ -13,11 +13,13 @@ ANY = "Child"
 
 @dataclass(frozen=True)
 class Component:
-    """A component: its name, its form (child, list, optional, token, constant), and its class or the kind of its token."""
+    """A component: its name, its form (child, list, optional, token), its class or the kind of its token, and whether it stands between
+    slashes or is that of a constant, which terms leave out."""
 
     name: str
     form: str
     kind: str
+    is_fixed: bool = False
 
 
 @dataclass(frozen=True)
@@ -37,20 +39,22 @@ class Grammar:
         self.classes = {it.name: it for it in Classes(text).all()}
         self.start = next(iter(self.classes))
         self.lines = {name: self.up(name) for name in self.classes}
-        self.parts = {name: [it for of in reversed(line) for it in self.classes[of].own] for name, line in self.lines.items()}
-        self.named = {name: {it.name: it for it in parts} for name, parts in self.parts.items()}
+        own = {name: [it for of in reversed(line) for it in self.classes[of].own] for name, line in self.lines.items()}
+        # those that have cells in terms, and all by their names
+        self.parts = {name: [it for it in parts if not it.is_fixed] for name, parts in own.items()}
+        self.named = {name: {it.name: it for it in parts} for name, parts in own.items()}
         self.concrete = {of: [name for name, it in self.classes.items() if not it.is_abstract and of in self.lines[name]] for of in self.classes}
         self.accessors = self.all_accessors()
-        # the term of the constant that stands in a component of a class, by its name
+        # the cell of the constant that stands in a component of a class, by its name
         self.constants: Dict[str, Dict[str, str]] = {name: {} for name in self.classes}
 
-    def add_constant(self, of: str, name: str, kind: str, term: str) -> None:
-        """Has a constant stand in one more component of a class, and of those below it."""
+    def add_constant(self, of: str, part: Component, cell: str) -> None:
+        """Has a constant stand in a component of a class, and of those below it: the one of its name between slashes, or one more."""
         for below in self.classes:
             if self.is_below(below, of):
-                self.named[below][name] = Component(name, "constant", kind)
-                self.constants[below][name] = term
-        self.accessors |= {f"get{name}"}
+                self.named[below][part.name] = part
+                self.constants[below][part.name] = cell
+        self.accessors |= accessors(part)
 
     def up(self, name: Optional[str]) -> List[str]:
         """The class, and those above it."""
@@ -62,9 +66,13 @@ class Grammar:
 
     def all_accessors(self) -> FrozenSet[str]:
         """The names of the accessors of all classes."""
-        more = {"list": ("getNum{}", "get{}List"), "optional": ("has{}",)}
-        parts = [it for of in self.classes.values() for it in of.own]
-        return frozenset(form.format(it.name) for it in parts for form in ("get{}", *more.get(it.form, ())))
+        return frozenset(name for of in self.classes.values() for it in of.own for name in accessors(it))
+
+
+def accessors(part: Component) -> FrozenSet[str]:
+    """The names of the accessors of a component."""
+    more = {"list": ("getNum{}", "get{}List"), "optional": ("has{}",)}
+    return frozenset(form.format(part.name) for form in ("get{}", *more.get(part.form, ())))
 
 
 class Classes(Row):
@@ -98,8 +106,12 @@ class Classes(Row):
             part = self.typed()
             self.want("]")
             return Component(part[0], "optional", part[1])
+        is_fixed = bool(self.take("/"))
         name, kind = self.typed()
-        return Component(name, "list" if self.take("*") else "child", kind)
+        form = "list" if self.take("*") else "child"
+        if is_fixed:
+            self.want("/")
+        return Component(name, form, kind, is_fixed)
 
     def typed(self) -> Tuple[str, str]:
         """`[NAME :] CLASS`: the name and the class."""

@@ -79,7 +79,7 @@ class Editing:
 
     def with_parts(self, form: str) -> List[Tuple[Node, Component]]:
         """The nodes with components of that form, once with each."""
-        return [(node, it) for node in self.nodes() for it in self.grammar.parts[node.kind] if it.form == form]
+        return [(node, it) for node in self.nodes() for it in self.grammar.named[node.kind].values() if it.form == form]
 
     def new(self, of: str) -> str:
         """The term of a node of that class."""

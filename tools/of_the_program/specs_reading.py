@@ -5,7 +5,7 @@ from dataclasses import dataclass
 from typing import List, Optional, Tuple, Union
 
 from tools.of_the_program.jastadd_reading import FOLDS, KINDS, MODIFIERS, ROWS, Row
-from tools.of_the_program.specs_grammar import ANY
+from tools.of_the_program.specs_grammar import ANY, Component
 from tools.of_the_program.specs_trees import unquoted
 
 WORDS = {"true": True, "false": False, "null": None}
@@ -84,8 +84,7 @@ class Parameter:
 
 @dataclass(frozen=True)
 class Declared:
-    """What declares an attribute: for which class, its kind, its parameters, the start of a circular one, and its body, if it has one; of a
-    constant its kind and its term."""
+    """What declares an attribute: for which class, its sort, its parameters, the start of a circular one, and its body, if it has one."""
 
     sort: str
     of: str
@@ -93,7 +92,16 @@ class Declared:
     parameters: Tuple[Parameter, ...]
     start: Optional[bool] = None
     body: Optional[Statement] = None
-    constant: Optional[Tuple[str, str]] = None
+
+
+@dataclass(frozen=True)
+class Constant:
+    """A constant: of which class, its component, its cell as in a term, and its attribute; one with the name of an accessor has none."""
+
+    of: str
+    part: Component
+    cell: str
+    attribute: Optional[Declared]
 
 
 @dataclass(frozen=True)
@@ -106,6 +114,9 @@ class Equation:
     name: str
     parameters: Tuple[Parameter, ...]
     body: Statement
+
+
+Said = Union[Declared, Equation, Constant]
 
 
 class Expressions(Row):
@@ -278,8 +289,8 @@ class Statements(Expressions):
 class Aspects(Statements):
     """Reads a file. Raises Refused."""
 
-    def file(self) -> List[Union[Declared, Equation]]:
-        found: List[Union[Declared, Equation]] = []
+    def file(self) -> List[Said]:
+        found: List[Said] = []
         while self.take("import"):
             while not self.take(";"):
                 self.at += 1
@@ -291,7 +302,7 @@ class Aspects(Statements):
                 found.append(self.declaration())
         return found
 
-    def declaration(self) -> Union[Declared, Equation]:
+    def declaration(self) -> Said:
         while self.take(*MODIFIERS):
             pass
         if self.take("eq"):
@@ -311,20 +322,62 @@ class Aspects(Statements):
         body = None if self.take(";") else self.body()
         return Declared(sort.text if sort else "syn", of, name, parameters, start, body)
 
-    def constant(self) -> Declared:
-        """What stands behind `nta`: the body is the accessor of the component."""
-        kind, of = self.name().text, self.name().text
+    def constant(self) -> Constant:
+        """What stands behind `nta`: the body of its attribute is the accessor of the component."""
+        form, kind = ("child", self.name().text) if not self.is_list() else ("list", self.element())
+        of = self.name().text
         self.want(".")
         name = self.name().text
         self.parameters()
-        is_block = self.take("{") and self.want("return")
-        if not is_block:
-            self.want("=")
-        term = self.made()
+        if name.startswith("get") and name != "get":
+            component, attribute = name[len("get"):].removesuffix("List" if form == "list" else ""), None
+        else:
+            component, attribute = name, Declared("syn", of, name, (), None, Return(Expr("call", (THIS,), f"get{name}")))
+        return Constant(of, Component(component, form, kind, True), self.constant_cell(), attribute)
+
+    def is_list(self) -> bool:
+        """Whether `List <` is next."""
+        first, opening = self.ahead(2)
+        return first.text == "List" and opening.is_sign("<")
+
+    def element(self) -> str:
+        """`List < CLASS >`: the class."""
+        self.at += 2
+        found = self.name().text
+        self.want(">")
+        return found
+
+    def constant_cell(self) -> str:
+        """`= MADE ;`, `{ return MADE ; }`, or a list to which a local variable is added: the cell."""
+        if self.take("="):
+            return self.ended()
+        self.want("{")
+        found = self.local() if self.is_list() else self.returned()
+        self.want("}")
+        return found
+
+    def ended(self) -> str:
+        """What is made up to the semicolon."""
+        found = self.made()
         self.want(";")
-        if is_block:
-            self.want("}")
-        return Declared("syn", of, name, (), None, Return(Expr("call", (THIS,), f"get{name}")), (kind, term))
+        return found
+
+    def returned(self) -> str:
+        self.want("return")
+        return self.ended()
+
+    def local(self) -> str:
+        """`List < CLASS > NAME = LIST ; { NAME . add ( NODE ) ; } return NAME ;`: the list with all that is added to it."""
+        self.element()
+        name = self.name().text
+        self.want("=")
+        found = [self.ended()[1:-1]]
+        while self.take(name):
+            self.at += 3
+            found.append(self.made())
+            self.at += 2
+        self.at += 3
+        return f"[{','.join(filter(None, found))}]"
 
     def made(self) -> str:
         """The term of what is written down for a component."""

@@ -3,7 +3,7 @@ from __future__ import annotations
 
 import re
 from dataclasses import dataclass
-from typing import Dict, Iterator, List, Optional, Tuple, Union
+from typing import Dict, Iterator, List, Optional, Sequence, Tuple, Union
 
 from tools.of_the_program.specs_grammar import Component, Grammar
 
@@ -32,24 +32,24 @@ class Node:
     def __init__(self, kind: str) -> None:
         self.kind = kind
         self.cells: Dict[str, Cell] = {}
-        self.constants: Dict[str, Node] = {}
+        self.constants: Dict[str, Cell] = {}
         self.above: Optional[Node] = None
         self.part = ""
 
+    def cell(self, part: str) -> Cell:
+        """What stands in a component; none where nothing does, or where there is none."""
+        return self.constants.get(part, self.cells.get(part))
+
     def list(self, part: str) -> List[Node]:
         """The elements of a list."""
-        found = self.cells[part]
+        found = self.cell(part)
         assert isinstance(found, list)
         return found
 
     def below(self) -> Iterator[Node]:
         """The nodes right below."""
-        for it in self.cells.values():
-            if isinstance(it, Node):
-                yield it
-            elif isinstance(it, list):
-                yield from it
-        yield from self.constants.values()
+        for it in (*self.cells.values(), *self.constants.values()):
+            yield from standing(it)
 
     def all(self) -> Iterator[Node]:
         """The node, and all that are below it."""
@@ -64,7 +64,7 @@ class Node:
 
     def is_element(self) -> bool:
         """Whether it stands in a list."""
-        return self.above is not None and isinstance(self.above.cells.get(self.part), list)
+        return self.above is not None and isinstance(self.above.cell(self.part), list)
 
     def is_fixed(self) -> bool:
         """Whether it is a constant, or stands in one."""
@@ -84,21 +84,23 @@ class Node:
     def put(self, part: str, cell: Cell) -> None:
         """Gives a component its cell."""
         self.cells[part] = cell
-        cells: List[Cell] = [*cell] if isinstance(cell, list) else [cell]
-        for it in cells:
-            if isinstance(it, Node):
-                it.above, it.part = self, part
+        self.hold(part, cell)
 
-    def plant(self, part: str, constant: Node) -> None:
+    def plant(self, part: str, constant: Cell) -> None:
         """Has a constant stand in a component."""
         self.constants[part] = constant
-        constant.above, constant.part = self, part
+        self.hold(part, constant)
+
+    def hold(self, part: str, cell: Cell) -> None:
+        """Has what stands in the cell stand in that component."""
+        for it in standing(cell):
+            it.above, it.part = self, part
 
     def at(self, path: str) -> Node:
         """The node with that path below this one. Raises Refusal."""
         for step in filter(None, path.split("/")):
             name, colon, index = step.partition(":")
-            found = self.constants.get(name, self.cells.get(name))
+            found = self.cell(name)
             if colon and isinstance(found, list) and int(index) < len(found):
                 self = found[int(index)]
             elif not colon and isinstance(found, Node):
@@ -106,6 +108,11 @@ class Node:
             else:
                 raise Refusal("4 path")
         return self
+
+
+def standing(cell: Cell) -> Sequence[Node]:
+    """The nodes that stand in a cell."""
+    return cell if isinstance(cell, list) else [cell] if isinstance(cell, Node) else ()
 
 
 def written(cell: Cell) -> str:
@@ -164,8 +171,8 @@ class Terms:
                 self.want(",")
             made.put(part.name, self.cell(part))
         self.want(")")
-        for name, term in self.grammar.constants[made.kind].items():
-            made.plant(name, Terms(self.grammar, term).node(self.grammar.named[made.kind][name].kind))
+        for name, cell in self.grammar.constants[made.kind].items():
+            made.plant(name, Terms(self.grammar, cell).cell(self.grammar.named[made.kind][name]))
         return made
 
     def cell(self, part: Component) -> Cell:
@@ -253,7 +260,7 @@ class Tree:
         new, found = Terms(self.grammar, term).node(part.kind), node.list(part.name)
         if index > len(found):
             raise Refusal("8 index")
-        loose(node)
+        loose_in(node, part)
         node.put(part.name, [*found[:index], new, *found[index:]])
 
     def drop(self, node: Node) -> None:
@@ -274,7 +281,7 @@ class Tree:
         if not node.is_element():
             raise Refusal("10 fixed")
         loose(node)
-        loose(to)
+        loose_in(to, part)
         if any(it is to for it in node.all()):
             raise Refusal("11 inside")
         assert node.above is not None
@@ -286,6 +293,13 @@ def loose(node: Node) -> None:
     """Refuses what is done with a node that is a constant, or stands in one."""
     if node.is_fixed():
         raise Refusal("10 fixed")
+
+
+def loose_in(node: Node, part: Component) -> None:
+    """Refuses what is done in a component that is fixed, or is one of such a node."""
+    if part.is_fixed:
+        raise Refusal("10 fixed")
+    loose(node)
 
 
 def parted(given: str) -> Tuple[str, ...]:

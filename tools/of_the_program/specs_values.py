@@ -7,7 +7,7 @@ from typing import Callable, Dict, List, Optional, Protocol, Tuple, Union
 
 from tools.of_the_program.specs_aspects import Specification
 from tools.of_the_program.specs_reading import Each, Expr, If, Return, Statement
-from tools.of_the_program.specs_trees import Cell, Node
+from tools.of_the_program.specs_trees import Node
 
 # What is computed and passed: an int is so far from 0. A text has so many bytes there, and so many where it is joined.
 MOST, PASSED, LONGEST = 1_048_576, 4_096, 65_535
@@ -214,7 +214,7 @@ class Evaluation:
     def accessed(self, node: Node, word: str, given: List[int]) -> Value:
         """What an accessor gives, but for that of a list as a whole."""
         front, part = self.accessor(node, word)
-        found: Optional[Cell] = node.constants[part] if part in node.constants else node.cells.get(part)
+        found = node.cell(part)
         if front == "has":
             return found is not None
         if isinstance(found, list):
