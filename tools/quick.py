@@ -41,7 +41,7 @@ LESS = (("ATTRD_HUB_POINTS", "10"), ("ATTRD_PAIRS", "250"), ("ATTRD_CIRCULAR_SES
         ("ATTRD_TEST_NODES", "5000"), ("ATTRD_MEMORY_KEEPERS", "1"), ("ATTRD_READINGS", "1500"), ("ATTRD_SPOILED_FILES", "8"),
         ("ATTRD_PROBLEMS", "50"), ("ATTRD_SPECS_SESSIONS", "6"), ("ATTRD_FAULT_EDITS", "40"),
         ("ATTRD_BODIES_FILES", "20"), ("ATTRD_OVERLOADED_COUNT", "20"), ("ATTRD_AGAIN_COUNT", "30"),
-        ("ATTRD_CONSTANTS_SESSIONS", "10"))
+        ("ATTRD_CONSTANTS_SESSIONS", "10"), ("ATTRD_CONSTANTS_FILES", "5"))
 # Of requests for memory each fifth one is refused in turn, and of reads and writes each fifth one fails.
 SELDOM = (("ATTRD_MEMORY_EVERY", "5"), ("ATTRD_CALLS_EVERY", "5"))
 SHORT = ("ATTRD_SHORT", "1")

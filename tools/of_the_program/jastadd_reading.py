@@ -371,115 +371,247 @@ class Statements(Expressions):
         return found, self.want("}")
 
 
+@dataclass(frozen=True)
+class Constant:
+    """A constant that was read: its declaration's word, class and name, the component that is its, its kind, whether that is a list, the term
+    or the terms that it is made of, and their first `new`."""
+
+    at: int
+    of: Token
+    name: Token
+    component: str
+    kind: Token
+    is_list: bool
+    cell: str
+    new: Token
+
+    def is_accessor(self) -> bool:
+        """Whether it is named as an accessor, and declares no attribute."""
+        return self.component != self.name.text
+
+
 class Constants(Statements):
     """Reads constant nonterminal attributes, behind their `nta`: what isn't written down is left out. Raises Refused."""
 
-    def constant(self) -> None:
+    def __init__(self, text: str) -> None:
+        super().__init__(text)
+        self.constants: List[Constant] = []
+
+    def constant(self, at: int) -> None:
+        """Of the declaration at this offset."""
         while self.take("lazy", "final"):
             pass
-        name = self.outset()
-        opening = self.take("=", "{")
-        is_block = opening is not None and opening.text == "{"
-        is_begun = opening is not None and (not is_block or self.take("return") is not None)
-        new = self.take("new") if is_begun else None
-        if new is None:
-            raise Refused(LEFT_OUT, name.at)
-        self.node(new)
-        self.want_of(new, ";")
-        if is_block and not self.take("}"):
-            raise self.other()
-
-    def outset(self) -> Token:
-        """`CLASS CLASS . NAME ( )`: the name."""
-        if self.is_next(*KINDS):
-            raise self.wrong(LEFT_OUT)
-        kind = self.name()
-        if self.is_next(*BEHIND_KIND):
-            raise Refused(LEFT_OUT, kind.at)
-        self.name()
+        kind, listed = self.made_kind()
+        of = self.name()
         self.want(".")
         name = self.name()
+        component = self.component(name.text, listed is not None)
+        if component is None:
+            raise Refused(LEFT_OUT, (listed or kind).at)
         self.want("(")
         if not self.take(")"):
             raise self.other()
-        return name
+        cell, new = self.list_body(name) if listed else self.tree_body(name)
+        self.constants.append(Constant(at, of, name, component, kind, listed is not None, cell, new))
 
-    def want_of(self, new: Token, text: str) -> None:
-        """Steps over what goes on with what is made there, which is left out where something else stands."""
-        if not self.take(text):
-            raise Refused(LEFT_OUT, new.at)
+    def made_kind(self) -> Tuple[Token, Optional[Token]]:
+        """`CLASS`, or `List < CLASS >`: the class, and the word of a list."""
+        if self.is_next(*KINDS):
+            raise self.wrong(LEFT_OUT)
+        first = self.name()
+        is_list = first.text == "List" and self.is_next("<")
+        kind = self.element(first) if is_list else first
+        if self.is_next(*BEHIND_KIND):
+            raise Refused(LEFT_OUT, first.at)
+        return kind, first if is_list else None
 
-    def node(self, new: Token) -> None:
-        """`CLASS ( PARTS )`, behind its `new`."""
-        if not self.next.is_name() or self.next.text in CONTAINERS:
+    def element(self, of: Token) -> Token:
+        """`< CLASS >`, which is left out there where something else stands."""
+        self.want_of(of, "<")
+        found = self.name_of(of)
+        self.want_of(of, ">")
+        return found
+
+    @staticmethod
+    def component(name: str, is_list: bool) -> Optional[str]:
+        """The component of the constant with that name; none where a list isn't named by its accessor."""
+        behind = name[len("get"):] if name.startswith("get") else ""
+        if is_list:
+            return behind[:-len("List")] or None if behind.endswith("List") else None
+        return behind or name
+
+    def begun(self, name: Token) -> Tuple[bool, Token]:
+        """`= new`, or `{ return new`: whether it is a block, and the `new`; something else is left out at the name."""
+        is_block = self.want_of(name, "=", "{").text == "{"
+        if is_block:
+            self.want_of(name, "return")
+        return is_block, self.want_of(name, "new")
+
+    def ended(self, new: Token, is_block: bool) -> None:
+        """The semicolon behind what is made there, and the end of the block."""
+        self.want_of(new, ";")
+        if is_block:
+            self.block_end()
+
+    def block_end(self) -> None:
+        if not self.take("}"):
+            raise self.other()
+
+    def tree_body(self, name: Token) -> Tuple[str, Token]:
+        """The body of a tree: its term, and its `new`."""
+        is_block, new = self.begun(name)
+        term = self.node(new)
+        self.ended(new, is_block)
+        return term, new
+
+    def list_body(self, name: Token) -> Tuple[str, Token]:
+        """The body of a list: its terms, and its `new`."""
+        _, word = self.ahead(2)
+        if self.is_next("{") and (word.kind, word.text) == ("word", "List"):
+            self.at += 2
+            return self.local(name)
+        is_block, new = self.begun(name)
+        self.want_of(new, "List")
+        found = self.items(new)
+        self.ended(new, is_block)
+        return f"[{','.join(found)}]", new
+
+    def local(self, name: Token) -> Tuple[str, Token]:
+        """A local variable that holds a list, to which nodes are added, behind its `List`."""
+        self.element(name)
+        local = self.name_of(name)
+        self.want_of(name, "=")
+        new = self.want_of(name, "new")
+        self.want_of(new, "List")
+        found = self.items(new)
+        self.want_of(new, ";")
+        while self.next.kind == "word" and self.next.text == local.text:
+            found.append(self.addition())
+        self.returned(local)
+        return f"[{','.join(found)}]", new
+
+    def addition(self) -> str:
+        """`NAME . add ( new NODE ) ;`"""
+        at = self.name()
+        self.want_of(at, ".")
+        found = self.added(at)
+        self.want_of(at, ";")
+        return found
+
+    def returned(self, local: Token) -> None:
+        """`return NAME ; }`"""
+        word = self.take("return")
+        if word is None:
+            raise self.other()
+        self.want_of(word, local.text)
+        self.want_of(word, ";")
+        self.block_end()
+
+    def want_of(self, at: Token, *texts: str) -> Token:
+        """Steps over what goes on with what stands there, which is left out where something else does."""
+        found = self.take(*texts)
+        if found is None:
+            raise Refused(LEFT_OUT, at.at)
+        return found
+
+    def name_of(self, at: Token) -> Token:
+        """The same of a name."""
+        if not self.next.is_name():
+            raise Refused(LEFT_OUT, at.at)
+        return self.name()
+
+    def node(self, new: Token) -> str:
+        """`CLASS ( PARTS )`, behind its `new`: the term."""
+        name = self.name_of(new)
+        if name.text in CONTAINERS:
             raise Refused(LEFT_OUT, new.at)
-        self.at += 1
         self.want_of(new, "(")
-        if self.take(")"):
-            return
-        self.part()
-        while self.take(","):
-            self.part()
-        self.want(")")
+        found: List[str] = []
+        if not self.take(")"):
+            found.append(self.part())
+            while self.take(","):
+                found.append(self.part())
+            self.want(")")
+        return f"{name.text}({','.join(found)})"
 
-    def part(self) -> None:
+    def part(self) -> str:
         """What stands for a component, and behind it a comma or the closing parenthesis."""
         first = self.next
         new = self.take("new")
         if new is None:
-            self.literal()
-        elif self.is_next(*CONTAINERS):
-            self.container(new)
+            found = self.literal()
         else:
-            self.node(new)
+            found = self.container(new) if self.is_next(*CONTAINERS) else self.node(new)
         if not self.is_next(",", ")"):
             raise Refused(LEFT_OUT, first.at)
+        return found
 
-    def literal(self) -> None:
+    def literal(self) -> str:
         if self.next.kind == "text":
             self.at += 1
-            return
-        sign = self.take("-")
+            return self.tokens[self.at - 1].text
+        sign, text = self.take("-"), self.next.text
         if self.next.kind == "number":
             self.number(GREATEST + 1 if sign else GREATEST)
         elif sign:
             raise Refused(LEFT_OUT, sign.at)
         elif not self.take("true", "false"):
             raise self.no_operand()
+        return f"-{text}" if sign else text
 
     def no_operand(self) -> Refused:
         """The fault where nothing stands that is read: an operand that begins here is left out."""
         is_begun = self.next.kind not in ("sign", "end") or self.is_next("!", "(", "-")
         return self.wrong(LEFT_OUT if is_begun else SYNTAX)
 
-    def child(self) -> None:
+    def child(self) -> str:
         """`new` and a node."""
         new = self.take("new")
         if new is None:
             raise self.no_operand()
-        self.node(new)
+        return self.node(new)
 
-    def container(self, new: Token) -> None:
-        """A list with what is added to it, or an optional with its node."""
-        is_list = self.want(*CONTAINERS).text == "List"
+    def opening(self, new: Token) -> None:
+        """`[< CLASS >] (`"""
         if self.take("<"):
-            if not self.next.is_name():
-                raise Refused(LEFT_OUT, new.at)
-            self.at += 1
+            self.name_of(new)
             self.want_of(new, ">")
         self.want_of(new, "(")
-        if not is_list and not self.is_next(")"):
-            self.child()
+
+    def container(self, new: Token) -> str:
+        """A list with what is added to it, or an optional with its node."""
+        if self.want(*CONTAINERS).text == "List":
+            return f"[{','.join(self.items(new))}]"
+        self.opening(new)
+        found = "-" if self.is_next(")") else self.child()
         self.want_of(new, ")")
-        while is_list and self.take("."):
-            self.want_of(new, "add")
-            self.want_of(new, "(")
-            self.child()
-            self.want_of(new, ")")
+        return found
+
+    def items(self, new: Token) -> List[str]:
+        """An empty list and what is added to it, behind its `List`."""
+        self.opening(new)
+        self.want_of(new, ")")
+        found: List[str] = []
+        while self.take("."):
+            found.append(self.added(new))
+        return found
+
+    def added(self, at: Token) -> str:
+        """`add ( new NODE )`"""
+        self.want_of(at, "add")
+        self.want_of(at, "(")
+        found = self.child()
+        self.want_of(at, ")")
+        return found
 
 
 class Aspects(Constants):
     """Reads a file. Raises Refused."""
+
+    def __init__(self, text: str) -> None:
+        super().__init__(text)
+        # how many there are, constants counted
+        self.declarations = 0
 
     def file(self) -> None:
         while self.take("import"):
@@ -498,8 +630,10 @@ class Aspects(Constants):
     def declaration(self) -> None:
         while self.take(*MODIFIERS):
             pass
+        self.declarations += 1
+        first = self.next
         if self.take("syn"):
-            self.synthesized()
+            self.synthesized(first)
         elif self.take("inh"):
             self.head()
             self.want(";")
@@ -513,12 +647,12 @@ class Aspects(Constants):
         else:
             raise self.other()
 
-    def synthesized(self) -> None:
+    def synthesized(self, first: Token) -> None:
         """An attribute or a constant, behind its `syn`."""
         while self.take("lazy", "final"):
             pass
         if self.take("nta"):
-            self.constant()
+            self.constant(first.at)
             return
         self.head()
         if not self.take(";"):
@@ -574,6 +708,11 @@ def fault_of(text: str) -> Optional[str]:
     try:
         Aspects(text).file()
     except Refused as fault:
-        line = text.count("\n", 0, fault.at) + 1
-        return f"{fault.code} at {line}:{fault.at - text.rfind(chr(10), 0, fault.at)}"
+        return told(text, fault)
     return None
+
+
+def told(text: str, fault: Refused) -> str:
+    """A fault with its place in the text, as the program tells it."""
+    line = text.count("\n", 0, fault.at) + 1
+    return f"{fault.code} at {line}:{fault.at - text.rfind(chr(10), 0, fault.at)}"

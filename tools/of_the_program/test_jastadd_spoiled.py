@@ -1,12 +1,12 @@
 """Files of JastAdd's own language in which tokens are spoiled by chance: the program tells the code and the place that the manual says."""
 import os
 import random
-import re
 import sys
 from typing import Dict, List, Sequence
 
 from tools.of_the_program.jastadd_reading import fault_of
 from tools.of_the_program.runs import ProgramTest, ended
+from tools.of_the_program.spoiling import TOKENS, spaced, spoiled_once
 
 GRAMMAR = "Program ::= Block;\nabstract Stmt;\nBlock : Stmt ::= Stmt*;\nDecl : Stmt ::= <ID>;\n"
 TREE = 'Program(Block([Decl("x")]))\n'
@@ -65,26 +65,6 @@ FORMS: Dict[str, str] = {
 OTHERS = ("syn inh eq lazy circular nta final public void static new super if else for while return import aspect int boolean String "
           "Block Set List Opt add x true null this exists sum instanceof getChild ; , . ( ) { } [ ] < > = == != ! + - * / % ? : && ::= "
           "0 1 007 2147483648 \"t\" \"\\n\" \"\\q\" \" # é").split()
-# What stands between tokens.
-BLANKS = (" ",) * 9 + ("\n", "\n  ", "\t", " // if (\n", " /* for */ ", "\r\n")
-TOKENS = re.compile(r'"[^"]*"|\w+|==|!=|<=|>=|&&|\|\||\S')
-
-
-def sort_of(token: str) -> str:
-    """Whether the token is a word, a number, a text or another one."""
-    return "word" if token[0].isalpha() else "number" if token[0].isdigit() else "text" if token[0] == '"' else "sign"
-
-
-def spoiled_once(tokens: Sequence[str], chance: random.Random) -> List[str]:
-    """The tokens with one taken away, doubled or changed, with another one in front of it, behind the next one, or the last of all."""
-    at = chance.randrange(len(tokens))
-    front, it, behind = tokens[:at], tokens[at], tokens[at + 1:]
-    other, like = chance.choice(OTHERS), chance.choice([one for one in OTHERS if sort_of(one) == sort_of(it)])
-    ways: Dict[str, List[str]] = {
-        "away": [*front, *behind], "twice": [*front, it, it, *behind], "other": [*front, other, *behind], "like": [*front, like, *behind],
-        "between": [*front, other, it, *behind], "swap": [*front, *behind[:1], it, *behind[1:]], "end": [*front, it],
-    }
-    return ways[chance.choice(("away", "twice", "other", "like", "like", "between", "between", "swap", "end"))]
 
 
 def without_statement(tokens: Sequence[str], chance: random.Random) -> List[str]:
@@ -99,14 +79,9 @@ def spoiled(tokens: Sequence[str], chance: random.Random) -> List[str]:
     found = list(tokens)
     while found == tokens:
         for _ in range(chance.choice((1, 1, 2, 3))):
-            way = without_statement if "return" in found and chance.random() < 0.2 else spoiled_once
-            found = way(found, chance) or ["aspect"]
+            is_without = "return" in found and chance.random() < 0.2
+            found = (without_statement(found, chance) if is_without else spoiled_once(found, OTHERS, chance)) or ["aspect"]
     return found
-
-
-def spaced(tokens: Sequence[str], chance: random.Random) -> str:
-    """The tokens as a text, with blanks and comments between them."""
-    return "".join(it + chance.choice(BLANKS) for it in tokens)
 
 
 class Spoiled(ProgramTest):

@@ -9,7 +9,7 @@ from pathlib import Path
 from typing import List, Tuple
 from unittest import mock
 
-from tools.of_the_program import (test_circular, test_constants_sessions, test_jastadd_again, test_jastadd_bodies,
+from tools.of_the_program import (test_circular, test_constants_sessions, test_constants_spoiled, test_jastadd_again, test_jastadd_bodies,
                                   test_jastadd_overloaded, test_jastadd_specs, test_jastadd_spoiled, test_made)
 from tools.quick import APART, DIVIDED, LESS, SELDOM, SHORT, Part, environment_of, furnish, of_the_program, outcome_of, python
 
@@ -152,7 +152,8 @@ class Less(unittest.TestCase):
         found += [("ATTRD_CIRCULAR_SESSIONS", test_circular.SESSIONS), ("ATTRD_MADE_SESSIONS", test_made.SESSIONS),
                   ("ATTRD_SPOILED_FILES", test_jastadd_spoiled.FILES), ("ATTRD_SPECS_SESSIONS", test_jastadd_specs.SESSIONS),
                   ("ATTRD_BODIES_FILES", test_jastadd_bodies.FILES), ("ATTRD_OVERLOADED_COUNT", test_jastadd_overloaded.COUNT),
-                  ("ATTRD_AGAIN_COUNT", test_jastadd_again.COUNT), ("ATTRD_CONSTANTS_SESSIONS", test_constants_sessions.SESSIONS)]
+                  ("ATTRD_AGAIN_COUNT", test_jastadd_again.COUNT), ("ATTRD_CONSTANTS_SESSIONS", test_constants_sessions.SESSIONS),
+                  ("ATTRD_CONSTANTS_FILES", test_constants_spoiled.FILES)]
         for name, count in LESS:
             others = [it for known, it in found if known == name]
             self.assertTrue(others and int(count) < min(others), name)
