@@ -8,7 +8,7 @@ ghost use Rattle.at_index.specs.Desks.{desk_edges, drawer_at, edges_in_desks, sa
 ghost use Rattle.at_index.specs.Edges.{edges_in};
 ghost use Rattle.at_index.specs.Linking.{Keeps, Reads};
 ghost use Rattle.at_index.specs.Rows.{edges_along, edges_of};
-ghost use Rattle.at_index.specs.Runs.{Stays, is_live};
+ghost use Rattle.at_index.specs.Runs.{Stays};
 ghost use Rattle.at_index.specs.Sameness.{node_at};
 ghost use Rattle.at_index.specs.declared.desk.Spot.{Spot};
 ghost use Rattle.at_index.specs.declared.edge.Edge.{Edge};
@@ -17,7 +17,7 @@ ghost use Rattle.at_index.specs.declared.edge.Edges.{Edges};
 use crate::edge::{Edge, Edges};
 use crate::linking::add_edge;
 use crate::row::Row;
-use crate::tells::Tells;
+use crate::tells::{Adding, Tells};
 use at_store::{Loc, Node};
 use indexmap::IndexMap;
 use std::alloc::{AllocError, Global};
@@ -96,21 +96,6 @@ pub fn desks_of(all: &AllDesks, node: Node) -> Option<&Desks>
         return None;
     }
     all.get(&node)
-}
-
-// Who knows the same of edges as the teller, and that this one is to come.
-#[derive(Drop)]
-struct Live<'a, T: Tells> {
-    teller: &'a T,
-    edge: Edge,
-}
-
-impl<'a, T: Tells> Tells for Live<'a, T> {
-    ghost tells = { λ s. is_live (T.tells s.teller.now) s.edge };
-
-    fn tells_of(&self, edge: &Edge) -> bool {
-        self.teller.tells_of(edge) || edge.stamp == self.edge.stamp
-    }
 }
 
 // Whether no edge of the row tells of anything.
@@ -208,77 +193,57 @@ fn add_desk(desks: &mut Desks, spot: Spot, edge: Edge) -> Result<(), AllocError>
     }
 }
 
-// One more edge of a drawer, among those of a node.
-fn add_among<T: Tells>(
-    alloc: Global,
-    teller: &T,
-    desks: &mut Desks,
-    spot: Spot,
-    edge: Edge,
-) -> Result<(), AllocError>
-    ensures reads { (n : ℕ)
-        → Reads (T.tells teller.now) edge (drawer_at n spot ∷ []) (edges_in_desks n desks.old.spots.entries) (edges_in_desks n desks.new.spots.entries) }
-    ensures has { (n : ℕ) → OnOk result (Contains (edges_in_desks n desks.new.spots.entries (drawer_at n spot)) edge) }
-{
-    make_room(teller, desks)?;
-    match desks.spots.get_mut(&spot) {
-        Some(edges) => add_edge(alloc, teller, edges, edge),
-        None => add_desk(desks, spot, edge),
+impl<'a, T: Tells> Adding<'a, T> {
+    // One more edge of a drawer, among those of a node.
+    fn add_to_desks(&self, desks: &mut Desks, spot: Spot) -> Result<(), AllocError>
+        ensures reads { (n : ℕ) → Reads (T.tells self.now.teller.now) self.now.edge (drawer_at n spot ∷ [])
+            (edges_in_desks n desks.old.spots.entries) (edges_in_desks n desks.new.spots.entries) }
+        ensures has { (n : ℕ) → OnOk result (Contains (edges_in_desks n desks.new.spots.entries (drawer_at n spot)) self.now.edge) }
+    {
+        make_room(self.teller, desks)?;
+        match desks.spots.get_mut(&spot) {
+            Some(edges) => add_edge(self.alloc, self.teller, edges, self.edge),
+            None => add_desk(desks, spot, self.edge),
+        }
     }
-}
 
-// One more edge of a drawer of a node of which none was read yet.
-fn add_node<T: Tells>(
-    alloc: Global,
-    teller: &T,
-    all: &mut AllDesks,
-    node: Node,
-    spot: Spot,
-    edge: Edge,
-) -> Result<(), AllocError>
-    requires { lookup (nat_eq node) all.old.entries ≡ None }
-    ensures reads { Reads (T.tells teller.now) edge (drawer_at node spot ∷ []) (desk_edges all.old.entries) (desk_edges all.new.entries) }
-    ensures has { OnOk result (Contains (desk_edges all.new.entries (drawer_at node spot)) edge) }
-{
-    let mut desks = Desks::new(alloc);
-    add_among(alloc, teller, &mut desks, spot, edge)?;
-    match all.insert(node, desks) {
-        Ok(_) => Ok(()),
-        Err(_) => Err(AllocError),
+    // One more edge of a drawer of a node of which none was read yet.
+    fn add_node(&self, all: &mut AllDesks, node: Node, spot: Spot) -> Result<(), AllocError>
+        requires { lookup (nat_eq node) all.old.entries ≡ None }
+        ensures reads { Reads (T.tells self.now.teller.now) self.now.edge (drawer_at node spot ∷ []) (desk_edges all.old.entries) (desk_edges all.new.entries) }
+        ensures has { OnOk result (Contains (desk_edges all.new.entries (drawer_at node spot)) self.now.edge) }
+    {
+        let mut desks = Desks::new(self.alloc);
+        self.add_to_desks(&mut desks, spot)?;
+        match all.insert(node, desks) {
+            Ok(_) => Ok(()),
+            Err(_) => Err(AllocError),
+        }
     }
-}
 
-// One more edge of a drawer of the node.
-fn add_at_node<T: Tells>(
-    alloc: Global,
-    teller: &T,
-    all: &mut AllDesks,
-    node: Node,
-    spot: Spot,
-    edge: Edge,
-) -> Result<(), AllocError>
-    ensures reads { Reads (T.tells teller.now) edge (drawer_at node spot ∷ []) (desk_edges all.old.entries) (desk_edges all.new.entries) }
-    ensures has { OnOk result (Contains (desk_edges all.new.entries (drawer_at node spot)) edge) }
-{
-    match all.get_mut(&node) {
-        Some(desks) => add_among(alloc, teller, desks, spot, edge),
-        None => add_node(alloc, teller, all, node, spot, edge),
+    // One more edge of a drawer of the node.
+    fn add_at_node(&self, all: &mut AllDesks, node: Node, spot: Spot) -> Result<(), AllocError>
+        ensures reads { Reads (T.tells self.now.teller.now) self.now.edge (drawer_at node spot ∷ []) (desk_edges all.old.entries) (desk_edges all.new.entries) }
+        ensures has { OnOk result (Contains (desk_edges all.new.entries (drawer_at node spot)) self.now.edge) }
+    {
+        match all.get_mut(&node) {
+            Some(desks) => self.add_to_desks(desks, spot),
+            None => self.add_node(all, node, spot),
+        }
     }
-}
 
-/// One more edge of a drawer of the node. Where the edge stands already it stays.
-#[inline(never)]
-pub fn add_drawer<T: Tells>(
-    alloc: Global,
-    teller: &T,
-    all: &mut AllDesks,
-    node: Node,
-    spot: Spot,
-    edge: Edge,
-) -> Result<(), AllocError>
-    ensures reads { Reads (T.tells teller.now) edge (drawer_at node spot ∷ []) (desk_edges all.old.entries) (desk_edges all.new.entries) }
-    ensures stay { Stays edge (desk_edges all.old.entries) (desk_edges all.new.entries) }
-    ensures has { OnOk result (Contains (desk_edges all.new.entries (drawer_at node spot)) edge) }
-{
-    add_at_node(alloc, &Live { teller, edge }, all, node, spot, edge)
+    /// One more edge of a drawer of the node. Where the edge stands already it stays. An error where memory is wanting.
+    #[inline(never)]
+    pub fn add_drawer(&self, all: &mut AllDesks, node: Node, spot: Spot) -> Result<(), AllocError>
+        ensures reads { Reads (T.tells self.now.teller.now) self.now.edge (drawer_at node spot ∷ []) (desk_edges all.old.entries) (desk_edges all.new.entries) }
+        ensures stay { Stays self.now.edge (desk_edges all.old.entries) (desk_edges all.new.entries) }
+        ensures has { OnOk result (Contains (desk_edges all.new.entries (drawer_at node spot)) self.now.edge) }
+    {
+        let live = Adding {
+            alloc: self.alloc,
+            teller: self,
+            edge: self.edge,
+        };
+        live.add_at_node(all, node, spot)
+    }
 }

@@ -15,15 +15,15 @@ ghost use Rattle.at_index.specs.Readers.{edges_among, edges_at, stands_for};
 ghost use Rattle.at_index.specs.Finding.{edges_to, own_edges};
 ghost use Rattle.at_index.specs.Runs.{ListsBut, Stays};
 
-use crate::desk::{AllDesks, Spot, add_drawer};
+use crate::desk::{AllDesks, Spot};
 use crate::edge::{Edge, Edges, Many};
 use crate::facet::{Facet, Facets, Readers};
 use crate::facets::first_facet;
 use crate::noting::note;
 use crate::row::Row;
 use crate::run::AllReaders;
-use crate::stretch::{MANY, add_along, add_stretch, before_fold};
-use crate::tells::Tells;
+use crate::stretch::{MANY, before_fold};
+use crate::tells::{Adding, Tells};
 use at_store::{Loc, Node};
 use std::alloc::{AllocError, Global};
 
@@ -363,40 +363,6 @@ fn add_facet(readers: &mut Facets, facet: Facet, edge: Edge) -> Result<(), Alloc
     Ok(())
 }
 
-// One more edge of what stands at that place.
-fn add_at<T: Tells>(
-    alloc: Global,
-    teller: &T,
-    readers: &mut Facets,
-    place: usize,
-    edge: Edge,
-) -> Result<(), AllocError>
-    requires there { place < length readers.old.items }
-    ensures gains { (edges : Edges) × HasChanged (with_edges edges) place readers.old.items readers.new.items
-        × ListsAt (T.tells teller.now) edge place readers.old.items (edges_in edges) × OnOk result (Contains (edges_in edges) edge) }
-{
-    let found = &mut readers.as_mut_slice()[place];
-    add_edge(alloc, teller, &mut found.edges, edge)
-}
-
-// One more edge of a facet, among those of a node.
-fn add_among<T: Tells>(
-    alloc: Global,
-    teller: &T,
-    readers: &mut Facets,
-    facet: Facet,
-    edge: Edge,
-) -> Result<(), AllocError>
-    ensures lists { (n : ℕ) (l : Location ℕ) → Lists (T.tells teller.now) edge (edges_among n readers.old.items l) (edges_among n readers.new.items l) }
-    ensures has { (n : ℕ) → OnOk result ((l : Location ℕ) → stands_for n facet l ≡ true → Contains (edges_among n readers.new.items l) edge) }
-    ensures others { (n : ℕ) (l : Location ℕ) → stands_for n facet l ≡ false → edges_among n readers.new.items l ≡ edges_among n readers.old.items l }
-{
-    match position_of(readers.as_slice(), facet) {
-        Some(place) => add_at(alloc, teller, readers, place, edge),
-        None => add_facet(readers, facet, edge),
-    }
-}
-
 // A list for the node, where there is none yet.
 fn make_list(alloc: Global, readers: &mut Vec<Facets>, node: Node) -> Result<(), AllocError>
     ensures same { (l : Location ℕ) → edges_at readers.new.items l ≡ edges_at readers.old.items l }
@@ -408,145 +374,6 @@ fn make_list(alloc: Global, readers: &mut Vec<Facets>, node: Node) -> Result<(),
         readers.push(Facets::new(alloc))?;
     }
     Ok(())
-}
-
-// One more edge of a facet of the node.
-fn add_reader<T: Tells>(
-    alloc: Global,
-    teller: &T,
-    readers: &mut Vec<Facets>,
-    node: Node,
-    facet: Facet,
-    edge: Edge,
-) -> Result<(), AllocError>
-    ensures lists { (l : Location ℕ) → Lists (T.tells teller.now) edge (edges_at readers.old.items l) (edges_at readers.new.items l) }
-    ensures has { OnOk result ((l : Location ℕ) → stands_for node facet l ≡ true → Contains (edges_at readers.new.items l) edge) }
-    ensures others { (l : Location ℕ) → stands_for node facet l ≡ false → edges_at readers.new.items l ≡ edges_at readers.old.items l }
-    ensures short { length readers.old.items ≤ 2 ^ 32 → length readers.new.items ≤ 2 ^ 32 }
-{
-    make_list(alloc, readers, node)?;
-    let list = &mut readers[node.index()];
-    add_among(alloc, teller, list, facet, edge)
-}
-
-// One more edge of the location, which is no drawer, and of those of its node behind it that have one facet with it; what is left of the
-// others. The node is noted if its index is among them.
-#[inline(always)]
-fn add_near<'a, T: Tells>(
-    alloc: Global,
-    teller: &T,
-    readers: &mut Vec<Facets>,
-    index_read: &mut Vec<Node>,
-    location: Loc,
-    others: &'a [Loc],
-    edge: Edge,
-) -> Result<&'a [Loc], AllocError>
-    ensures reads { Reads (T.tells teller.now) edge (loc_view location ∷ map loc_view others.now) (edges_at readers.old.items) (edges_at readers.new.items) }
-    ensures stay { OnOk result (Stays edge (edges_at readers.old.items) (edges_at readers.new.items)) }
-    ensures listed { IfOk result (λ left. ListsBut edge (loc_view location ∷ map loc_view others.now) (map loc_view left.now) (edges_at readers.new.items)) }
-    ensures noted { AreNoted (edges_at readers.old.items) index_read.old.items → AreNoted (edges_at readers.new.items) index_read.new.items }
-    ensures short { length readers.old.items ≤ 2 ^ 32 → length readers.new.items ≤ 2 ^ 32 }
-    ensures fewer { IfOk result (λ left. length (map loc_view left.now) < length (loc_view location ∷ map loc_view others.now)) }
-{
-    note(readers.as_slice(), index_read, location)?;
-    let (facet, left) = first_facet(location, others)?;
-    add_reader(alloc, teller, readers, location.node(), facet, edge)?;
-    Ok(left)
-}
-
-// One more edge of the location, or of that and others of its node behind it; what is left of these.
-#[inline(always)]
-fn add_first<'a, T: Tells>(
-    alloc: Global,
-    teller: &T,
-    desks: &mut AllDesks,
-    readers: &mut Vec<Facets>,
-    index_read: &mut Vec<Node>,
-    location: Loc,
-    others: &'a [Loc],
-    edge: Edge,
-) -> Result<&'a [Loc], AllocError>
-    ensures reads { Reads (T.tells teller.now) edge (loc_view location ∷ map loc_view others.now)
-        (own_edges desks.old.entries readers.old.items) (own_edges desks.new.entries readers.new.items) }
-    ensures stay { OnOk result (Stays edge (own_edges desks.old.entries readers.old.items) (own_edges desks.new.entries readers.new.items)) }
-    ensures listed { IfOk result (λ left. ListsBut edge (loc_view location ∷ map loc_view others.now) (map loc_view left.now)
-        (own_edges desks.new.entries readers.new.items)) }
-    ensures noted { AreNoted (edges_at readers.old.items) index_read.old.items → AreNoted (edges_at readers.new.items) index_read.new.items }
-    ensures short { length readers.old.items ≤ 2 ^ 32 → length readers.new.items ≤ 2 ^ 32 }
-    ensures fewer { IfOk result (λ left. length (map loc_view left.now) < length (loc_view location ∷ map loc_view others.now)) }
-{
-    match location {
-        Loc::Drawer {
-            node,
-            part,
-            first,
-            token,
-            classes,
-            mark,
-        } => {
-            let spot = Spot {
-                part,
-                first,
-                token,
-                classes,
-                mark,
-            };
-            add_drawer(alloc, teller, desks, node, spot, edge)?;
-            Ok(others)
-        }
-        _ => add_near(alloc, teller, readers, index_read, location, others, edge),
-    }
-}
-
-// One more edge of each of these locations, of its own. The nodes whose index is among them are noted.
-fn add_each<T: Tells>(
-    alloc: Global,
-    teller: &T,
-    desks: &mut AllDesks,
-    readers: &mut Vec<Facets>,
-    index_read: &mut Vec<Node>,
-    locations: &[Loc],
-    edge: Edge,
-) -> Result<(), AllocError>
-    ensures reads { Reads (T.tells teller.now) edge (map loc_view locations.now)
-        (own_edges desks.old.entries readers.old.items) (own_edges desks.new.entries readers.new.items) }
-    ensures stay { OnOk result (Stays edge (own_edges desks.old.entries readers.old.items) (own_edges desks.new.entries readers.new.items)) }
-    ensures listed { OnOk result (AreListed edge (map loc_view locations.now) (own_edges desks.new.entries readers.new.items)) }
-    ensures noted { AreNoted (edges_at readers.old.items) index_read.old.items → AreNoted (edges_at readers.new.items) index_read.new.items }
-    ensures short { length readers.old.items ≤ 2 ^ 32 → length readers.new.items ≤ 2 ^ 32 }
-{
-    let mut rest = locations;
-    while let Some((location, others)) = rest.split_first() {
-        rest = add_first(
-            alloc, teller, desks, readers, index_read, *location, others, edge,
-        )?;
-    }
-    Ok(())
-}
-
-// The same among all readers.
-fn add_own<T: Tells>(
-    alloc: Global,
-    teller: &T,
-    readers: &mut AllReaders,
-    index_read: &mut Vec<Node>,
-    locations: &[Loc],
-    edge: Edge,
-) -> Result<(), AllocError>
-    ensures reads { Reads (T.tells teller.now) edge (map loc_view locations.now) (edges_to readers.old) (edges_to readers.new) }
-    ensures stay { OnOk result (Stays edge (edges_to readers.old) (edges_to readers.new)) }
-    ensures listed { OnOk result (AreListed edge (map loc_view locations.now) (edges_to readers.new)) }
-    ensures noted { AreNoted (edges_to readers.old) index_read.old.items → AreNoted (edges_to readers.new) index_read.new.items }
-{
-    add_each(
-        alloc,
-        teller,
-        &mut readers.desks,
-        &mut readers.own,
-        index_read,
-        locations,
-        edge,
-    )
 }
 
 // How many locations at the front have one facet; one, where the first has none.
@@ -562,57 +389,193 @@ fn first_width(locations: &[Loc]) -> Result<usize, AllocError>
     Ok(locations.len() - left.len())
 }
 
-// One more edge for the first facet of these locations, and one for those behind it that sit in a run; what is left of them.
-fn add_further<'a, T: Tells>(
-    alloc: Global,
-    teller: &T,
-    readers: &mut AllReaders,
-    index_read: &mut Vec<Node>,
-    locations: &'a [Loc],
-    edge: Edge,
-) -> Result<&'a [Loc], AllocError>
-    ensures reads { Reads (T.tells teller.now) edge (map loc_view locations.now) (edges_to readers.old) (edges_to readers.new) }
-    ensures stay { OnOk result (Stays edge (edges_to readers.old) (edges_to readers.new)) }
-    ensures listed { IfOk result (λ left. ListsBut edge (map loc_view locations.now) (map loc_view left.now) (edges_to readers.new)) }
-    ensures noted { AreNoted (edges_to readers.old) index_read.old.items → AreNoted (edges_to readers.new) index_read.new.items }
-{
-    let width = first_width(locations)?;
-    let (front, others) = locations.split_at(width);
-    add_own(alloc, teller, readers, index_read, front, edge)?;
-    add_along(teller, &mut readers.seats, &mut readers.runs, others, edge)
-}
-
-// The same, where those of a fold have one edge for each part of a run in which they lie.
-fn add_fold<T: Tells>(
-    alloc: Global,
-    teller: &T,
-    readers: &mut AllReaders,
-    index_read: &mut Vec<Node>,
-    locations: &[Loc],
-    edge: Edge,
-) -> Result<(), AllocError>
-    ensures reads { Reads (T.tells teller.now) edge (map loc_view locations.now) (edges_to readers.old) (edges_to readers.new) }
-    ensures listed { OnOk result (AreListed edge (map loc_view locations.now) (edges_to readers.new)) }
-    ensures noted { AreNoted (edges_to readers.old) index_read.old.items → AreNoted (edges_to readers.new) index_read.new.items }
-{
-    let place = before_fold(readers.seats.as_slice(), locations);
-    let (front, others) = locations.split_at(place);
-    add_own(alloc, teller, readers, index_read, front, edge)?;
-    let mut rest = add_stretch(
-        alloc,
-        teller,
-        &mut readers.seats,
-        &mut readers.runs,
-        others,
-        edge,
-    )?;
-    for _ in 0..PARTS {
-        if rest.is_empty() {
-            return Ok(());
-        }
-        rest = add_further(alloc, teller, readers, index_read, rest, edge)?;
+impl<'a, T: Tells> Adding<'a, T> {
+    // One more edge of what stands at that place.
+    fn add_at(&self, readers: &mut Facets, place: usize) -> Result<(), AllocError>
+        requires there { place < length readers.old.items }
+        ensures gains { (edges : Edges) × HasChanged (with_edges edges) place readers.old.items readers.new.items
+            × ListsAt (T.tells self.now.teller.now) self.now.edge place readers.old.items (edges_in edges)
+            × OnOk result (Contains (edges_in edges) self.now.edge) }
+    {
+        let found = &mut readers.as_mut_slice()[place];
+        add_edge(self.alloc, self.teller, &mut found.edges, self.edge)
     }
-    add_own(alloc, teller, readers, index_read, rest, edge)
+
+    // One more edge of a facet, among those of a node.
+    fn add_among(&self, readers: &mut Facets, facet: Facet) -> Result<(), AllocError>
+        ensures lists { (n : ℕ) (l : Location ℕ)
+            → Lists (T.tells self.now.teller.now) self.now.edge (edges_among n readers.old.items l) (edges_among n readers.new.items l) }
+        ensures has { (n : ℕ) → OnOk result ((l : Location ℕ) → stands_for n facet l ≡ true → Contains (edges_among n readers.new.items l) self.now.edge) }
+        ensures others { (n : ℕ) (l : Location ℕ) → stands_for n facet l ≡ false → edges_among n readers.new.items l ≡ edges_among n readers.old.items l }
+    {
+        match position_of(readers.as_slice(), facet) {
+            Some(place) => self.add_at(readers, place),
+            None => add_facet(readers, facet, self.edge),
+        }
+    }
+
+    // One more edge of a facet of the node.
+    fn add_reader(
+        &self,
+        readers: &mut Vec<Facets>,
+        node: Node,
+        facet: Facet,
+    ) -> Result<(), AllocError>
+        ensures lists { (l : Location ℕ) → Lists (T.tells self.now.teller.now) self.now.edge (edges_at readers.old.items l) (edges_at readers.new.items l) }
+        ensures has { OnOk result ((l : Location ℕ) → stands_for node facet l ≡ true → Contains (edges_at readers.new.items l) self.now.edge) }
+        ensures others { (l : Location ℕ) → stands_for node facet l ≡ false → edges_at readers.new.items l ≡ edges_at readers.old.items l }
+        ensures short { length readers.old.items ≤ 2 ^ 32 → length readers.new.items ≤ 2 ^ 32 }
+    {
+        make_list(self.alloc, readers, node)?;
+        let list = &mut readers[node.index()];
+        self.add_among(list, facet)
+    }
+
+    // One more edge of the location, which is no drawer, and of those of its node behind it that have one facet with it; what is left of the
+    // others. The node is noted if its index is among them.
+    #[inline(always)]
+    fn add_near<'b>(
+        &self,
+        readers: &mut Vec<Facets>,
+        index_read: &mut Vec<Node>,
+        location: Loc,
+        others: &'b [Loc],
+    ) -> Result<&'b [Loc], AllocError>
+        ensures reads { Reads (T.tells self.now.teller.now) self.now.edge (loc_view location ∷ map loc_view others.now)
+            (edges_at readers.old.items) (edges_at readers.new.items) }
+        ensures stay { OnOk result (Stays self.now.edge (edges_at readers.old.items) (edges_at readers.new.items)) }
+        ensures listed { IfOk result (λ left. ListsBut self.now.edge (loc_view location ∷ map loc_view others.now) (map loc_view left.now)
+            (edges_at readers.new.items)) }
+        ensures noted { AreNoted (edges_at readers.old.items) index_read.old.items → AreNoted (edges_at readers.new.items) index_read.new.items }
+        ensures short { length readers.old.items ≤ 2 ^ 32 → length readers.new.items ≤ 2 ^ 32 }
+        ensures fewer { IfOk result (λ left. length (map loc_view left.now) < length (loc_view location ∷ map loc_view others.now)) }
+    {
+        note(readers.as_slice(), index_read, location)?;
+        let (facet, left) = first_facet(location, others)?;
+        self.add_reader(readers, location.node(), facet)?;
+        Ok(left)
+    }
+
+    // One more edge of the location, or of that and others of its node behind it; what is left of these.
+    #[inline(always)]
+    fn add_first<'b>(
+        &self,
+        desks: &mut AllDesks,
+        readers: &mut Vec<Facets>,
+        index_read: &mut Vec<Node>,
+        location: Loc,
+        others: &'b [Loc],
+    ) -> Result<&'b [Loc], AllocError>
+        ensures reads { Reads (T.tells self.now.teller.now) self.now.edge (loc_view location ∷ map loc_view others.now)
+            (own_edges desks.old.entries readers.old.items) (own_edges desks.new.entries readers.new.items) }
+        ensures stay { OnOk result (Stays self.now.edge (own_edges desks.old.entries readers.old.items) (own_edges desks.new.entries readers.new.items)) }
+        ensures listed { IfOk result (λ left. ListsBut self.now.edge (loc_view location ∷ map loc_view others.now) (map loc_view left.now)
+            (own_edges desks.new.entries readers.new.items)) }
+        ensures noted { AreNoted (edges_at readers.old.items) index_read.old.items → AreNoted (edges_at readers.new.items) index_read.new.items }
+        ensures short { length readers.old.items ≤ 2 ^ 32 → length readers.new.items ≤ 2 ^ 32 }
+        ensures fewer { IfOk result (λ left. length (map loc_view left.now) < length (loc_view location ∷ map loc_view others.now)) }
+    {
+        match location {
+            Loc::Drawer {
+                node,
+                part,
+                first,
+                token,
+                classes,
+                mark,
+            } => {
+                let spot = Spot {
+                    part,
+                    first,
+                    token,
+                    classes,
+                    mark,
+                };
+                self.add_drawer(desks, node, spot)?;
+                Ok(others)
+            }
+            _ => self.add_near(readers, index_read, location, others),
+        }
+    }
+
+    // One more edge of each of these locations, of its own. The nodes whose index is among them are noted.
+    fn add_each(
+        &self,
+        desks: &mut AllDesks,
+        readers: &mut Vec<Facets>,
+        index_read: &mut Vec<Node>,
+        locations: &[Loc],
+    ) -> Result<(), AllocError>
+        ensures reads { Reads (T.tells self.now.teller.now) self.now.edge (map loc_view locations.now)
+            (own_edges desks.old.entries readers.old.items) (own_edges desks.new.entries readers.new.items) }
+        ensures stay { OnOk result (Stays self.now.edge (own_edges desks.old.entries readers.old.items) (own_edges desks.new.entries readers.new.items)) }
+        ensures listed { OnOk result (AreListed self.now.edge (map loc_view locations.now) (own_edges desks.new.entries readers.new.items)) }
+        ensures noted { AreNoted (edges_at readers.old.items) index_read.old.items → AreNoted (edges_at readers.new.items) index_read.new.items }
+        ensures short { length readers.old.items ≤ 2 ^ 32 → length readers.new.items ≤ 2 ^ 32 }
+    {
+        let mut rest = locations;
+        while let Some((location, others)) = rest.split_first() {
+            rest = self.add_first(desks, readers, index_read, *location, others)?;
+        }
+        Ok(())
+    }
+
+    // The same among all readers.
+    fn add_own(
+        &self,
+        readers: &mut AllReaders,
+        index_read: &mut Vec<Node>,
+        locations: &[Loc],
+    ) -> Result<(), AllocError>
+        ensures reads { Reads (T.tells self.now.teller.now) self.now.edge (map loc_view locations.now) (edges_to readers.old) (edges_to readers.new) }
+        ensures stay { OnOk result (Stays self.now.edge (edges_to readers.old) (edges_to readers.new)) }
+        ensures listed { OnOk result (AreListed self.now.edge (map loc_view locations.now) (edges_to readers.new)) }
+        ensures noted { AreNoted (edges_to readers.old) index_read.old.items → AreNoted (edges_to readers.new) index_read.new.items }
+    {
+        self.add_each(&mut readers.desks, &mut readers.own, index_read, locations)
+    }
+
+    // One more edge for the first facet of these locations, and one for those behind it that sit in a run; what is left of them.
+    fn add_further<'b>(
+        &self,
+        readers: &mut AllReaders,
+        index_read: &mut Vec<Node>,
+        locations: &'b [Loc],
+    ) -> Result<&'b [Loc], AllocError>
+        ensures reads { Reads (T.tells self.now.teller.now) self.now.edge (map loc_view locations.now) (edges_to readers.old) (edges_to readers.new) }
+        ensures stay { OnOk result (Stays self.now.edge (edges_to readers.old) (edges_to readers.new)) }
+        ensures listed { IfOk result (λ left. ListsBut self.now.edge (map loc_view locations.now) (map loc_view left.now) (edges_to readers.new)) }
+        ensures noted { AreNoted (edges_to readers.old) index_read.old.items → AreNoted (edges_to readers.new) index_read.new.items }
+    {
+        let width = first_width(locations)?;
+        let (front, others) = locations.split_at(width);
+        self.add_own(readers, index_read, front)?;
+        self.add_along(&mut readers.seats, &mut readers.runs, others)
+    }
+
+    // The same, where those of a fold have one edge for each part of a run in which they lie.
+    fn add_fold(
+        &self,
+        readers: &mut AllReaders,
+        index_read: &mut Vec<Node>,
+        locations: &[Loc],
+    ) -> Result<(), AllocError>
+        ensures reads { Reads (T.tells self.now.teller.now) self.now.edge (map loc_view locations.now) (edges_to readers.old) (edges_to readers.new) }
+        ensures listed { OnOk result (AreListed self.now.edge (map loc_view locations.now) (edges_to readers.new)) }
+        ensures noted { AreNoted (edges_to readers.old) index_read.old.items → AreNoted (edges_to readers.new) index_read.new.items }
+    {
+        let place = before_fold(readers.seats.as_slice(), locations);
+        let (front, others) = locations.split_at(place);
+        self.add_own(readers, index_read, front)?;
+        let mut rest = self.add_stretch(&mut readers.seats, &mut readers.runs, others)?;
+        for _ in 0..PARTS {
+            if rest.is_empty() {
+                return Ok(());
+            }
+            rest = self.add_further(readers, index_read, rest)?;
+        }
+        self.add_own(readers, index_read, rest)
+    }
 }
 
 /// One more edge of each of these locations, or one for several. The nodes whose index is among them are noted.
@@ -628,8 +591,13 @@ pub fn add_readers<T: Tells>(
     ensures listed { OnOk result (AreListed edge (map loc_view locations.now) (edges_to readers.new)) }
     ensures noted { AreNoted (edges_to readers.old) index_read.old.items → AreNoted (edges_to readers.new) index_read.new.items }
 {
+    let adding = Adding {
+        alloc,
+        teller,
+        edge,
+    };
     if locations.len() < MANY {
-        return add_own(alloc, teller, readers, index_read, locations, edge);
+        return adding.add_own(readers, index_read, locations);
     }
-    add_fold(alloc, teller, readers, index_read, locations, edge)
+    adding.add_fold(readers, index_read, locations)
 }

@@ -5,13 +5,12 @@ ghost use Rattle.at_model.specs.Run.{Location};
 ghost use Rattle.at_index.specs.declared.edge.Edge.{Edge};
 ghost use Rattle.at_index.specs.declared.run.Run.{Run};
 ghost use Rattle.at_index.specs.declared.run.Seat.{Seat};
-ghost use Rattle.at_index.specs.Runs.{AreApart, AreGiven, ArePast, AreSeated, HoldsReach, IsFree, KeepsRuns, Lose, count_of, edges_on, edges_over, is_live};
+ghost use Rattle.at_index.specs.Runs.{AreApart, AreGiven, ArePast, AreSeated, HoldsReach, IsFree, KeepsRuns, Lose, count_of, edges_on, edges_over};
 
-use crate::edge::Edge;
 use crate::facet::{Facet, small};
 use crate::facets::first_facet;
 use crate::run::{Reach, Run, Seat};
-use crate::tells::Tells;
+use crate::tells::{Adding, Tells};
 use at_store::{Loc, Node};
 use std::alloc::{AllocError, Global};
 
@@ -49,67 +48,6 @@ fn make_seat(seats: &mut Vec<Seat>, node: Node) -> Result<(), AllocError>
     Ok(())
 }
 
-/// Whether the edge tells of an entry, or of one that is to come, as this one does.
-pub fn is_live<T: Tells>(teller: &T, edge: Edge, reach: &Reach) -> bool
-    ensures { result ≡ is_live (T.tells teller.now) edge reach.now.edge }
-{
-    teller.tells_of(&reach.edge) || reach.edge.stamp == edge.stamp
-}
-
-// The edges at the end that tell of nothing go.
-fn trim<T: Tells>(teller: &T, edge: Edge, edges: &mut Vec<Reach>)
-    ensures { HoldsReach (T.tells teller.now) edge edges.old.items edges.new.items }
-{
-    while let Some(reach) = edges.last() {
-        if is_live(teller, edge, reach) {
-            return;
-        }
-        edges.pop();
-    }
-}
-
-// Whether each edge of the run tells of nothing: then it has none any more.
-fn is_idle<T: Tells>(teller: &T, edge: Edge, runs: &mut Vec<Run>, run: usize) -> bool
-    ensures keeps { KeepsRuns (T.tells teller.now) edge runs.old.items runs.new.items }
-    ensures idle { IsTrue result → (s : Seat) → s.run ≡ run → edges_on runs.new.items s ≡ [] }
-    ensures there { IsTrue result → run < length runs.new.items }
-{
-    match runs.get_mut(run) {
-        Some(found) => {
-            trim(teller, edge, &mut found.edges);
-            found.edges.is_empty()
-        }
-        None => false,
-    }
-}
-
-// The run, where each edge of it tells of nothing.
-fn idle_run<T: Tells>(teller: &T, edge: Edge, runs: &mut Vec<Run>, run: u32) -> Option<u32>
-    ensures keeps { KeepsRuns (T.tells teller.now) edge runs.old.items runs.new.items }
-    ensures there { IfSome result (λ run. run < length runs.new.items) }
-{
-    if is_idle(teller, edge, runs, run as usize) {
-        return Some(run);
-    }
-    None
-}
-
-// The last run, if there is one, where each edge of it tells of nothing.
-fn last_idle<T: Tells>(
-    teller: &T,
-    edge: Edge,
-    runs: &mut Vec<Run>,
-) -> Result<Option<u32>, AllocError>
-    ensures keeps { KeepsRuns (T.tells teller.now) edge runs.old.items runs.new.items }
-    ensures there { IfOk result (λ o. IfSome o (λ run. run < length runs.new.items)) }
-{
-    let Some(last) = runs.len().checked_sub(1) else {
-        return Ok(None);
-    };
-    let last = small(last)?;
-    Ok(idle_run(teller, edge, runs, last))
-}
-
 // One run more, with no edge.
 fn add_run(alloc: Global, runs: &mut Vec<Run>) -> Result<Option<u32>, AllocError>
     ensures keeps { (tells : Edge → Bool) (x : Edge) → KeepsRuns tells x runs.old.items runs.new.items }
@@ -121,36 +59,6 @@ fn add_run(alloc: Global, runs: &mut Vec<Run>) -> Result<Option<u32>, AllocError
         edges: Vec::new(alloc),
     })?;
     Ok(Some(run))
-}
-
-// The run that a node comes to sit in which sits there: its own, or, where it sits nowhere, the last one, where these have no edge any
-// more, or one more; none where edges are over it.
-fn run_for<T: Tells>(
-    alloc: Global,
-    teller: &T,
-    edge: Edge,
-    runs: &mut Vec<Run>,
-    seat: Seat,
-) -> Result<Option<u32>, AllocError>
-    ensures keeps { KeepsRuns (T.tells teller.now) edge runs.old.items runs.new.items }
-    ensures there { IfOk result (λ o. IfSome o (λ run. run < length runs.new.items)) }
-{
-    if seat.place > 0 {
-        return Ok(idle_run(teller, edge, runs, seat.run));
-    }
-    let last = last_idle(teller, edge, runs)?;
-    if last.is_some() {
-        return Ok(last);
-    }
-    add_run(alloc, runs)
-}
-
-// Whether the node that sits there may sit elsewhere: it sits nowhere, or no edge is over it.
-fn is_free<T: Tells>(teller: &T, edge: Edge, runs: &mut Vec<Run>, seat: Seat) -> bool
-    ensures keeps { KeepsRuns (T.tells teller.now) edge runs.old.items runs.new.items }
-    ensures free { IsTrue result → edges_on runs.new.items seat ≡ [] }
-{
-    seat.place == 0 || is_idle(teller, edge, runs, seat.run as usize)
 }
 
 // The next place of the run is given, if there is one.
@@ -189,55 +97,130 @@ fn sit(
     Ok(())
 }
 
-/// Those that the locations at the front go over come to sit in the run, one behind the other, up to the first one that sits elsewhere.
-pub fn sit_all<T: Tells>(
-    teller: &T,
-    edge: Edge,
-    seats: &mut Vec<Seat>,
-    runs: &mut Vec<Run>,
-    run: u32,
-    locations: &[Loc],
-) -> Result<(), AllocError>
-    requires { AreSeated seats.old.items runs.old.items }
-    ensures seated { AreSeated seats.new.items runs.new.items }
-    ensures holds { Lose (T.tells teller.now) edge (edges_over seats.old.items runs.old.items) (edges_over seats.new.items runs.new.items) }
-    ensures short { length seats.old.items ≤ 2 ^ 32 → length seats.new.items ≤ 2 ^ 32 }
-{
-    let mut rest = locations;
-    while let Some((location, others)) = rest.split_first() {
-        let Ok((facet, left)) = first_facet(*location, others) else {
-            return Ok(());
-        };
-        if !facet.is_of_element() {
-            return Ok(());
+impl<'a, T: Tells> Adding<'a, T> {
+    // The edges at the end that tell of nothing go.
+    fn trim(&self, edges: &mut Vec<Reach>)
+        ensures { HoldsReach (T.tells self.now.teller.now) self.now.edge edges.old.items edges.new.items }
+    {
+        while let Some(reach) = edges.last() {
+            if self.tells_of(&reach.edge) {
+                return;
+            }
+            edges.pop();
         }
-        let seat = seat_of(seats.as_slice(), location.node());
-        if !is_free(teller, edge, runs, seat) {
-            return Ok(());
-        }
-        sit(seats, runs, location.node(), run, facet)?;
-        rest = left;
     }
-    Ok(())
-}
 
-/// The same in a run for the first of them, if that may sit elsewhere: in its own, where that has no edge any more, or in the last one.
-pub fn sit_anew<T: Tells>(
-    alloc: Global,
-    teller: &T,
-    edge: Edge,
-    seats: &mut Vec<Seat>,
-    runs: &mut Vec<Run>,
-    locations: &[Loc],
-) -> Result<(), AllocError>
-    requires { AreSeated seats.old.items runs.old.items }
-    ensures seated { AreSeated seats.new.items runs.new.items }
-    ensures holds { Lose (T.tells teller.now) edge (edges_over seats.old.items runs.old.items) (edges_over seats.new.items runs.new.items) }
-    ensures short { length seats.old.items ≤ 2 ^ 32 → length seats.new.items ≤ 2 ^ 32 }
-{
-    let seat = first_seat(seats.as_slice(), locations);
-    match run_for(alloc, teller, edge, runs, seat)? {
-        Some(run) => sit_all(teller, edge, seats, runs, run, locations),
-        None => Ok(()),
+    // Whether each edge of the run tells of nothing: then it has none any more.
+    fn is_idle(&self, runs: &mut Vec<Run>, run: usize) -> bool
+        ensures keeps { KeepsRuns (T.tells self.now.teller.now) self.now.edge runs.old.items runs.new.items }
+        ensures idle { IsTrue result → (s : Seat) → s.run ≡ run → edges_on runs.new.items s ≡ [] }
+        ensures there { IsTrue result → run < length runs.new.items }
+    {
+        match runs.get_mut(run) {
+            Some(found) => {
+                self.trim(&mut found.edges);
+                found.edges.is_empty()
+            }
+            None => false,
+        }
+    }
+
+    // The run, where each edge of it tells of nothing.
+    fn idle_run(&self, runs: &mut Vec<Run>, run: u32) -> Option<u32>
+        ensures keeps { KeepsRuns (T.tells self.now.teller.now) self.now.edge runs.old.items runs.new.items }
+        ensures there { IfSome result (λ run. run < length runs.new.items) }
+    {
+        if self.is_idle(runs, run as usize) {
+            return Some(run);
+        }
+        None
+    }
+
+    // The last run, if there is one, where each edge of it tells of nothing.
+    fn last_idle(&self, runs: &mut Vec<Run>) -> Result<Option<u32>, AllocError>
+        ensures keeps { KeepsRuns (T.tells self.now.teller.now) self.now.edge runs.old.items runs.new.items }
+        ensures there { IfOk result (λ o. IfSome o (λ run. run < length runs.new.items)) }
+    {
+        let Some(last) = runs.len().checked_sub(1) else {
+            return Ok(None);
+        };
+        let last = small(last)?;
+        Ok(self.idle_run(runs, last))
+    }
+
+    // The run that a node comes to sit in which sits there: its own, or, where it sits nowhere, the last one, where these have no edge any
+    // more, or one more; none where edges are over it.
+    fn run_for(&self, runs: &mut Vec<Run>, seat: Seat) -> Result<Option<u32>, AllocError>
+        ensures keeps { KeepsRuns (T.tells self.now.teller.now) self.now.edge runs.old.items runs.new.items }
+        ensures there { IfOk result (λ o. IfSome o (λ run. run < length runs.new.items)) }
+    {
+        if seat.place > 0 {
+            return Ok(self.idle_run(runs, seat.run));
+        }
+        let last = self.last_idle(runs)?;
+        if last.is_some() {
+            return Ok(last);
+        }
+        add_run(self.alloc, runs)
+    }
+
+    // Whether the node that sits there may sit elsewhere: it sits nowhere, or no edge is over it.
+    fn is_free(&self, runs: &mut Vec<Run>, seat: Seat) -> bool
+        ensures keeps { KeepsRuns (T.tells self.now.teller.now) self.now.edge runs.old.items runs.new.items }
+        ensures free { IsTrue result → edges_on runs.new.items seat ≡ [] }
+    {
+        seat.place == 0 || self.is_idle(runs, seat.run as usize)
+    }
+
+    /// Those that the locations at the front go over come to sit in the run, one behind the other, up to the first one that sits elsewhere.
+    pub fn sit_all(
+        &self,
+        seats: &mut Vec<Seat>,
+        runs: &mut Vec<Run>,
+        run: u32,
+        locations: &[Loc],
+    ) -> Result<(), AllocError>
+        requires { AreSeated seats.old.items runs.old.items }
+        ensures seated { AreSeated seats.new.items runs.new.items }
+        ensures holds { Lose (T.tells self.now.teller.now) self.now.edge (edges_over seats.old.items runs.old.items)
+            (edges_over seats.new.items runs.new.items) }
+        ensures short { length seats.old.items ≤ 2 ^ 32 → length seats.new.items ≤ 2 ^ 32 }
+    {
+        let mut rest = locations;
+        while let Some((location, others)) = rest.split_first() {
+            let Ok((facet, left)) = first_facet(*location, others) else {
+                return Ok(());
+            };
+            if !facet.is_of_element() {
+                return Ok(());
+            }
+            let seat = seat_of(seats.as_slice(), location.node());
+            if !self.is_free(runs, seat) {
+                return Ok(());
+            }
+            sit(seats, runs, location.node(), run, facet)?;
+            rest = left;
+        }
+        Ok(())
+    }
+
+    /// The same in a run for the first of them, if that may sit elsewhere: in its own, where that has no edge any more, or in the last one.
+    pub fn sit_anew(
+        &self,
+        seats: &mut Vec<Seat>,
+        runs: &mut Vec<Run>,
+        locations: &[Loc],
+    ) -> Result<(), AllocError>
+        requires { AreSeated seats.old.items runs.old.items }
+        ensures seated { AreSeated seats.new.items runs.new.items }
+        ensures holds { Lose (T.tells self.now.teller.now) self.now.edge (edges_over seats.old.items runs.old.items)
+            (edges_over seats.new.items runs.new.items) }
+        ensures short { length seats.old.items ≤ 2 ^ 32 → length seats.new.items ≤ 2 ^ 32 }
+    {
+        let seat = first_seat(seats.as_slice(), locations);
+        match self.run_for(runs, seat)? {
+            Some(run) => self.sit_all(seats, runs, run, locations),
+            None => Ok(()),
+        }
     }
 }

@@ -5,12 +5,11 @@ ghost use Rattle.at_store.specs.Located.{loc_view};
 ghost use Rattle.at_index.specs.declared.run.Seat.{Seat};
 ghost use Rattle.at_index.specs.Runs.{Adds, AddsReads, AreApart, ArePast, AreSeated, Follows, Gains, HoldsReach, ListsBut, Lose, SitsAt, count_of, edges_on, edges_over, is_within};
 
-use crate::edge::Edge;
 use crate::facet::Facet;
 use crate::facets::first_facet;
 use crate::run::{Reach, Run, Seat};
-use crate::seating::{first_seat, is_live, seat_of, sit_all, sit_anew};
-use crate::tells::Tells;
+use crate::seating::{first_seat, seat_of};
+use crate::tells::{Adding, Tells};
 use at_store::{Loc, Node};
 use std::alloc::{AllocError, Global};
 
@@ -103,140 +102,146 @@ fn follow<'a>(
     Ok((last, rest))
 }
 
-// The edges that tell of nothing go.
-fn purge<T: Tells>(teller: &T, edge: Edge, edges: &mut Vec<Reach>)
-    ensures { HoldsReach (T.tells teller.now) edge edges.old.items edges.new.items }
-{
-    let mut place = 0;
-    while place < edges.len() {
-        if is_live(teller, edge, &edges[place]) {
-            place += 1;
-        } else {
-            edges.swap_remove(place);
+impl<'a, T: Tells> Adding<'a, T> {
+    // The edges that tell of nothing go.
+    fn purge(&self, edges: &mut Vec<Reach>)
+        ensures { HoldsReach (T.tells self.now.teller.now) self.now.edge edges.old.items edges.new.items }
+    {
+        let mut place = 0;
+        while place < edges.len() {
+            if self.tells_of(&edges[place].edge) {
+                place += 1;
+            } else {
+                edges.swap_remove(place);
+            }
         }
     }
-}
 
-// Makes room for one more edge of a list that is full: it loses those that tell of nothing first, and gets more room only where half of
-// it or less is left then.
-fn make_room<T: Tells>(teller: &T, edge: Edge, edges: &mut Vec<Reach>) -> Result<(), AllocError>
-    ensures { HoldsReach (T.tells teller.now) edge edges.old.items edges.new.items }
-{
-    if edges.len() < edges.capacity() {
-        return Ok(());
+    // Makes room for one more edge of a list that is full: it loses those that tell of nothing first, and gets more room only where half of
+    // it or less is left then.
+    fn make_room(&self, edges: &mut Vec<Reach>) -> Result<(), AllocError>
+        ensures { HoldsReach (T.tells self.now.teller.now) self.now.edge edges.old.items edges.new.items }
+    {
+        if edges.len() < edges.capacity() {
+            return Ok(());
+        }
+        self.purge(edges);
+        let count = edges.len();
+        if count >= edges.capacity() / 2 {
+            edges.reserve(count)?;
+        }
+        Ok(())
     }
-    purge(teller, edge, edges);
-    let count = edges.len();
-    if count >= edges.capacity() / 2 {
-        edges.reserve(count)?;
+
+    // One more edge of a list.
+    fn add_to(&self, edges: &mut Vec<Reach>, behind: u32, last: u32) -> Result<(), AllocError>
+        ensures gains { Gains (T.tells self.now.teller.now) (record { edge = self.now.edge; behind = behind; last = last }) edges.old.items edges.new.items }
+        ensures has { OnOk result (Contains edges.new.items (record { edge = self.now.edge; behind = behind; last = last })) }
+    {
+        self.make_room(edges)?;
+        edges.push(Reach {
+            edge: self.edge,
+            behind,
+            last,
+        })?;
+        Ok(())
     }
-    Ok(())
-}
 
-// One more edge of a list.
-fn add_to<T: Tells>(teller: &T, edges: &mut Vec<Reach>, reach: Reach) -> Result<(), AllocError>
-    ensures gains { Gains (T.tells teller.now) reach edges.old.items edges.new.items }
-    ensures has { OnOk result (Contains edges.new.items reach) }
-{
-    make_room(teller, reach.edge, edges)?;
-    edges.push(reach)?;
-    Ok(())
-}
+    // One more edge of a run.
+    fn add_reach(
+        &self,
+        runs: &mut Vec<Run>,
+        run: u32,
+        behind: u32,
+        last: u32,
+    ) -> Result<(), AllocError>
+        requires { run < length runs.old.items }
+        ensures adds { Adds (T.tells self.now.teller.now) self.now.edge (is_within run behind last) (edges_on runs.old.items) (edges_on runs.new.items) }
+        ensures has { OnOk result ((s : Seat) → is_within run behind last s ≡ true → Contains (edges_on runs.new.items s) self.now.edge) }
+        ensures given { (k : ℕ) → count_of runs.new.items k ≡ count_of runs.old.items k }
+        ensures past { last ≤ count_of runs.old.items run → ArePast runs.old.items → ArePast runs.new.items }
+    {
+        let found = &mut runs[run as usize];
+        self.add_to(&mut found.edges, behind, last)
+    }
 
-// One more edge of a run.
-fn add_reach<T: Tells>(
-    teller: &T,
-    runs: &mut Vec<Run>,
-    run: u32,
-    reach: Reach,
-) -> Result<(), AllocError>
-    requires { run < length runs.old.items }
-    ensures adds { Adds (T.tells teller.now) reach.edge (is_within run reach.behind reach.last) (edges_on runs.old.items) (edges_on runs.new.items) }
-    ensures has { OnOk result ((s : Seat) → is_within run reach.behind reach.last s ≡ true → Contains (edges_on runs.new.items s) reach.edge) }
-    ensures given { (k : ℕ) → count_of runs.new.items k ≡ count_of runs.old.items k }
-    ensures past { reach.last ≤ count_of runs.old.items run → ArePast runs.old.items → ArePast runs.new.items }
-{
-    let found = &mut runs[run as usize];
-    add_to(teller, &mut found.edges, reach)
-}
-
-// How the run goes on behind its last place.
-fn lengthen<T: Tells>(
-    teller: &T,
-    edge: Edge,
-    seats: &mut Vec<Seat>,
-    runs: &mut Vec<Run>,
-    run: u32,
-    last: u32,
-    left: &[Loc],
-) -> Result<(), AllocError>
-    requires { AreSeated seats.old.items runs.old.items }
-    ensures seated { AreSeated seats.new.items runs.new.items }
-    ensures holds { Lose (T.tells teller.now) edge (edges_over seats.old.items runs.old.items) (edges_over seats.new.items runs.new.items) }
-    ensures short { length seats.old.items ≤ 2 ^ 32 → length seats.new.items ≤ 2 ^ 32 }
-{
-    match runs.get(run as usize) {
-        Some(known) => {
-            if known.count != last {
+    // How the run goes on behind its last place.
+    fn lengthen(
+        &self,
+        seats: &mut Vec<Seat>,
+        runs: &mut Vec<Run>,
+        run: u32,
+        last: u32,
+        left: &[Loc],
+    ) -> Result<(), AllocError>
+        requires { AreSeated seats.old.items runs.old.items }
+        ensures seated { AreSeated seats.new.items runs.new.items }
+        ensures holds { Lose (T.tells self.now.teller.now) self.now.edge (edges_over seats.old.items runs.old.items)
+            (edges_over seats.new.items runs.new.items) }
+        ensures short { length seats.old.items ≤ 2 ^ 32 → length seats.new.items ≤ 2 ^ 32 }
+    {
+        match runs.get(run as usize) {
+            Some(known) => {
+                if known.count != last {
+                    return Ok(());
+                }
+            }
+            None => {
                 return Ok(());
             }
         }
-        None => {
-            return Ok(());
+        self.sit_all(seats, runs, run, left)
+    }
+
+    /// One edge for those at the front of the locations that sit one behind the other in a run; what is left of them, all where they don't.
+    pub fn add_along<'b>(
+        &self,
+        seats: &mut Vec<Seat>,
+        runs: &mut Vec<Run>,
+        locations: &'b [Loc],
+    ) -> Result<&'b [Loc], AllocError>
+        requires { AreSeated seats.old.items runs.old.items }
+        ensures seated { AreSeated seats.new.items runs.new.items }
+        ensures adds { AddsReads (T.tells self.now.teller.now) self.now.edge (map loc_view locations.now) (edges_over seats.old.items runs.old.items)
+            (edges_over seats.new.items runs.new.items) }
+        ensures listed { IfOk result (λ left. ListsBut self.now.edge (map loc_view locations.now) (map loc_view left.now)
+            (edges_over seats.new.items runs.new.items)) }
+        ensures short { length seats.old.items ≤ 2 ^ 32 → length seats.new.items ≤ 2 ^ 32 }
+    {
+        let seat = first_seat(seats.as_slice(), locations);
+        let run = seat.run;
+        let Some(behind) = seat.place.checked_sub(1) else {
+            return Ok(locations);
+        };
+        let (last, left) = follow(seats.as_slice(), run, behind, locations)?;
+        if last - behind < FEW {
+            return Ok(locations);
         }
+        self.add_reach(runs, run, behind, last)?;
+        self.lengthen(seats, runs, run, last, left)?;
+        Ok(left)
     }
-    sit_all(teller, edge, seats, runs, run, left)
-}
 
-/// One edge for those at the front of the locations that sit one behind the other in a run; what is left of them, all where they don't.
-pub fn add_along<'a, T: Tells>(
-    teller: &T,
-    seats: &mut Vec<Seat>,
-    runs: &mut Vec<Run>,
-    locations: &'a [Loc],
-    edge: Edge,
-) -> Result<&'a [Loc], AllocError>
-    requires { AreSeated seats.old.items runs.old.items }
-    ensures seated { AreSeated seats.new.items runs.new.items }
-    ensures adds { AddsReads (T.tells teller.now) edge (map loc_view locations.now) (edges_over seats.old.items runs.old.items)
-        (edges_over seats.new.items runs.new.items) }
-    ensures listed { IfOk result (λ left. ListsBut edge (map loc_view locations.now) (map loc_view left.now) (edges_over seats.new.items runs.new.items)) }
-    ensures short { length seats.old.items ≤ 2 ^ 32 → length seats.new.items ≤ 2 ^ 32 }
-{
-    let seat = first_seat(seats.as_slice(), locations);
-    let run = seat.run;
-    let Some(behind) = seat.place.checked_sub(1) else {
-        return Ok(locations);
-    };
-    let (last, left) = follow(seats.as_slice(), run, behind, locations)?;
-    if last - behind < FEW {
-        return Ok(locations);
+    /// The same, where they come to sit so if they don't yet.
+    pub fn add_stretch<'b>(
+        &self,
+        seats: &mut Vec<Seat>,
+        runs: &mut Vec<Run>,
+        locations: &'b [Loc],
+    ) -> Result<&'b [Loc], AllocError>
+        requires { AreSeated seats.old.items runs.old.items }
+        ensures seated { AreSeated seats.new.items runs.new.items }
+        ensures adds { AddsReads (T.tells self.now.teller.now) self.now.edge (map loc_view locations.now) (edges_over seats.old.items runs.old.items)
+            (edges_over seats.new.items runs.new.items) }
+        ensures listed { IfOk result (λ left. ListsBut self.now.edge (map loc_view locations.now) (map loc_view left.now)
+            (edges_over seats.new.items runs.new.items)) }
+        ensures short { length seats.old.items ≤ 2 ^ 32 → length seats.new.items ≤ 2 ^ 32 }
+    {
+        let left = self.add_along(seats, runs, locations)?;
+        if left.len() < locations.len() || left.is_empty() {
+            return Ok(left);
+        }
+        self.sit_anew(seats, runs, locations)?;
+        self.add_along(seats, runs, locations)
     }
-    add_reach(teller, runs, run, Reach { edge, behind, last })?;
-    lengthen(teller, edge, seats, runs, run, last, left)?;
-    Ok(left)
-}
-
-/// The same, where they come to sit so if they don't yet.
-pub fn add_stretch<'a, T: Tells>(
-    alloc: Global,
-    teller: &T,
-    seats: &mut Vec<Seat>,
-    runs: &mut Vec<Run>,
-    locations: &'a [Loc],
-    edge: Edge,
-) -> Result<&'a [Loc], AllocError>
-    requires { AreSeated seats.old.items runs.old.items }
-    ensures seated { AreSeated seats.new.items runs.new.items }
-    ensures adds { AddsReads (T.tells teller.now) edge (map loc_view locations.now) (edges_over seats.old.items runs.old.items)
-        (edges_over seats.new.items runs.new.items) }
-    ensures listed { IfOk result (λ left. ListsBut edge (map loc_view locations.now) (map loc_view left.now) (edges_over seats.new.items runs.new.items)) }
-    ensures short { length seats.old.items ≤ 2 ^ 32 → length seats.new.items ≤ 2 ^ 32 }
-{
-    let left = add_along(teller, seats, runs, locations, edge)?;
-    if left.len() < locations.len() || left.is_empty() {
-        return Ok(left);
-    }
-    sit_anew(alloc, teller, edge, seats, runs, locations)?;
-    add_along(teller, seats, runs, locations, edge)
 }

@@ -1,9 +1,0 @@
-use Rattle.std.proofs.Common.{length}
-use Rattle.at_index.specs.Runs.{HoldsReach}
-use Rattle.at_index.proofs.seating.trim.Given as goal
-
-abbrev pub invariant-loop-reach : goal.invariant-loop-reach
-invariant-loop-reach g l = HoldsReach (g.T.Tells.tells l.teller) l.edge l.initial.edges.items l.edges.items
-
-abbrev pub decreases-loop-reach : goal.decreases-loop-reach
-decreases-loop-reach g l = length l.edges.items

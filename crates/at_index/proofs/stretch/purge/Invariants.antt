@@ -1,9 +1,0 @@
-use Rattle.std.proofs.Common.{◌-◌, length}
-use Rattle.at_index.specs.Runs.{HoldsReach}
-use Rattle.at_index.proofs.stretch.purge.Given as goal
-
-abbrev pub invariant-loop-place : goal.invariant-loop-place
-invariant-loop-place g l = HoldsReach (g.T.Tells.tells l.teller) l.edge l.initial.edges.items l.edges.items
-
-abbrev pub decreases-loop-place : goal.decreases-loop-place
-decreases-loop-place g l = length l.edges.items - l.place
