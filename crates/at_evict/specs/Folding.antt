@@ -90,7 +90,7 @@ AreAlone there into edges = (x : Edge) → Contains edges x → (there x ≡ tru
 
 -- the number at a slot, if it isn't that for none, is that of an entry which is there and folded into itself alone
 abbrev pub IsLone : (there : Edge → Bool) → (into : ℕ → List ℕ) → (none slot number : ℕ) → Type 0
-IsLone there into none s x = (x ≡ none) ⊎ ((there (record { slot = s; stamp = x }) ≡ true) × (into s ≡ s ∷ []))
+IsLone there into none s x = (x ≡ none → ⊥) → (there (record { slot = s; stamp = x }) ≡ true) × (into s ≡ s ∷ [])
 
 abbrev pub AreLone : (there : Edge → Bool) → (into : ℕ → List ℕ) → (none : ℕ) → (numbers : List ℕ) → Type 0
 AreLone there into none numbers = (s x : ℕ) → slice_get numbers s ≡ Some x → IsLone there into none s x

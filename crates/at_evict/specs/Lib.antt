@@ -1,4 +1,5 @@
 pub mod Folding
+pub mod Refolding
 pub mod Rerunning
 pub mod Joining
 pub mod Desks

@@ -15,12 +15,9 @@ ghost use Rattle.at_cache.specs.Shedding.{AreHeld, FoldsHeld};
 ghost use Rattle.at_cache.specs.Standings.{held};
 ghost use Rattle.at_cache.specs.declared.standing.Standing.{Standing};
 
-use crate::checking::is_sound;
-use crate::desks::rewrite_desks;
 use crate::lone::lone_of;
-use crate::relinking::{links_of, relink, remove_folded};
-use crate::rerunning::rerun;
-use crate::rewriting::rewrite;
+use crate::refolding::Refolding;
+use crate::relinking::{relink, remove_folded};
 use crate::room::Room;
 use at_cache::entry::Links;
 use at_cache::slots::slot_at;
@@ -106,14 +103,20 @@ pub fn fold(
     let taken = taken_of(alloc, entries)?;
     let slots = taken.as_slice();
     let lone = lone_of(alloc, entries, plan, slots)?;
-    if !is_sound(entries, plan, &lone, slots) {
+    let by = Refolding {
+        alloc,
+        entries,
+        plan,
+        lone: &lone,
+    };
+    if !by.is_sound(slots) {
         return Err(AllocError);
     }
-    let links = links_of(alloc, entries, plan, slots)?;
+    let links = by.links_of(slots)?;
     let mut room = Room::new(alloc, plan.len())?;
-    rewrite(alloc, entries, plan, &lone, &mut room, &mut readers.own)?;
-    rewrite_desks(alloc, entries, plan, &lone, &mut room, &mut readers.desks)?;
-    rerun(alloc, entries, plan, &mut readers.runs)?;
+    by.rewrite(&mut room, &mut readers.own)?;
+    by.rewrite_desks(&mut room, &mut readers.desks)?;
+    by.rerun(&mut readers.runs)?;
     relink(
         alloc,
         entries,

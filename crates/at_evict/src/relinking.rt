@@ -5,12 +5,13 @@ ghost use Rattle.slab.specs.Slab.{get};
 ghost use Rattle.at_index.specs.declared.edge.Edge.{Edge};
 ghost use Rattle.at_index.specs.Edges.{edges_in};
 ghost use Rattle.at_evict.specs.Folding.{AreAlone, AreLinks, AreLone, AreOrdered, AreTaken, HasLinked, HasSame, IsRelinked, Linked, LinkedTo, Relinks, RelinksAt, Remains, RemovesAt, Stays, listed_at, slots_at};
+ghost use Rattle.at_evict.specs.Refolding.{into_of};
 ghost use Rattle.at_cache.specs.Info.{Info, memory_of};
 ghost use Rattle.at_cache.specs.Putting.{is_current};
 
 use crate::folding::{does_stay, is_near, list_at, slots_at};
 use crate::lone::{Lone, is_only};
-use crate::rewriting::rewrite_list;
+use crate::refolding::Refolding;
 use crate::room::Room;
 use at_cache::entry::{Entry, Links};
 use at_cache::table::Table;
@@ -41,65 +42,6 @@ fn add_links(list: &mut Links, plan: &[Links], links: &[Slot]) -> Result<(), All
     Ok(())
 }
 
-// They are added to that of the target. An error where that isn't there.
-fn link_to(
-    entries: &Table,
-    lists: &mut Vec<Links>,
-    plan: &[Links],
-    target: Slot,
-    links: &[Slot],
-) -> Result<(), AllocError>
-    ensures { OnOk result (LinkedTo (slots_at plan.now) (target ∷ []) links.now (listed_at (get entries.now.places) lists.old.items)
-        (listed_at (get entries.now.places) lists.new.items)) }
-{
-    let Some(place) = entries.places.get(target as usize) else {
-        return Err(AllocError);
-    };
-    let place = *place;
-    if place >= lists.len() {
-        return Err(AllocError);
-    }
-    let list = &mut lists[place];
-    add_links(list, plan, links)
-}
-
-// They are added to those of all these targets.
-fn link_each(
-    entries: &Table,
-    lists: &mut Vec<Links>,
-    plan: &[Links],
-    targets: &[Slot],
-    links: &[Slot],
-) -> Result<(), AllocError>
-    ensures { OnOk result (LinkedTo (slots_at plan.now) targets.now links.now (listed_at (get entries.now.places) lists.old.items)
-        (listed_at (get entries.now.places) lists.new.items)) }
-{
-    for target in targets {
-        link_to(entries, lists, plan, *target, links)?;
-    }
-    Ok(())
-}
-
-// What the entry in the slot used is linked to each other one into which it is folded.
-fn link_from(
-    entries: &Table,
-    plan: &[Links],
-    lists: &mut Vec<Links>,
-    slot: Slot,
-) -> Result<(), AllocError>
-    ensures { OnOk result (HasLinked (memory_of entries.now) (slots_at plan.now) slot (listed_at (get entries.now.places) lists.old.items)
-        (listed_at (get entries.now.places) lists.new.items)) }
-{
-    let targets = slots_at(plan, slot);
-    if is_only(targets, slot) {
-        return Ok(());
-    }
-    match entries.pair(slot) {
-        Some((_, entry)) => link_each(entries, lists, plan, targets, entry.links.as_slice()),
-        None => Ok(()),
-    }
-}
-
 /// So many empty lists.
 pub fn empty_lists(alloc: Global, count: usize) -> Result<Vec<Links>, AllocError>
     ensures { IfOk result (λ lists. (r : ℕ) → slots_at lists.items r ≡ []) }
@@ -111,21 +53,72 @@ pub fn empty_lists(alloc: Global, count: usize) -> Result<Vec<Links>, AllocError
     Ok(lists)
 }
 
-/// By their places, what the entries that stay are linked to for others that are folded into them. The entries are in these slots.
-pub fn links_of(
-    alloc: Global,
-    entries: &Table,
-    plan: &[Links],
-    taken: &[Slot],
-) -> Result<Vec<Links>, AllocError>
-    requires taken { AreTaken (memory_of entries.now) taken.now }
-    ensures { IfOk result (λ links. AreLinks (memory_of entries.now) (slots_at plan.now) (listed_at (get entries.now.places) links.items)) }
-{
-    let mut lists = empty_lists(alloc, taken.len())?;
-    for slot in taken {
-        link_from(entries, plan, &mut lists, *slot)?;
+impl<'a> Refolding<'a> {
+    // Those of the links that stay are added to the list of the target. An error where that isn't there.
+    fn link_to(
+        &self,
+        lists: &mut Vec<Links>,
+        target: Slot,
+        links: &[Slot],
+    ) -> Result<(), AllocError>
+        ensures { OnOk result (LinkedTo (into_of self.now) (target ∷ []) links.now (listed_at (get self.now.entries.now.places) lists.old.items)
+            (listed_at (get self.now.entries.now.places) lists.new.items)) }
+    {
+        let Some(place) = self.entries.places.get(target as usize) else {
+            return Err(AllocError);
+        };
+        let place = *place;
+        if place >= lists.len() {
+            return Err(AllocError);
+        }
+        let list = &mut lists[place];
+        add_links(list, self.plan, links)
     }
-    Ok(lists)
+
+    // They are added to those of all these targets.
+    fn link_each(
+        &self,
+        lists: &mut Vec<Links>,
+        targets: &[Slot],
+        links: &[Slot],
+    ) -> Result<(), AllocError>
+        ensures { OnOk result (LinkedTo (into_of self.now) targets.now links.now (listed_at (get self.now.entries.now.places) lists.old.items)
+            (listed_at (get self.now.entries.now.places) lists.new.items)) }
+    {
+        for target in targets {
+            self.link_to(lists, *target, links)?;
+        }
+        Ok(())
+    }
+
+    // What the entry in the slot used is linked to each other one into which it is folded.
+    fn link_from(&self, lists: &mut Vec<Links>, slot: Slot) -> Result<(), AllocError>
+        ensures { OnOk result (HasLinked (memory_of self.now.entries.now) (into_of self.now) slot
+            (listed_at (get self.now.entries.now.places) lists.old.items) (listed_at (get self.now.entries.now.places) lists.new.items)) }
+    {
+        let targets = slots_at(self.plan, slot);
+        if is_only(targets, slot) {
+            return Ok(());
+        }
+        match self.entries.pair(slot) {
+            Some((_, entry)) => self.link_each(lists, targets, entry.links.as_slice()),
+            None => Ok(()),
+        }
+    }
+
+    /// By their places, what the entries that stay are linked to for others that are folded into them. The entries are in these slots. An
+    /// error where memory is wanting, or where there is none into which one is to be folded.
+    pub fn links_of(&self, taken: &[Slot]) -> Result<Vec<Links>, AllocError>
+        requires taken { AreTaken (memory_of self.now.entries.now) taken.now }
+        ensures { IfOk result (λ links. AreLinks (memory_of self.now.entries.now) (into_of self.now)
+            (listed_at (get self.now.entries.now.places) links.items)) }
+    {
+        let mut lists = empty_lists(self.alloc, taken.len())?;
+        for slot in taken {
+            self.link_from(&mut lists, *slot)?;
+        }
+        Ok(lists)
+    }
 }
 
 // Each of these links is in the list once.
@@ -220,7 +213,13 @@ fn relink_one(
     }
     let list = joined(alloc, entries, plan, links, slot)?;
     let mut users = entries.exchange_users(slot, Edges::Empty);
-    rewrite_list(alloc, entries, plan, lone, room, &mut users)?;
+    let by = Refolding {
+        alloc,
+        entries,
+        plan,
+        lone,
+    };
+    by.rewrite_list(room, &mut users)?;
     entries.relink(slot, list, users);
     Ok(())
 }

@@ -3,28 +3,16 @@
 ghost use Rattle.std.specs.Prelude.{◌≡◌, ◌∷◌, [], List, IfOk, OnOk};
 ghost use Rattle.std.specs.List.{list_any};
 ghost use Rattle.at_index.specs.declared.run.Seat.{Seat};
-ghost use Rattle.at_evict.specs.Folding.{Refolded, slots_at};
+ghost use Rattle.at_evict.specs.Refolding.{into_of, is_told, refolds};
 ghost use Rattle.at_cache.specs.Info.{memory_of};
-ghost use Rattle.at_cache.specs.Putting.{is_current};
 ghost use Rattle.at_evict.specs.Rerunning.{AreRerun, Covers, GoNoFurther, Reaches, is_as_wide, targets_of};
 ghost use Rattle.at_index.specs.Runs.{AreSeated, edges_on};
 
 use crate::folding::{NEAR, slots_at};
-use at_cache::entry::Links;
-use at_cache::table::Table;
+use crate::refolding::Refolding;
 use at_index::edge::{Edge, Slot};
 use at_index::run::{Reach, Run};
-use std::alloc::{AllocError, Global};
-
-// Into which the entry is folded that the edge tells of; none where it tells of no entry.
-fn targets_of<'a>(entries: &Table, plan: &'a [Links], edge: &Edge) -> &'a [Slot]
-    ensures { result.now ≡ targets_of (is_current (memory_of entries.now)) (slots_at plan.now) edge.now }
-{
-    if !entries.is_current(edge) {
-        return &[];
-    }
-    slots_at(plan, edge.slot)
-}
+use std::alloc::AllocError;
 
 // Whether the one tells of the same entry as the other one, over that part of the run or more.
 fn is_as_wide(one: &Reach, other: &Reach) -> bool
@@ -60,90 +48,76 @@ fn add_near(edges: &mut Vec<Reach>, reach: Reach) -> Result<(), AllocError>
     Ok(())
 }
 
-// One more edge over that part of the run, to the entry in the slot, if there is one.
-fn add_to(
-    entries: &Table,
-    edges: &mut Vec<Reach>,
-    slot: Slot,
-    reach: &Reach,
-) -> Result<(), AllocError>
-    ensures { OnOk result (Reaches (memory_of entries.now) (slot ∷ []) reach.now edges.old.items edges.new.items) }
-{
-    match entries.pair(slot) {
-        Some((_, entry)) => {
-            let edge = Edge {
-                slot,
-                stamp: entry.stamp,
-            };
-            add_near(edges, Reach { edge, ..*reach })
+impl<'a> Refolding<'a> {
+    // Into which the entry is folded that the edge tells of; none where it tells of no entry.
+    fn targets_of(&self, edge: &Edge) -> &[Slot]
+        ensures { result.now ≡ targets_of (is_told self.now) (into_of self.now) edge.now }
+    {
+        if !self.entries.is_current(edge) {
+            return &[];
         }
-        None => Ok(()),
+        slots_at(self.plan, edge.slot)
     }
-}
 
-// One more edge over that part of the run to each of those into which the entry is folded.
-fn rerun_edge(
-    entries: &Table,
-    plan: &[Links],
-    edges: &mut Vec<Reach>,
-    reach: &Reach,
-) -> Result<(), AllocError>
-    ensures { OnOk result (Reaches (memory_of entries.now) (targets_of (is_current (memory_of entries.now)) (slots_at plan.now) reach.now.edge)
-        reach.now edges.old.items edges.new.items) }
-{
-    let targets = targets_of(entries, plan, &reach.edge);
-    for slot in targets {
-        add_to(entries, edges, *slot, reach)?;
+    // One more edge over that part of the run, to the entry in the slot, if there is one.
+    fn add_to(&self, edges: &mut Vec<Reach>, slot: Slot, reach: &Reach) -> Result<(), AllocError>
+        ensures { OnOk result (Reaches (memory_of self.now.entries.now) (slot ∷ []) reach.now edges.old.items edges.new.items) }
+    {
+        match self.entries.pair(slot) {
+            Some((_, entry)) => {
+                let edge = Edge {
+                    slot,
+                    stamp: entry.stamp,
+                };
+                add_near(edges, Reach { edge, ..*reach })
+            }
+            None => Ok(()),
+        }
     }
-    Ok(())
-}
 
-// The edges in the place of these.
-fn rerun_edges(
-    alloc: Global,
-    entries: &Table,
-    plan: &[Links],
-    edges: &[Reach],
-) -> Result<Vec<Reach>, AllocError>
-    ensures { IfOk result (λ made. AreRerun (memory_of entries.now) (slots_at plan.now) edges.now made.items) }
-{
-    let mut made = Vec::with_capacity(alloc, edges.len())?;
-    for reach in edges {
-        rerun_edge(entries, plan, &mut made, reach)?;
+    // One more edge over that part of the run to each of those into which the entry is folded.
+    fn rerun_edge(&self, edges: &mut Vec<Reach>, reach: &Reach) -> Result<(), AllocError>
+        ensures { OnOk result (Reaches (memory_of self.now.entries.now) (targets_of (is_told self.now) (into_of self.now) reach.now.edge)
+            reach.now edges.old.items edges.new.items) }
+    {
+        let targets = self.targets_of(&reach.edge);
+        for slot in targets {
+            self.add_to(edges, *slot, reach)?;
+        }
+        Ok(())
     }
-    Ok(made)
-}
 
-// The edges of the run tell of those into which the entries are folded of which they told.
-fn rerun_one(
-    alloc: Global,
-    entries: &Table,
-    plan: &[Links],
-    run: &mut Run,
-) -> Result<(), AllocError>
-    ensures edges { OnOk result (AreRerun (memory_of entries.now) (slots_at plan.now) run.old.edges.items run.new.edges.items) }
-    ensures further { GoNoFurther run.old.edges.items run.new.edges.items }
-    ensures count { run.new.count ≡ run.old.count }
-{
-    let made = rerun_edges(alloc, entries, plan, run.edges.as_slice())?;
-    run.edges = made;
-    Ok(())
-}
-
-/// So do those of all runs.
-pub fn rerun(
-    alloc: Global,
-    entries: &Table,
-    plan: &[Links],
-    runs: &mut Vec<Run>,
-) -> Result<(), AllocError>
-    ensures edges { OnOk result ((s : Seat) → Refolded (is_current (memory_of entries.now)) (slots_at plan.now) (edges_on runs.old.items s)
-        (edges_on runs.new.items s)) }
-    ensures seated { (seats : List Seat) → AreSeated seats runs.old.items → AreSeated seats runs.new.items }
-{
-    for number in 0..runs.len() {
-        let run = &mut runs[number];
-        rerun_one(alloc, entries, plan, run)?;
+    // The edges in the place of these.
+    fn rerun_edges(&self, edges: &[Reach]) -> Result<Vec<Reach>, AllocError>
+        ensures { IfOk result (λ made. AreRerun (memory_of self.now.entries.now) (into_of self.now) edges.now made.items) }
+    {
+        let mut made = Vec::with_capacity(self.alloc, edges.len())?;
+        for reach in edges {
+            self.rerun_edge(&mut made, reach)?;
+        }
+        Ok(made)
     }
-    Ok(())
+
+    // The edges of the run tell of those into which the entries are folded of which they told.
+    fn rerun_one(&self, run: &mut Run) -> Result<(), AllocError>
+        ensures edges { OnOk result (AreRerun (memory_of self.now.entries.now) (into_of self.now) run.old.edges.items run.new.edges.items) }
+        ensures further { GoNoFurther run.old.edges.items run.new.edges.items }
+        ensures count { run.new.count ≡ run.old.count }
+    {
+        let made = self.rerun_edges(run.edges.as_slice())?;
+        run.edges = made;
+        Ok(())
+    }
+
+    /// So do those of all runs. An error where memory is wanting.
+    pub fn rerun(&self, runs: &mut Vec<Run>) -> Result<(), AllocError>
+        ensures edges { OnOk result ((s : Seat) → refolds self.now (edges_on runs.old.items s) (edges_on runs.new.items s)) }
+        ensures seated { (seats : List Seat) → AreSeated seats runs.old.items → AreSeated seats runs.new.items }
+    {
+        for number in 0..runs.len() {
+            let run = &mut runs[number];
+            self.rerun_one(run)?;
+        }
+        Ok(())
+    }
 }

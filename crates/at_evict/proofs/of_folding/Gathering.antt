@@ -1,5 +1,5 @@
 -- What is gathered for a list, and the list that is made of it.
-use Rattle.std.proofs.Common.{◌≡◌, ◌⊎◌, inl, inr, ℕ, zero, suc, List, [], ◌∷◌, ◌++◌, Bool, true, false, true≢false, nat_eq, Some, Contains, length, replicate, slice_get, take, refl, sym, ap, ◌∙◌, subst, arith, eqb-true}
+use Rattle.std.proofs.Common.{◌≡◌, ◌⊎◌, inl, inr, ℕ, zero, suc, List, [], ◌∷◌, ◌++◌, Bool, true, false, true≢false, nat_eq, Some, Contains, length, replicate, slice_get, slice_set, take, refl, sym, ap, ◌∙◌, subst, arith, eqb-true}
 use Rattle.std.specs.List.{list_any}
 use Rattle.std.proofs.lemmas.Bool.{eq-eqb}
 use Rattle.std.proofs.lemmas.Option.{none-some, same_Some}
@@ -33,6 +33,14 @@ told_same m x y a b same =
     let one : e ≡ f = same_Some e f (sym there ∙ ap m same ∙ found) in
     let stamps : x.stamp ≡ y.stamp = sym of_x ∙ ap (λ (i : Info). i.stamp) one ∙ of_y in
     λ i. record { slot = same i; stamp = stamps i }
+
+-- what stands at each place is so where a number is that is written at one
+pub each_set : (P : ℕ → ℕ → Type 0) (xs : List ℕ) (k v s x : ℕ) → P k v → (slice_get xs s ≡ Some x → P s x) → slice_get (slice_set xs k v) s ≡ Some x → P s x
+each_set P [] k v s x here old is = absurd (none-some x is)
+each_set P (y ∷ ys) zero v zero x here old is = subst (P zero) (same_Some v x is) here
+each_set P (y ∷ ys) zero v (suc s) x here old is = old is
+each_set P (y ∷ ys) (suc k) v zero x here old is = old is
+each_set P (y ∷ ys) (suc k) v (suc s) x here old is = each_set (λ i n. P (suc i) n) ys k v s x here old is
 
 -- each of these but those that are left is alone
 abbrev pub AreAloneBut : (there : Edge → Bool) → (into : ℕ → List ℕ) → (all left : List Edge) → Type 0
@@ -95,30 +103,21 @@ module _ (there : Edge → Bool) (into : ℕ → List ℕ) where
   -- an edge with the number that stands at its slot is alone
   pub lone_has : (none : ℕ) (numbers : List ℕ) (x : Edge) (number : ℕ) → AreLone there into none numbers → slice_get numbers x.slot ≡ Some number
       → (x.stamp ≡ none → ⊥) → nat_eq number x.stamp ≡ true → (there x ≡ true) × (into x.slot ≡ x.slot ∷ [])
-  lone_has none numbers x number lone is differs same = elim (lone x.slot number is) [
-    | inl nothing ↦ absurd (differs (sym (eqb-true number x.stamp same) ∙ nothing))
-    | inr (told, only) ↦ (subst (λ n. there (record { slot = x.slot; stamp = n }) ≡ true) (eqb-true number x.stamp same) told, only)
-  ]
+  lone_has none numbers x number lone is differs same =
+      let number_is = eqb-true number x.stamp same in
+      let (told, only) = lone x.slot number is (λ nothing. differs (sym number_is ∙ nothing)) in
+      (subst (λ n. there (record { slot = x.slot; stamp = n }) ≡ true) number_is told, only)
 
   -- where another number stands than that for none, what is in the slot stays
   pub lone_stays : (none : ℕ) (numbers : List ℕ) (slot number : ℕ) → AreLone there into none numbers → slice_get numbers slot ≡ Some number
       → nat_eq number none ≡ false → Stays into slot
-  lone_stays none numbers slot number lone is differs = elim (lone slot number is) [
-    | inl nothing ↦ absurd (true≢false (sym (eq-eqb number none nothing) ∙ differs))
-    | inr (told, only) ↦ subst (λ xs. Contains xs slot) (sym only) (head_of slot [])
-  ]
-
-  -- it has an edge with that number
-  pub lone_edge : (none : ℕ) (numbers : List ℕ) (slot number : ℕ) → AreLone there into none numbers → slice_get numbers slot ≡ Some number
-      → (number ≡ none → ⊥) → there (record { slot = slot; stamp = number }) ≡ true
-  lone_edge none numbers slot number lone is differs = elim (lone slot number is) [
-    | inl nothing ↦ absurd (differs nothing)
-    | inr (told, only) ↦ told
-  ]
+  lone_stays none numbers slot number lone is differs =
+      let (told, only) = lone slot number is (λ nothing. true≢false (sym (eq-eqb number none nothing) ∙ differs)) in
+      subst (λ xs. Contains xs slot) (sym only) (head_of slot [])
 
   -- numbers that stand for no entries
   pub lone_fill : (none count left : ℕ) (old new : List ℕ) → old ≡ [] → new ≡ take count old ++ replicate left none → AreLone there into none new
-  lone_fill none count left old new empty is s x found = inl (filled left s (ap (λ (xs : List ℕ). slice_get xs s) (sym whole) ∙ found))
+  lone_fill none count left old new empty is s x found differs = absurd (differs (filled left s (ap (λ (xs : List ℕ). slice_get xs s) (sym whole) ∙ found)))
     where
       nothing : (n : ℕ) (xs : List ℕ) → xs ≡ [] → take n xs ≡ []
       nothing zero xs h = refl

@@ -17,18 +17,18 @@ pub record Below {T : Type 0} (P : Option T → Option T → Type 0) (n : ℕ) (
   pub todo : (k : ℕ) → n ≤ k → slice_get new k ≡ slice_get old k
   pub len : length new ≡ length old
 
-module _ {T : Type 0} (P : Option T → Option T → Type 0) where
-  past : (xs : List T) (k : ℕ) → length xs ≤ k → slice_get xs k ≡ None
-  past [] k over = refl
-  past (x ∷ xs) zero over = absurd (omega (arith, over))
-  past (x ∷ xs) (suc k) over = past xs k (omega (arith, over))
+past : {T : Type 0} (xs : List T) (k : ℕ) → length xs ≤ k → slice_get xs k ≡ None
+past [] k over = refl
+past (x ∷ xs) zero over = absurd (omega (arith, over))
+past (x ∷ xs) (suc k) over = past xs k (omega (arith, over))
 
+module _ {T : Type 0} {P : Option T → Option T → Type 0} where
   pub below_start : (xs : List T) → Below P 0 xs xs
   below_start xs = record { done = λ k less. absurd (omega (arith, less)); todo = λ k over. refl; len = refl }
 
-  pub below_more : (n : ℕ) (old mid new : List T) → Below P n old mid → P (slice_get mid n) (slice_get new n)
+  pub below_more : {n : ℕ} {old mid new : List T} → Below P n old mid → P (slice_get mid n) (slice_get new n)
       → ((k : ℕ) → (k ≡ n → ⊥) → slice_get new k ≡ slice_get mid k) → length new ≡ length mid → Below P (n + 1) old new
-  below_more n old mid new b here others len = record {
+  below_more {n} {old} {mid} {new} b here others len = record {
     done = λ k less. elim (cases_lt k n) [
       | inl is ↦ subst (P (slice_get old k)) (sym (others k (λ same. absurd (omega (arith, same, is))))) (b.done k is)
       | inr over ↦
@@ -39,8 +39,8 @@ module _ {T : Type 0} (P : Option T → Option T → Type 0) where
     len = len ∙ b.len;
   }
 
-  pub below_end : P None None → (n : ℕ) (old new : List T) → length old ≤ n → Below P n old new → (k : ℕ) → P (slice_get old k) (slice_get new k)
-  below_end none n old new all b k = elim (cases_lt k n) [
+  pub below_end : {n : ℕ} {old new : List T} → Below P n old new → length old ≤ n → P None None → (k : ℕ) → P (slice_get old k) (slice_get new k)
+  below_end {n} {old} {new} b all none k = elim (cases_lt k n) [
     | inl is ↦ b.done k is
     | inr over ↦
         let gone : slice_get old k ≡ None = past old k (omega (arith, over, all)) in

@@ -11,7 +11,7 @@ use Rattle.at_evict.proofs.of_folding.Rerun.{all_rerun}
 use Rattle.at_evict.proofs.folding.fold.Goals as goal
 
 pub is_sound-requires : goal.is_sound-requires
-is_sound-requires c = record { lone = c.in_ok-lone.ensures; taken = subst (AreTaken (memory_of c.args.entries.now)) (sym c.as_slice-slots.ensures.value) c.in_ok-taken.ensures.taken }
+is_sound-requires c = record { taken = subst (AreTaken (memory_of c.args.entries.now)) (sym c.as_slice-slots.ensures.value) c.in_ok-taken.ensures.taken }
 
 pub links_of-requires : goal.links_of-requires
 links_of-requires c = record { taken = subst (AreTaken (memory_of c.args.entries.now)) (sym c.as_slice-slots.ensures.value) c.in_ok-taken.ensures.taken }

@@ -11,9 +11,9 @@ returns-then-not-is_taken c = relinks_none _ c.args.slot _ (sym c.is_taken.ensur
 pub exchange_users-users-requires : goal.exchange_users-users-requires
 exchange_users-users-requires c = record { there = sym c.is_taken.ensures ∙ c.if-not-is_taken.false }
 
-pub rewrite_list-requires : goal.rewrite_list-requires
-rewrite_list-requires c = record {
-  lone = subst (λ t. AreLone t (slots_at c.args.plan.now) c.args.lone.now.none c.args.lone.now.stamps.items)
+pub invariant_of-by : goal.invariant_of-by
+invariant_of-by c = record {
+  alone = subst (λ t. AreLone t (slots_at c.args.plan.now) c.args.lone.now.none c.args.lone.now.stamps.items)
       (sym (current_taken c.args.slot _ _ c.exchange_users-users.ensures.written)) c.requires.lone;
 }
 

@@ -1,13 +1,12 @@
 use Rattle.std.proofs.Common.{◌∙◌, ℕ, List, ap, refl, slice_get, sym}
 use Rattle.at_index.proofs.Lists.{node_there}
-use Rattle.at_evict.proofs.of_folding.Gathering.{lone_edge}
 use Rattle.at_evict.proofs.lone.Lone.edge_to.Goals as goal
 
 pub returns : goal.returns
 returns c there into lone =
     let at = c.in-Some.ensures.lookup in (
       refl,
-      lone_edge there into c.args.self.now.none c.args.self.now.stamps.items c.args.slot c.in-Some.stamp.now lone
+      (lone c.args.slot c.in-Some.stamp.now
           (ap (λ (xs : List ℕ). slice_get xs c.args.slot) (sym c.deref.ensures.value) ∙ node_there c.deref.result.now c.args.slot c.args.slot c.in-Some.stamp.now refl at.0 at.1)
-          c.if-stamp-self.false,
+          c.if-stamp-self.false).0,
     )

@@ -1,0 +1,9 @@
+use Rattle.std.proofs.Common.{◌≡◌, ◌⊎◌, ℕ, Contains, take}
+use Rattle.at_index.specs.Edges.{edges_in}
+use Rattle.at_evict.specs.Folding.{HasUser}
+use Rattle.at_evict.specs.Refolding.{into_of, is_told}
+use Rattle.at_evict.proofs.refolding.Refolding.are_used.Given as goal
+
+abbrev pub invariant-loop-target : goal.invariant-loop-target
+invariant-loop-target l = (r : ℕ) → Contains (take l.target-index l.targets) r
+    → (r ≡ l.slot) ⊎ HasUser (is_told l.self) (into_of l.self) (edges_in l.users) r

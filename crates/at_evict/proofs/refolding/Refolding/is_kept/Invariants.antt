@@ -1,0 +1,14 @@
+use Rattle.std.proofs.Common.{◌≡◌, length}
+use Rattle.at_evict.specs.Refolding.{into_of, is_told}
+use Rattle.at_index.specs.Rows.{edges_of}
+use Rattle.at_evict.proofs.of_folding.Gathering.{AreAloneBut}
+use Rattle.at_evict.proofs.refolding.Refolding.is_kept.Given as goal
+
+abbrev pub invariant-loop-edge : goal.invariant-loop-edge
+invariant-loop-edge l = record {
+  alone : AreAloneBut (is_told l.self) (into_of l.self) (edges_of l.row) (edges_of l.rest);
+  slots : l.room.slots ≡ l.initial.room.slots;
+}
+
+abbrev pub decreases-loop-edge : goal.decreases-loop-edge
+decreases-loop-edge l = length (edges_of l.rest)

@@ -1,0 +1,11 @@
+use Rattle.std.proofs.Common.{take}
+use Rattle.slab.specs.Slab.{get}
+use Rattle.at_evict.specs.Folding.{listed_at}
+use Rattle.at_evict.specs.Refolding.{into_of}
+use Rattle.at_cache.specs.Info.{memory_of}
+use Rattle.at_evict.proofs.of_folding.Taken.{LinksOf}
+use Rattle.at_evict.proofs.refolding.Refolding.links_of.Given as goal
+
+abbrev pub invariant-loop-slot : goal.invariant-loop-slot
+invariant-loop-slot l = LinksOf (memory_of l.self.entries.now) (into_of l.self) (take l.slot-index l.taken)
+    (listed_at (get l.self.entries.now.places) l.lists.items)

@@ -1,0 +1,8 @@
+use Rattle.std.proofs.Common.{take}
+use Rattle.at_evict.specs.Refolding.{into_of}
+use Rattle.at_cache.specs.Info.{memory_of}
+use Rattle.at_evict.specs.Rerunning.{AreRerun}
+use Rattle.at_evict.proofs.refolding.Refolding.rerun_edges.Given as goal
+
+abbrev pub invariant-loop-reach : goal.invariant-loop-reach
+invariant-loop-reach l = AreRerun (memory_of l.self.entries.now) (into_of l.self) (take l.reach-index l.edges) l.made.items

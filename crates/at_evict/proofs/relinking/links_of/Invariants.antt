@@ -1,9 +1,0 @@
-use Rattle.std.proofs.Common.{take}
-use Rattle.slab.specs.Slab.{get}
-use Rattle.at_evict.specs.Folding.{listed_at, slots_at}
-use Rattle.at_cache.specs.Info.{memory_of}
-use Rattle.at_evict.proofs.of_folding.Taken.{LinksOf}
-use Rattle.at_evict.proofs.relinking.links_of.Given as goal
-
-abbrev pub invariant-loop-slot : goal.invariant-loop-slot
-invariant-loop-slot l = LinksOf (memory_of l.entries) (slots_at l.plan) (take l.slot-index l.taken) (listed_at (get l.entries.places) l.lists.items)

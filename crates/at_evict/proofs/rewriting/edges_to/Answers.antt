@@ -1,6 +1,0 @@
-use Rattle.std.proofs.Common.{ap, option_map, sym}
-use Rattle.at_cache.specs.Info.{info}
-use Rattle.at_evict.proofs.rewriting.edges_to.Goals as goal
-
-pub returns-in-Some : goal.returns-in-Some
-returns-in-Some c = (_, ap (option_map info) (sym c.in-Some.ensures), c.of.ensures)
