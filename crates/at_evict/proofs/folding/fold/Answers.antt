@@ -33,25 +33,19 @@ invariant_of-readers-2 c = record {
   few = c.args.readers.now.few;
 }
 
-pub returns-clause-held : goal.returns-clause-held
-returns-clause-held c standings puts on indexed =
-    let relinked = subst (λ ls. Relinks (slots_at c.args.plan.now) (listed_at (get c.args.entries.now.places) ls) (memory_of c.args.entries.now)
-    (memory_of c.relink.new.entries)) c.as_slice.ensures.value c.in_ok-relink.ensures.relinked in
+pub returns : goal.returns
+returns c =
     let r = c.args.readers.now in
+    let m = memory_of c.args.entries.now in
     let into = slots_at c.args.plan.now in
-    let own = own_refolded (is_current (memory_of c.args.entries.now)) into r.desks.entries c.rewrite_desks.new.all.entries r.own.items c.rewrite.new.readers.items
+    let own = own_refolded (is_current m) into r.desks.entries c.rewrite_desks.new.all.entries r.own.items c.rewrite.new.readers.items
     c.in_ok-rewrite_desks.ensures c.in_ok-rewrite.ensures.lists in
-    let lists = all_rerun (memory_of c.args.entries.now) into (own_edges r.desks.entries r.own.items)
-    (own_edges c.rewrite_desks.new.all.entries c.rewrite.new.readers.items) r.seats.items _ _ own c.in_ok-rerun.ensures.edges in
-    folds_held standings (edges_to c.args.readers.now) _ puts c.args.entries.now c.remove_folded.new.entries _ (slots_at c.args.plan.now) _ on indexed
-    (c.is_sound.ensures c.if-not-is_sound.false) lists c.in_ok-links.ensures relinked c.remove_folded.ensures
-
-pub returns-clause-noted : goal.returns-clause-noted
-returns-clause-noted c nodes h =
-    let r = c.args.readers.now in
-    let into = slots_at c.args.plan.now in
-    let own = own_refolded (is_current (memory_of c.args.entries.now)) into r.desks.entries c.rewrite_desks.new.all.entries r.own.items c.rewrite.new.readers.items
-    c.in_ok-rewrite_desks.ensures c.in_ok-rewrite.ensures.lists in
-    let lists = all_rerun (memory_of c.args.entries.now) into (own_edges r.desks.entries r.own.items)
-    (own_edges c.rewrite_desks.new.all.entries c.rewrite.new.readers.items) r.seats.items _ _ own c.in_ok-rerun.ensures.edges in
-    noted_still _ _ (edges_to c.args.readers.now) _ nodes lists h
+    let lists = all_rerun m into (own_edges r.desks.entries r.own.items) (own_edges c.rewrite_desks.new.all.entries c.rewrite.new.readers.items)
+    r.seats.items _ _ own c.in_ok-rerun.ensures.edges in
+    let relinked = subst (λ ls. Relinks into (listed_at (get c.args.entries.now.places) ls) m (memory_of c.relink.new.entries))
+    c.as_slice.ensures.value c.in_ok-relink.ensures.relinked in
+    record {
+      held = λ standings puts on indexed. folds_held standings (edges_to r) _ puts c.args.entries.now c.remove_folded.new.entries _ into _ on indexed
+          (c.is_sound.ensures c.if-not-is_sound.false) lists c.in_ok-links.ensures relinked c.remove_folded.ensures;
+      noted = λ nodes h. noted_still _ _ (edges_to r) _ nodes lists h;
+    }
