@@ -15,3 +15,4 @@ pub mod Settling
 pub mod Shedding
 pub mod Renewing
 pub mod Theirs
+pub mod Packing

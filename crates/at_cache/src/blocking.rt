@@ -3,13 +3,14 @@
 ghost use Rattle.std.specs.Prelude.{◌≡◌, IfSome};
 ghost use Rattle.at_cache.specs.Blocking.{IsFirstOpen, LeadsTo, is_known};
 
+use crate::packing::PackedStanding;
 use crate::settling::LEVELS;
-use crate::standing::{Standing, standing_at};
+use crate::standing::standing_at;
 use crate::table::Table;
 use at_index::edge::Slot;
 
 // Whether the entry in the slot is kept with a value. What can be kept again has one.
-fn is_kept(entries: &Table, standings: &[Standing], slot: Slot) -> bool
+fn is_kept(entries: &Table, standings: &[PackedStanding], slot: Slot) -> bool
     ensures { result ≡ is_known entries.now standings.now slot }
 {
     let standing = standing_at(standings, slot);
@@ -26,7 +27,7 @@ fn is_kept(entries: &Table, standings: &[Standing], slot: Slot) -> bool
 }
 
 // The first of the slots of which no value is kept.
-fn first_open(entries: &Table, standings: &[Standing], slots: &[Slot]) -> Option<Slot>
+fn first_open(entries: &Table, standings: &[PackedStanding], slots: &[Slot]) -> Option<Slot>
     ensures { IfSome result (IsFirstOpen entries.now standings.now slots.now) }
 {
     for slot in slots {
@@ -38,7 +39,7 @@ fn first_open(entries: &Table, standings: &[Standing], slots: &[Slot]) -> Option
 }
 
 // Where the entry in the slot isn't kept, and can be again once all that it used is, the first of those that isn't.
-fn next_open(entries: &Table, standings: &[Standing], slot: Slot) -> Option<Slot>
+fn next_open(entries: &Table, standings: &[PackedStanding], slot: Slot) -> Option<Slot>
     ensures { IfSome result (LeadsTo entries.now standings.now slot) }
 {
     let (_, entry) = entries.pair(slot)?;
@@ -51,7 +52,7 @@ fn next_open(entries: &Table, standings: &[Standing], slot: Slot) -> Option<Slot
 
 /// The first entry that stands in the way of keeping the one in the slot again, of what it used and so on; the slot
 /// itself, where nothing else does. Of a chain that is too long it is one in its midst.
-pub fn blocking(entries: &Table, standings: &[Standing], slot: Slot) -> Slot
+pub fn blocking(entries: &Table, standings: &[PackedStanding], slot: Slot) -> Slot
     ensures { LeadsTo entries.now standings.now slot result }
 {
     let mut last = slot;

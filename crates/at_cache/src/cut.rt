@@ -13,7 +13,8 @@ ghost use Rattle.at_cache.specs.Standings.{IsChanged, alive_in, held_among, held
 
 use crate::again::slot_by;
 use crate::entry::Entry;
-use crate::standing::{Standing, is_alive, set_standing, standing_at};
+use crate::packing::PackedStanding;
+use crate::standing::{is_alive, packed_at, set_packed, standing_at};
 use crate::table::Table;
 use at_body::Inst;
 use at_index::edge::{Edge, Slot};
@@ -32,7 +33,7 @@ pub enum Loss {
 /// Entries, and how each stands, by its slot.
 pub struct Cut {
     pub entries: Table,
-    pub standings: Vec<Standing>,
+    pub standings: Vec<PackedStanding>,
 }
 
 /// One call, where each exit that lets it go would else have a case for each field.
@@ -117,34 +118,24 @@ impl Tells for Cut {
 }
 
 /// What is in the slot can't be kept again.
-pub fn take_trace(standings: &mut Vec<Standing>, slot: Slot)
+pub fn take_trace(standings: &mut Vec<PackedStanding>, slot: Slot)
     ensures taken { IsChanged untraced slot standings.old.items standings.new.items }
     ensures room { length standings.new.items ≡ length standings.old.items }
     ensures count { held_among standings.new.items ≡ held_among standings.old.items }
 {
-    let standing = standing_at(standings.as_slice(), slot);
+    let standing = packed_at(standings.as_slice(), slot);
     if (slot as usize) < standings.len() {
-        let left = Standing {
-            since: standing.since,
-            holds: standing.holds,
-            traced: false,
-        };
-        set_standing(standings, slot, left);
+        set_packed(standings, slot, standing.without_trace());
     }
 }
 
 /// What is in the slot isn't kept any more.
-pub fn take_value(standings: &mut Vec<Standing>, slot: Slot)
+pub fn take_value(standings: &mut Vec<PackedStanding>, slot: Slot)
     ensures taken { IsChanged unheld slot standings.old.items standings.new.items }
     ensures fewer { (standing_of standings.old.items slot).holds ≡ true → held_among standings.new.items + 1 ≡ held_among standings.old.items }
 {
-    let standing = standing_at(standings.as_slice(), slot);
+    let standing = packed_at(standings.as_slice(), slot);
     if (slot as usize) < standings.len() {
-        let left = Standing {
-            since: standing.since,
-            holds: false,
-            traced: standing.traced,
-        };
-        set_standing(standings, slot, left);
+        set_packed(standings, slot, standing.without_value());
     }
 }

@@ -9,7 +9,7 @@ ghost use Rattle.at_cache.specs.Shedding.{AreHeld, FoldsHeld};
 ghost use Rattle.at_cache.specs.Standings.{held};
 ghost use Rattle.at_cache.specs.declared.standing.Standing.{Standing};
 
-use crate::standing::Standing;
+use crate::packing::PackedStanding;
 use crate::table::Table;
 use at_index::run::AllReaders;
 use std::alloc::{AllocError, Global};
@@ -31,7 +31,7 @@ pub trait Fold {
         &self,
         alloc: Global,
         entries: &mut Table,
-        standings: &[Standing],
+        standings: &[PackedStanding],
         readers: &mut AllReaders,
         last: Last,
     ) -> Result<u32, AllocError>

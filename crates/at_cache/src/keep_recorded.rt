@@ -19,10 +19,11 @@ use crate::cutting::take_away;
 use crate::folding::{Fold, Last};
 use crate::keeper::{Keeper, Order};
 use crate::likely::Likely;
+use crate::packing::{NUMBERS, PackedStanding};
 use crate::renewing::{enter_held, outdate, slot_for};
 use crate::settling::{Counts, LEVELS, settle_at};
 use crate::shedding::{lose_traces, shed};
-use crate::standing::{Standing, standing_at};
+use crate::standing::standing_at;
 use crate::table::Table;
 use at_body::{Inst, Value};
 use at_index::edge::{Edge, Slot};
@@ -42,7 +43,7 @@ pub struct KeepRecorded {
     readers: AllReaders,
     // The nodes of which the index was ever read.
     index_read: Vec<Node>,
-    // How many numbers were given: by `put` one, or two where the instance has an entry, and one where an entry was kept again.
+    // How many numbers were given, of `NUMBERS`: by `put` one, or two where the instance has an entry, and one where an entry was kept again.
     puts: u64,
     likely: Likely,
     // Whether there may be something to be kept again: not before the first edit, unless memory was wanting.
@@ -219,12 +220,12 @@ fn most_beside(kept: usize) -> usize
 }
 
 // How many entries are kept.
-fn kept_among(standings: &[Standing]) -> usize
+fn kept_among(standings: &[PackedStanding]) -> usize
     ensures { result ≡ held_among standings.now }
 {
     let mut kept = 0_usize;
     for standing in standings {
-        if standing.holds {
+        if standing.unpacked().holds {
             kept += 1;
         }
     }
@@ -265,7 +266,7 @@ impl Keeper for KeepRecorded {
         self.doubtful = true;
         let known = outdate(self.alloc, &mut self.cut, &mut self.puts, slot);
         let stamp = self.puts;
-        if stamp == u64::MAX {
+        if stamp >= NUMBERS {
             return Err(AllocError);
         }
         self.puts = stamp + 1;

@@ -1,6 +1,6 @@
 //! An entry comes that stays in memory, or is put anew.
 
-ghost use Rattle.std.specs.Prelude.{◌≡◌, ℕ, List, None, Some, IfOk, IsSome, IsTrue, OnErr, OnOk, map, option_map};
+ghost use Rattle.std.specs.Prelude.{◌≡◌, ◌<◌, ◌^◌, ℕ, List, None, Some, IfOk, IsSome, IsTrue, OnErr, OnOk, map, option_map};
 ghost use Rattle.at_model.specs.Run.{Instance, Location};
 ghost use Rattle.at_body.specs.Values.{value_view};
 ghost use Rattle.at_store.specs.Located.{loc_view};
@@ -22,6 +22,7 @@ use crate::cutting::doom_users;
 use crate::entry::{Entry, Links};
 use crate::keeper::Order;
 use crate::likely::Likely;
+use crate::packing::NUMBERS;
 use crate::putting::fresh;
 use crate::standing::{Standing, make_standing, set_standing};
 use crate::table::Table;
@@ -107,7 +108,7 @@ pub fn outdate(alloc: Global, cut: &mut Cut, puts: &mut u64, slot: Slot) -> Opti
         → StaysAwaited lists cut.old.entries cut.old.standings.items puts.old cut.new.entries cut.new.standings.items puts.new i slot }
 {
     let stamp = *puts;
-    if stamp == u64::MAX {
+    if stamp >= NUMBERS {
         return None;
     }
     if !cut.entries.is_taken(slot) {
@@ -137,6 +138,7 @@ pub fn enter_held(
 ) -> Result<(), AllocError>
     requires awaited { IsAwaited (edges_to readers.old) cut.old.entries cut.old.standings.items edge.stamp inst edge.slot }
     requires present { AreKept (kept_cut (edges_to readers.old) cut.old edge.stamp) uses.now }
+    requires fits { edge.stamp < 2 ^ 62 }
     ensures enters { EntersHeld inst (option_map value_view value) (map loc_view reads.now) uses.now order edge.stamp
         (edges_to readers.old) cut.old (edges_to readers.new) cut.new result }
     ensures noted { AreNoted (edges_to readers.old) index_read.old.items → AreNoted (edges_to readers.new) index_read.new.items }

@@ -7,6 +7,7 @@ ghost use Rattle.at_cache.specs.Info.{memory_of};
 ghost use Rattle.at_cache.specs.Putting.{AreTaken};
 ghost use Rattle.at_cache.specs.Settling.{CanKeep, HasSettled, HasSettledAll, IsWhole};
 
+use crate::packing::{NUMBERS, PackedStanding};
 use crate::standing::{Standing, is_verified, set_standing, standing_at};
 use crate::table::Table;
 use at_index::edge::Slot;
@@ -27,7 +28,7 @@ pub struct Counts {
 #[cycle(settling)]
 pub fn settle_at(
     entries: &Table,
-    standings: &mut Vec<Standing>,
+    standings: &mut Vec<PackedStanding>,
     counts: &mut Counts,
     slot: Slot,
     levels: usize,
@@ -45,7 +46,7 @@ pub fn settle_at(
 #[cycle(settling)]
 fn settle_below(
     entries: &Table,
-    standings: &mut Vec<Standing>,
+    standings: &mut Vec<PackedStanding>,
     counts: &mut Counts,
     slot: Slot,
     levels: usize,
@@ -79,7 +80,7 @@ fn settle_below(
 #[cycle(settling)]
 fn settle_all(
     entries: &Table,
-    standings: &mut Vec<Standing>,
+    standings: &mut Vec<PackedStanding>,
     counts: &mut Counts,
     slots: &[Slot],
     levels: usize,
@@ -99,7 +100,7 @@ fn settle_all(
 // Whether the traced entry in the slot, of which all that it used is kept, is kept, which it is from now on, where there is a number left.
 fn keep_again(
     _entries: &Table,
-    standings: &mut Vec<Standing>,
+    standings: &mut Vec<PackedStanding>,
     counts: &mut Counts,
     slot: Slot,
 ) -> bool
@@ -111,7 +112,7 @@ fn keep_again(
     if standing.holds {
         return true;
     }
-    if counts.puts == u64::MAX || !standing.traced {
+    if counts.puts >= NUMBERS || !standing.traced {
         return false;
     }
     let again = Standing {

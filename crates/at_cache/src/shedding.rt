@@ -5,14 +5,15 @@ ghost use Rattle.at_cache.specs.Info.{memory_of, table_len};
 ghost use Rattle.at_cache.specs.Shedding.{LosesTraces, Sheds, ShedsAt};
 
 use crate::cut::take_trace;
-use crate::standing::{Standing, standing_at};
+use crate::packing::PackedStanding;
+use crate::standing::standing_at;
 use crate::table::Table;
 use at_index::edge::Slot;
 use at_index::facet::small;
 use std::alloc::AllocError;
 
 // What is in the slot goes, if it isn't kept.
-fn shed_at(entries: &mut Table, standings: &[Standing], slot: Slot)
+fn shed_at(entries: &mut Table, standings: &[PackedStanding], slot: Slot)
     ensures sheds { ShedsAt standings.now slot (memory_of entries.old) (memory_of entries.new) }
     ensures fewer { table_len entries.new ≤ table_len entries.old }
 {
@@ -27,7 +28,7 @@ fn shed_at(entries: &mut Table, standings: &[Standing], slot: Slot)
 }
 
 /// What isn't kept of what is in the first so many slots goes, which are all.
-pub fn shed(entries: &mut Table, standings: &[Standing], count: Slot)
+pub fn shed(entries: &mut Table, standings: &[PackedStanding], count: Slot)
     requires all { length entries.old.places.slots ≤ count }
     ensures sheds { Sheds standings.now (memory_of entries.old) (memory_of entries.new) }
     ensures fewer { table_len entries.new ≤ table_len entries.old }
@@ -38,7 +39,7 @@ pub fn shed(entries: &mut Table, standings: &[Standing], count: Slot)
 }
 
 /// No entry can be kept again. An error where there are too many slots.
-pub fn lose_traces(standings: &mut Vec<Standing>) -> Result<(), AllocError>
+pub fn lose_traces(standings: &mut Vec<PackedStanding>) -> Result<(), AllocError>
     ensures { OnOk result (LosesTraces standings.old.items standings.new.items) }
 {
     for number in 0..standings.len() {

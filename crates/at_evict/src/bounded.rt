@@ -7,7 +7,7 @@ ghost use Rattle.at_cache.specs.Traced.{StayTraced};
 use crate::choosing::choose;
 use crate::folding::fold;
 use at_cache::folding::{Fold, Last};
-use at_cache::standing::Standing;
+use at_cache::packing::PackedStanding;
 use at_cache::table::Table;
 use at_cache::{KeepInTurns, KeepRecorded, Keeper};
 use at_index::run::AllReaders;
@@ -36,7 +36,7 @@ impl Fold for Folding {
         &self,
         alloc: Global,
         entries: &mut Table,
-        standings: &[Standing],
+        standings: &[PackedStanding],
         readers: &mut AllReaders,
         last: Last,
     ) -> Result<u32, AllocError> {

@@ -7,12 +7,13 @@ use Rattle.at_cache.proofs.cut.take_trace.Goals as goal
 pub returns-then-slot-len : goal.returns-then-slot-len
 returns-then-slot-len c =
     let xs = c.args.standings.now.items in
-    let stood = rw c.as_slice.ensures.value at c.standing_at-standing.ensures in
+    let stood = rw c.as_slice.ensures.value at c.packed_at-standing.ensures in
+    let left = c.without_trace.ensures ∙ ap untraced stood in
     record {
-      taken = changed_set untraced xs c.args.slot c.set_standing.new.standings.items _ (let less = c.if-slot-len.true in let is = c.len.ensures in let ok = c.args.standings.now.ok.0 in omega (arith, less, is, ok))
-          (ap untraced stood) c.set_standing.ensures;
-      room = ap length c.set_standing.ensures ∙ set_room xs c.args.slot _;
-      count = ap held_among c.set_standing.ensures ∙ set_same xs c.args.slot _ (ap (λ (s : Standing). s.holds) stood);
+      taken = changed_set untraced xs c.args.slot c.set_packed.new.standings.items _ (let less = c.if-slot-len.true in let is = c.len.ensures in let ok = c.args.standings.now.ok.0 in omega (arith, less, is, ok))
+          left c.set_packed.ensures;
+      room = ap length c.set_packed.ensures ∙ set_room xs c.args.slot _;
+      count = ap held_among c.set_packed.ensures ∙ set_same xs c.args.slot _ (ap (λ (s : Standing). s.holds) left);
     }
 
 pub returns-else-slot-len-clause-taken : goal.returns-else-slot-len-clause-taken

@@ -76,8 +76,8 @@ pub put_in-requires-clause-made : goal.put_in-requires-clause-made
 put_in-requires-clause-made c = made_so c.args.inst c.fresh.result
     (option_map value_view c.args.value) c.in_ok-links.links.items c.args.edge.stamp (c.fresh.ensures.entry c.args.inst)
 
-pub set_standing-requires : goal.set_standing-requires
-set_standing-requires c =
+pub set_standing-requires-clause-there : goal.set_standing-requires-clause-there
+set_standing-requires-clause-there c =
     let put = rw c.in_ok-put_in.was at c.put_in.ensures.puts in
     subst (λ n. c.args.edge.slot < n) (sym (put.room ∙ ap length c.add_users.ensures.standings))
     (rw c.in_ok-make_standing.was at c.make_standing.ensures.there)

@@ -4,8 +4,8 @@ use Rattle.at_cache.proofs.Users.{from_kept}
 use Rattle.at_cache.proofs.of_cut.Outdated.{awaited_still, stays_awaited}
 use Rattle.at_cache.proofs.renewing.outdate.Goals as goal
 
-pub returns-then-stamp : goal.returns-then-stamp
-returns-then-stamp c lists i a = awaited_still lists c.args.cut.now.entries c.args.cut.now.standings.items
+pub returns-then-stamp-ge-NUMBERS : goal.returns-then-stamp-ge-NUMBERS
+returns-then-stamp-ge-NUMBERS c lists i a = awaited_still lists c.args.cut.now.entries c.args.cut.now.standings.items
     c.args.puts.now i c.args.slot a
 
 pub returns-then-not-is_taken : goal.returns-then-not-is_taken

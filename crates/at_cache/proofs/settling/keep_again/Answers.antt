@@ -13,8 +13,8 @@ returns-then-standing c lists whole (traced, all) e there = (
       (whole.valued c.args.slot e there traced),
 )
 
-pub returns-then-counts : goal.returns-then-counts
-returns-then-counts c lists whole can e there = (
+pub returns-then-counts-ge-NUMBERS : goal.returns-then-counts-ge-NUMBERS
+returns-then-counts-ge-NUMBERS c lists whole can e there = (
   goes_none lists _ e.instance _ _ whole,
   λ h. absurd
       (true≢false (sym h)),

@@ -46,8 +46,8 @@ invariant_of-self c =
       sure = λ off. absurd (true≢false off);
     }
 
-pub returns-then-stamp : goal.returns-then-stamp
-returns-then-stamp c =
+pub returns-then-stamp-ge-NUMBERS : goal.returns-then-stamp-ge-NUMBERS
+returns-then-stamp-ge-NUMBERS c =
     let s = c.outdate-known.ensures _ _ (awaited c.args.self.now c.args.inst _ c.requires.absent c.in_ok-slot.ensures.slot
     c.in_ok-slot.ensures.its) in
     record {
@@ -65,6 +65,7 @@ enter_held-requires c =
     record {
       awaited = s.awaited;
       present = subst (λ (es : Entries). AreKept es c.args.uses.now) (λ n j. sym (s.keeps j) n) c.requires.present;
+      fits = search rules;
     }
 
 pub invariant_of-self-in-Break-branch-2 : goal.invariant_of-self-in-Break-branch-2
