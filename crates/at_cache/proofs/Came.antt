@@ -1,12 +1,5 @@
 -- Of an attribute of which no entry came no instance has one.
-use Rattle.std.proofs.Common.{◌≡◌, ◌∙◌, ℕ, zero, suc, ◌<◌, List, [], ◌∷◌, ◌++◌, length, slice_set, Bool, true, false, true≢false, cond, Option, None, Some, is_some, eqb-true, refl, sym, ap, arith}
-use Rattle.std.specs.Map.{lookup}
-use Rattle.std.proofs.lemmas.Option.{none-some}
-use Rattle.at_model.specs.Run.{Instance}
-use Rattle.at_body.specs.Same.{same_instance}
-use Rattle.at_cache.specs.declared.entry.Entry.{Entry}
-use Rattle.at_cache.specs.Attributes.{HaveCome, has_come}
-use Rattle.at_model.proofs.Options.{both}
+use Rattle.at_cache.proofs.Common.{◌≡◌, ◌∙◌, ℕ, zero, suc, ◌<◌, List, [], ◌∷◌, ◌++◌, length, slice_set, Bool, true, false, true≢false, cond, Option, None, Some, is_some, eqb-true, refl, sym, ap, arith, lookup, none-some, Instance, same_instance, Entry, HaveCome, has_come, both}
 
 pub none_by : {A : Type 0} (o : Option A) → is_some o ≡ false → o ≡ None
 none_by None h = refl

@@ -1,27 +1,7 @@
 -- One entry is changed, and keeps its slot: by tests, and as a memory.
-use Rattle.std.proofs.Common.{◌≡◌, ◌⊎◌, inl, inr, ℕ, ◌<◌, List, [], ◌∷◌, Bool, true, false, cond, zero, suc, Option, None, Some, IsSome, option_map, nat_eq, if◌then◌else◌, length, slice_get, refl, sym, ap, ◌∙◌, subst, IfSome}
-use Rattle.std.proofs.lemmas.Bool.{cases_eq, eq-eqb, ne_eqb}
-use Rattle.std.proofs.lemmas.Option.{none-some, same_Some}
-use Rattle.std.specs.Map.{lookup}
-use Rattle.slab.specs.Slab.{get}
-use Rattle.indexmap.specs.Layout.{set_value_at, length-set_value_at}
-use Rattle.at_model.specs.Run.{Instance}
-use Rattle.at_body.specs.Same.{same_instance}
-use Rattle.at_index.specs.declared.edge.Edge.{Edge}
-use Rattle.at_cache.specs.declared.entry.Entry.{Entry}
-use Rattle.at_cache.specs.declared.mark.Mark.{Mark}
-use Rattle.at_cache.specs.declared.table.Table.{Table}
-use Rattle.at_cache.specs.Attributes.{HaveCome}
-use Rattle.at_cache.specs.Flushing.{doomed}
-use Rattle.at_cache.specs.Marking.{HasMark}
-use Rattle.at_index.specs.Edges.{edges_in}
-use Rattle.at_cache.specs.Info.{Info, Memory, info, is_going, next_of}
-use Rattle.at_cache.specs.Placed.{IsPlaced, at}
-use Rattle.at_cache.specs.Putting.{Enters}
-use Rattle.at_cache.specs.Slots.{HasWritten, with_mark}
+use Rattle.at_cache.proofs.Common.{◌≡◌, ◌⊎◌, inl, inr, ℕ, ◌<◌, List, [], ◌∷◌, Bool, true, false, cond, zero, suc, Option, None, Some, IsSome, option_map, nat_eq, if◌then◌else◌, length, slice_get, refl, sym, ap, ◌∙◌, subst, IfSome, cases_eq, eq-eqb, ne_eqb, none-some, same_Some, lookup, get, set_value_at, length-set_value_at, Instance, same_instance, Edge, Entry, Mark, Table, HaveCome, doomed, HasMark, edges_in, Info, Memory, info, is_going, next_of, IsPlaced, at, Enters, HasWritten, with_mark, slice_get_within}
 use Rattle.at_cache.proofs.Came.{come_on}
 use Rattle.at_cache.proofs.Moving.{at_changed, at_none, at_slot, at_some, placed, table_by, table_changed, apart_changed}
-use Rattle.std.proofs.lemmas.Option.{slice_get_within}
 
 absent_set : (test : Instance ℕ → Bool) (es : List (Instance ℕ × Entry)) (p : ℕ) (w : Entry) → lookup test es ≡ None → lookup test (set_value_at es p w) ≡ None
 absent_set test [] p w h = refl

@@ -1,12 +1,5 @@
 -- One entry more goes, or one less is there.
-use Rattle.std.proofs.Common.{◌≡◌, ◌&&◌, ◌⊎◌, inl, inr, ℕ, List, [], ◌∷◌, Bool, true, false, not, Option, None, Some, option_map, nat_eq, if◌then◌else◌, Contains, IsSome, refl, sym, ap, ◌∙◌, subst, arith, eqb-true}
-use Rattle.std.proofs.lemmas.Bool.{cases_eq, eq-eqb, ne_eqb}
-use Rattle.std.proofs.lemmas.Option.{none-some, same_Some}
-use Rattle.slab.proofs.SlabLemmas.{Contains-cons, Contains-cons_cases}
-use Rattle.at_index.specs.declared.edge.Edge.{Edge}
-use Rattle.at_cache.specs.Info.{Info, Memory}
-use Rattle.at_index.proofs.Lists.{head_of}
-use Rattle.at_cache.specs.Flushing.{Reached, Work, IsChain, IsDoomed, IsSame, doomed, dooms, first_after, is_fresh}
+use Rattle.at_cache.proofs.Common.{◌≡◌, ◌&&◌, ◌⊎◌, inl, inr, ℕ, List, [], ◌∷◌, Bool, true, false, not, Option, None, Some, option_map, nat_eq, if◌then◌else◌, Contains, IsSome, refl, sym, ap, ◌∙◌, subst, arith, eqb-true, cases_eq, eq-eqb, ne_eqb, none-some, same_Some, Contains-cons, Contains-cons_cases, Edge, Info, Memory, head_of, Reached, Work, IsChain, IsDoomed, IsSame, doomed, dooms, first_after, is_fresh}
 
 -- those of a chain are there, and going
 pub chain_going : (m : Memory) (first : Option ℕ) (ss : List ℕ) → IsChain m first ss → (s : ℕ) → Contains ss s → (e : Info) × (m s ≡ Some e) × (e.going ≡ true)

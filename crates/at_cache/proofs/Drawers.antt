@@ -1,42 +1,14 @@
 -- What is asked of the desks of a node.
-use Rattle.std.proofs.Common.{◌≡◌, ◌⊎◌, inl, inr, ℕ, ◌+◌, List, [], ◌∷◌, ◌++◌, Bool, true, false, true≢false, cond, Option, None, Some, Contains, take, slice_get, nat_eq, if◌then◌else◌, refl, sym, ap, ◌∙◌, subst, append-nil}
-use Rattle.std.proofs.lemmas.Bool.{and_from}
-use Rattle.std.proofs.lemmas.List.{take_more}
-use Rattle.std.proofs.lemmas.List.Elements.{Contains-append_left}
-use Rattle.std.proofs.lemmas.Option.{get_or_from_slice_get, slice_get_within}
-use Rattle.std.specs.Map.{lookup}
+use Rattle.at_cache.proofs.Common.{◌≡◌, ◌⊎◌, inl, inr, ℕ, ◌+◌, List, [], ◌∷◌, ◌++◌, Bool, true, false, true≢false, cond, Option, None, Some, Contains, take, slice_get, nat_eq, if◌then◌else◌, refl, sym, ap, ◌∙◌, subst, append-nil, and_from, take_more, Contains-append_left, get_or_from_slice_get, slice_get_within, lookup, Location, Is, Tok, Slot, Up, Idx, Drawer, both, loc_view, is_drawer_at, is_node, named, Places, Edge, AllReaders, Answers, Asked, is_index, sees, desk_edges, drawer_at, edges_in_desks, edges_in, edges_to, edges_at, edges_over, node_at, same_location, asked_both, no_edges, head_of, none_in, same_location-is, same_location-itself, over_none, seen_at, Cut, Begins, AreNamed, GoesOn, GoesOver}
 use Rattle.at_model.specs.Drawers.{Key}
-use Rattle.at_model.specs.Run.{Location, Is, Tok, Slot, Up, Idx, Drawer}
-use Rattle.at_model.proofs.Options.{both}
-use Rattle.at_store.specs.Located.{loc_view}
-use Rattle.at_store.specs.Places.{is_drawer_at, is_node, named}
-use Rattle.at_store.specs.declared.places.Places.{Places}
 use Rattle.at_store.specs.declared.node.Loc.{Loc}
 use Rattle.at_store.specs.declared.node.Loc.TheVariants as loc
 use Rattle.at_index.specs.declared.desk.Desks.{Desks}
 use Rattle.at_index.specs.declared.desk.Spot.{Spot}
-use Rattle.at_index.specs.declared.edge.Edge.{Edge}
 use Rattle.at_index.specs.declared.edge.Edges.{Edges}
-use Rattle.at_index.specs.declared.run.AllReaders.{AllReaders}
 use Rattle.at_index.specs.declared.scope.Scope.TheVariants as scope
-use Rattle.at_index.specs.Asking.{Answers, Asked, is_index, sees}
-use Rattle.at_index.specs.Desks.{desk_edges, drawer_at, edges_in_desks}
-use Rattle.at_index.specs.Edges.{edges_in}
-use Rattle.at_index.specs.Finding.{edges_to}
-use Rattle.at_index.specs.Readers.{edges_at}
-use Rattle.at_index.specs.Runs.{edges_over}
-use Rattle.at_index.specs.Sameness.{node_at, same_location}
-use Rattle.at_index.proofs.Beginning.{asked_both}
 use Rattle.at_index.proofs.DeskEdges.{at_drawer, in_more, of_desk, over_drawer}
-use Rattle.at_index.proofs.Listed.{no_edges}
-use Rattle.at_index.proofs.Lists.{head_of, none_in}
-use Rattle.at_index.proofs.Locations.{same_location-is, same_location-itself}
-use Rattle.at_index.proofs.of_runs.Over.{over_none, seen_node as seen_at}
-use Rattle.at_cache.specs.declared.cut.Cut.{Cut}
 use Rattle.at_cache.specs.declared.cut.Loss.TheVariants as loss
-use Rattle.at_cache.specs.Flushing.{Begins}
-use Rattle.at_cache.specs.Kept.{AreNamed}
-use Rattle.at_cache.specs.Marking.{GoesOn, GoesOver}
 use Rattle.at_cache.proofs.Naming.{begins_by, goes_nowhere}
 
 module _ (n : ℕ) where

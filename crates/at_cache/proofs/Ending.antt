@@ -1,18 +1,7 @@
 -- Where a flush has ended: just what stands for none of the locations is left, and is found as before.
-use Rattle.std.proofs.Common.{◌≡◌, ◌⊎◌, inl, inr, ℕ, zero, suc, ◌<◌, List, [], ◌∷◌, ◌||◌, Bool, true, false, Option, None, Some, option_map, Contains, refl, sym, ap, ◌∙◌, subst, arith}
-use Rattle.std.specs.List.{list_any}
-use Rattle.std.proofs.lemmas.Bool.{eq-eqb, or_left, or_cases, and_from, or_right}
-use Rattle.std.proofs.lemmas.Option.{none-some, same_Some}
-use Rattle.at_model.specs.Run.{Location}
-use Rattle.at_index.specs.declared.edge.Edge.{Edge}
-use Rattle.at_cache.specs.Info.{Info, Memory}
-use Rattle.at_cache.specs.Flushing.{Reached, Work, IsChain, IsDoomed, IsSame, Begins}
+use Rattle.at_cache.proofs.Common.{◌≡◌, ◌⊎◌, inl, inr, ℕ, zero, suc, ◌<◌, List, [], ◌∷◌, ◌||◌, Bool, true, false, Option, None, Some, option_map, Contains, refl, sym, ap, ◌∙◌, subst, arith, list_any, eq-eqb, or_left, or_cases, and_from, or_right, none-some, same_Some, Location, Edge, Info, Memory, Reached, Work, IsChain, IsDoomed, IsSame, Begins, covers, edge_to, is_listed, same_edge, is_in, none_in, any_of, some_of, any_same}
 use Rattle.at_cache.specs.Flushing as flushing
-use Rattle.at_cache.specs.Recorded.{covers, edge_to}
-use Rattle.at_index.specs.Edges.{is_listed, same_edge}
 use Rattle.at_cache.proofs.Index.{Index, LeavesSlots, LosesSlots, Standing, kept_at, standing}
-use Rattle.at_index.proofs.Listing.{is_in}
-use Rattle.at_index.proofs.Lists.{none_in, any_of, some_of, any_same}
 
 -- where nothing is to do any more, nothing goes
 pub none_goes : {old m : Memory} {start : List Edge} → Work old start [] None m

@@ -1,15 +1,6 @@
 -- Edges of an entry that isn't there yet: all is found as before, and what was kept is kept.
-use Rattle.std.proofs.Common.{◌≡◌, inl, inr, ℕ, zero, suc, ◌+◌, List, ◌||◌, Option, None, Some, option_map, Contains, refl, sym, ap, ◌∙◌, subst, arith}
-use Rattle.std.specs.List.{list_any}
-use Rattle.at_model.specs.Run.{Location}
-use Rattle.at_index.specs.declared.edge.Edge.{Edge}
-use Rattle.at_cache.specs.Info.{Info, Memory}
-use Rattle.at_cache.specs.Recorded.{covers, edge_to}
-use Rattle.at_index.specs.Edges.{is_listed}
+use Rattle.at_cache.proofs.Common.{◌≡◌, inl, inr, ℕ, zero, suc, ◌+◌, List, ◌||◌, Option, None, Some, option_map, Contains, refl, sym, ap, ◌∙◌, subst, arith, list_any, Location, Edge, Info, Memory, covers, edge_to, is_listed, Reads, Uses, users_at, is_current, any_same}
 use Rattle.at_cache.proofs.Index.{Index, kept_at, standing}
-use Rattle.at_index.specs.Linking.{Reads}
-use Rattle.at_cache.specs.Putting.{Uses, users_at, is_current}
-use Rattle.at_index.proofs.Lists.{any_same}
 use Rattle.at_cache.proofs.Ending.{far_enough, opened}
 use Rattle.at_cache.proofs.Users.{back, listed_still, users_of, current}
 

@@ -1,10 +1,5 @@
 -- The index by membership, and what is kept by slots.
-use Rattle.std.proofs.Common.{◌≡◌, ◌<◌, ◌⊎◌, ℕ, List, Bool, true, false, Option, Some, option_map, Contains}
-use Rattle.at_model.specs.Run.{Instance, Location}
-use Rattle.at_index.specs.declared.edge.Edge.{Edge}
-use Rattle.at_cache.specs.Info.{Info, Memory}
-use Rattle.at_cache.specs.Kept.{Kept}
-use Rattle.at_cache.specs.Recorded.{covers, edge_to}
+use Rattle.at_cache.proofs.Common.{◌≡◌, ◌<◌, ◌⊎◌, ℕ, List, Bool, true, false, Option, Some, option_map, Contains, Instance, Location, Edge, Info, Memory, Kept, covers, edge_to}
 
 -- each entry is found from all that it used, and what is found so used that; links lead to earlier entries
 pub record Index (lists : Location ℕ → List Edge) (puts : ℕ) (m : Memory) : Type 0 where

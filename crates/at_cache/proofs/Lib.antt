@@ -1,3 +1,4 @@
+pub mod Common
 pub mod Index
 pub mod Moving
 pub mod Changing

@@ -1,18 +1,7 @@
 -- The last entry takes the place of one that is taken out.
-use Rattle.std.proofs.Common.{◌≡◌, ◌⊎◌, inl, inr, ℕ, zero, suc, ◌<◌, ◌≤◌, ◌-◌, List, [], ◌∷◌, ◌++◌, Option, None, Some, option_map, nat_eq, if◌then◌else◌, length, take, get_or, slice_get, slice_set, swap_remove, refl, sym, ap, ◌∙◌, subst, arith, eqb-true, Bool, true, false, true≢false}
-use Rattle.std.proofs.lemmas.Bool.{cases_eq, cases_lt, eq-eqb, ne_eqb}
-use Rattle.std.proofs.lemmas.Option.{none-some, same_Some, slice_get_within}
-use Rattle.std.specs.List.{IsDistinct}
-use Rattle.std.specs.Map.{keys_of}
+use Rattle.at_cache.proofs.Common.{◌≡◌, ◌⊎◌, inl, inr, ℕ, zero, suc, ◌<◌, ◌≤◌, ◌-◌, List, [], ◌∷◌, ◌++◌, Option, None, Some, option_map, nat_eq, if◌then◌else◌, length, take, get_or, slice_get, slice_set, swap_remove, refl, sym, ap, ◌∙◌, subst, arith, eqb-true, Bool, true, false, true≢false, cases_eq, cases_lt, eq-eqb, ne_eqb, none-some, same_Some, slice_get_within, IsDistinct, keys_of, set_value_at, Instance, same_instance, instances_equiv, Entry, get_left, get_push, get_seam, got, IsMoved, IsPlaced, at}
 use Rattle.std.proofs.lemmas.Map.Keys.{apart_from_distinct}
-use Rattle.indexmap.specs.Layout.{set_value_at}
-use Rattle.at_model.specs.Run.{Instance}
-use Rattle.at_body.specs.Same.{same_instance}
-use Rattle.at_body.specs.Sameness.{instances_equiv}
-use Rattle.at_cache.specs.declared.entry.Entry.{Entry}
 use Rattle.at_index.proofs.Gained.{get_other}
-use Rattle.at_index.proofs.Lists.{get_left, get_push, get_seam, got}
-use Rattle.at_cache.specs.Placed.{IsMoved, IsPlaced, at}
 
 -- where each slot's entry is, with the entry
 pub record IsTable (es : List (Instance ℕ × Entry)) (slots : ℕ → Option ℕ) : Type 0 where

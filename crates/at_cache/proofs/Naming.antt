@@ -1,39 +1,11 @@
 -- A flush begins at the nodes that places name.
-use Rattle.std.proofs.Common.{◌≡◌, ◌⊎◌, inl, inr, ℕ, ◌+◌, ◌<◌, List, [], ◌∷◌, ◌++◌, ◌||◌, Bool, true, false, true≢false, Option, None, Some, Contains, take, slice_get, get_or, length, nat_eq, refl, sym, ap, ◌∙◌, subst, eqb-true, cond}
-use Rattle.std.specs.List.{list_any}
-use Rattle.std.proofs.lemmas.Bool.{cases_eq, eq-eqb, and_from, or_cases}
-use Rattle.std.proofs.lemmas.List.{take_more}
-use Rattle.std.proofs.lemmas.List.Elements.{Contains-append_cases, Contains-append_left, Contains-append_right}
-use Rattle.smallvec.specs.SmallVec.{SmallVec}
-use Rattle.at_model.specs.Run.{Location, Is, Tok, Slot, Up, Idx, Drawer}
+use Rattle.at_cache.proofs.Common.{◌≡◌, ◌⊎◌, inl, inr, ℕ, ◌+◌, ◌<◌, List, [], ◌∷◌, ◌++◌, ◌||◌, Bool, true, false, true≢false, Option, None, Some, Contains, take, slice_get, get_or, length, nat_eq, refl, sym, ap, ◌∙◌, subst, eqb-true, cond, list_any, cases_eq, eq-eqb, and_from, or_cases, take_more, Contains-append_cases, Contains-append_left, Contains-append_right, SmallVec, Location, Is, Tok, Slot, Up, Idx, Drawer, Places, is_drawer_at, is_index_among, is_node, named, names_around, Cut, Edge, Readers, AllReaders, AreNoted, Asked, looks_at, sees, GoesOn, edges_to, Begins, node_at, edges_among, edges_at, among_others, either_empty, not_seen, on_nowhere, over_at, seat_none, seen_at, is_of_index, edges_on, edges_over, is_seen, Seat, asked_both, any_of, some_of, none_in, both, has, edges_are, no_edges}
 use Rattle.at_model.specs.Touches.{node_of}
 use Rattle.at_store.specs.declared.places.Changing.{Changing}
-use Rattle.at_store.specs.declared.places.Places.{Places}
-use Rattle.at_store.specs.Places.{is_drawer_at, is_index_among, is_node, named, names_around}
-use Rattle.at_cache.specs.declared.cut.Cut.{Cut}
 use Rattle.at_cache.specs.declared.cut.Loss.TheVariants as loss
-use Rattle.at_index.specs.declared.edge.Edge.{Edge}
-use Rattle.at_index.specs.declared.facet.Readers.{Readers}
-use Rattle.at_index.specs.declared.run.AllReaders.{AllReaders}
 use Rattle.at_index.specs.declared.scope.Scope.{Scope}
 use Rattle.at_index.specs.declared.scope.Scope.TheVariants as scope
-use Rattle.at_index.specs.Asking.{AreNoted, Asked, looks_at, sees}
-use Rattle.at_cache.specs.Marking.{GoesOn}
-use Rattle.at_index.specs.Finding.{edges_to}
-use Rattle.at_cache.specs.Flushing.{Begins}
-use Rattle.at_index.specs.Sameness.{node_at}
-use Rattle.at_index.specs.Readers.{edges_among, edges_at}
-use Rattle.at_index.proofs.Beginning.{among_others}
-use Rattle.at_index.proofs.of_runs.Over.{either_empty, not_seen, on_nowhere, over_at, over_none as seat_none, seen_node as seen_at}
-use Rattle.at_index.specs.Readers.{is_of_index}
-use Rattle.at_index.specs.Runs.{edges_on, edges_over, is_seen}
 use Rattle.at_index.specs.declared.run.Run.{Run}
-use Rattle.at_index.specs.declared.run.Seat.{Seat}
-use Rattle.at_index.proofs.Beginning.{asked_both}
-use Rattle.at_index.proofs.Lists.{any_of, some_of, none_in}
-use Rattle.at_model.proofs.Options.{both}
-use Rattle.at_index.proofs.Listing.{has}
-use Rattle.at_index.proofs.Listed.{edges_are, no_edges}
 use Rattle.at_cache.proofs.of_cut.Passing.{over_none, over_then}
 
 any_push : (p : ℕ → Bool) (node : ℕ) (ns : List ℕ) → list_any p (ns ++ node ∷ []) ≡ true → (list_any p ns || p node) ≡ true

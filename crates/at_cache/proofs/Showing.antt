@@ -1,9 +1,5 @@
 -- What is kept of instances, and what is kept in slots, where each is of an instance.
-use Rattle.std.proofs.Common.{◌≡◌, inl, inr, ℕ, Bool, true, Option, None, Some, refl, sym, ap, ◌∙◌}
-use Rattle.std.proofs.lemmas.Option.{none-some}
-use Rattle.at_model.specs.Run.{Instance, Location}
-use Rattle.at_body.specs.Same.{same_instance}
-use Rattle.at_cache.specs.Kept.{Entries, Kept, KeepsAll, LeavesUntouched, LosesTouched}
+use Rattle.at_cache.proofs.Common.{◌≡◌, inl, inr, ℕ, Bool, true, Option, None, Some, refl, sym, ap, ◌∙◌, none-some, Instance, Location, same_instance, Entries, Kept, KeepsAll, LeavesUntouched, LosesTouched}
 use Rattle.at_cache.proofs.Index.{LeavesSlots, LosesSlots, Standing}
 
 -- what is kept of an instance is in a slot, and what is in a slot is kept of its instance

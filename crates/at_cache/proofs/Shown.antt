@@ -1,15 +1,5 @@
 -- What is kept of instances is what is kept in slots.
-use Rattle.std.proofs.Common.{◌≡◌, ℕ, zero, suc, List, [], ◌∷◌, Bool, true, false, cond, Option, None, Some, option_map, IsSome, is_some, slice_get, refl, sym, ap, ◌∙◌, subst, arith}
-use Rattle.std.specs.Map.{lookup}
-use Rattle.std.proofs.lemmas.Option.{none-some, same_Some}
-use Rattle.slab.specs.Slab.{get}
-use Rattle.at_model.specs.Run.{Instance}
-use Rattle.at_body.specs.Same.{same_instance}
-use Rattle.at_body.specs.Sameness.{instances_equiv}
-use Rattle.at_body.proofs.SamenessLemmas.{same_true}
-use Rattle.at_cache.specs.declared.entry.Entry.{Entry}
-use Rattle.at_cache.specs.declared.table.Table.{Table}
-use Rattle.at_cache.specs.Info.{Info, info, memory_of}
+use Rattle.at_cache.proofs.Common.{◌≡◌, ℕ, zero, suc, List, [], ◌∷◌, Bool, true, false, cond, Option, None, Some, option_map, IsSome, is_some, slice_get, refl, sym, ap, ◌∙◌, subst, arith, lookup, none-some, same_Some, get, Instance, same_instance, instances_equiv, same_true, Entry, Table, Info, info, memory_of}
 use Rattle.at_cache.proofs.Moving.{at_none, at_some, table_by}
 
 pub entry_at : (test : Instance ℕ → Bool) (es : List (Instance ℕ × Entry)) (e : Entry) → lookup test es ≡ Some e → (p : ℕ) × (j : Instance ℕ) × (slice_get es p ≡ Some (j, e)) × (test j ≡ true)

@@ -1,14 +1,6 @@
 -- A flush begins, and takes one entry out.
-use Rattle.std.proofs.Common.{◌≡◌, ◌⊎◌, inl, inr, ℕ, List, [], ◌∷◌, ◌++◌, true, Option, None, Some, Contains, refl, sym, ap, ◌∙◌, subst}
-use Rattle.std.proofs.lemmas.Bool.{cases_eq}
-use Rattle.std.proofs.lemmas.Option.{none-some, same_Some}
-use Rattle.std.proofs.lemmas.List.Elements.{Contains-append_cases, Contains-append_left, Contains-append_right}
-use Rattle.slab.proofs.SlabLemmas.{Contains-cons_cases}
-use Rattle.at_index.specs.declared.edge.Edge.{Edge}
-use Rattle.at_cache.specs.Info.{Info, Memory}
-use Rattle.at_cache.specs.Flushing.{Reached, Work, IsChain, IsDoomed, IsSame, IsIdle}
+use Rattle.at_cache.proofs.Common.{◌≡◌, ◌⊎◌, inl, inr, ℕ, List, [], ◌∷◌, ◌++◌, true, Option, None, Some, Contains, refl, sym, ap, ◌∙◌, subst, cases_eq, none-some, same_Some, Contains-append_cases, Contains-append_left, Contains-append_right, Contains-cons_cases, Edge, Info, Memory, Reached, Work, IsChain, IsDoomed, IsSame, IsIdle, none_in}
 use Rattle.at_cache.specs.Flushing as flushing
-use Rattle.at_index.proofs.Lists.{none_in}
 use Rattle.at_cache.proofs.Dooming.{chain_stays}
 
 pub itself : (e : Info) → IsSame e e

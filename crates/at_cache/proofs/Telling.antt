@@ -1,12 +1,5 @@
 -- What is told of the entry in a slot.
-use Rattle.std.proofs.Common.{◌≡◌, ℕ, Bool, false, ◌&&◌, not, nat_eq, Option, None, Some, option_map, ap, sym, ◌∙◌}
-use Rattle.std.proofs.lemmas.Option.{same_Some}
-use Rattle.at_model.specs.Run.{Instance, Value}
-use Rattle.at_body.specs.Values.{value_view}
-use Rattle.at_index.specs.declared.edge.Edge.{Edge}
-use Rattle.at_cache.specs.declared.entry.Entry.{Entry}
-use Rattle.at_cache.specs.Info.{Info, info, is_going}
-use Rattle.at_cache.specs.Flushing.{is_fresh}
+use Rattle.at_cache.proofs.Common.{◌≡◌, ℕ, Bool, false, ◌&&◌, not, nat_eq, Option, None, Some, option_map, ap, sym, ◌∙◌, same_Some, Instance, Value, value_view, Edge, Entry, Info, info, is_going, is_fresh}
 
 module _ (x : Edge) where
   pub current_some : (o : Option (Instance ℕ × Entry)) (e : Instance ℕ × Entry) → Some e ≡ o → nat_eq e.1.stamp x.stamp ≡ (elim (option_map info o) as (λ _. Bool) [ None ↦ false | Some e ↦ nat_eq e.stamp x.stamp ])

@@ -1,16 +1,6 @@
 -- The index by tests is the index.
-use Rattle.std.proofs.Common.{◌≡◌, ◌<◌, ℕ, List, Bool, true, false, ◌&&◌, Option, None, Some, nat_eq, nat_lt, Contains, refl, sym, ap, ◌∙◌, subst, eqb-true}
-use Rattle.std.specs.List.{list_any}
-use Rattle.std.proofs.lemmas.Bool.{eq-eqb, lt-ltb, ltb-true, and_from}
-use Rattle.at_model.specs.Run.{Location}
-use Rattle.at_index.specs.declared.edge.Edge.{Edge}
-use Rattle.at_cache.specs.Info.{Info, Memory}
-use Rattle.at_cache.specs.Recorded.{IsIndexed, is_used, edge_to}
+use Rattle.at_cache.proofs.Common.{◌≡◌, ◌<◌, ℕ, List, Bool, true, false, ◌&&◌, Option, None, Some, nat_eq, nat_lt, Contains, refl, sym, ap, ◌∙◌, subst, eqb-true, list_any, eq-eqb, lt-ltb, ltb-true, and_from, Location, Edge, Info, Memory, IsIndexed, is_used, edge_to, same_edge, any_of, some_of, both, has, is_in}
 use Rattle.at_cache.proofs.Index.{Index}
-use Rattle.at_index.specs.Edges.{same_edge}
-use Rattle.at_index.proofs.Lists.{any_of, some_of}
-use Rattle.at_model.proofs.Options.{both}
-use Rattle.at_index.proofs.Listing.{has, is_in}
 
 has_number : (xs : List ℕ) (x : ℕ) → Contains xs x → list_any (nat_eq x) xs ≡ true
 has_number xs x c = any_of (nat_eq x) xs x c (eq-eqb x x refl)

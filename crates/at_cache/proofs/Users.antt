@@ -1,16 +1,5 @@
 -- The users of entries, of which one has an edge more.
-use Rattle.std.proofs.Common.{◌≡◌, inl, inr, ℕ, List, [], ◌∷◌, ◌++◌, Bool, true, false, Option, None, Some, nat_eq, Contains, option_map, if◌then◌else◌, refl, sym, ap, ◌∙◌, subst, take, IsSome, is_some, eqb-true}
-use Rattle.std.proofs.lemmas.Bool.{cases_eq, eq-eqb, ne_eqb}
-use Rattle.std.proofs.lemmas.Option.{none-some, same_Some}
-use Rattle.at_model.specs.Run.{Location}
-use Rattle.at_index.specs.declared.edge.Edge.{Edge}
-use Rattle.at_index.specs.Edges.{is_listed}
-use Rattle.at_index.specs.Linking.{Lists, Reads}
-use Rattle.at_index.proofs.Lists.{agree}
-use Rattle.at_index.proofs.Listing.{has, is_in, lists_moved, lists_same, reads_all, reads_more, reads_none}
-use Rattle.at_cache.specs.Info.{Info, Memory}
-use Rattle.at_cache.specs.Putting.{Uses, is_current, reused, users_at, with_users}
-use Rattle.at_cache.specs.Recorded.{edge_to}
+use Rattle.at_cache.proofs.Common.{◌≡◌, inl, inr, ℕ, List, [], ◌∷◌, ◌++◌, Bool, true, false, Option, None, Some, nat_eq, Contains, option_map, if◌then◌else◌, refl, sym, ap, ◌∙◌, subst, take, IsSome, is_some, eqb-true, cases_eq, eq-eqb, ne_eqb, none-some, same_Some, Location, Edge, is_listed, Lists, Reads, agree, has, is_in, lists_moved, lists_same, reads_all, reads_more, reads_none, Info, Memory, Uses, is_current, reused, users_at, with_users, edge_to}
 
 -- what is there with other users was there
 pub back : {told m mid : Memory} {x : Edge} {slots : List ℕ} → Uses told x slots m mid → (k : ℕ) (f : Info)

@@ -1,3 +1,4 @@
+pub mod Prelude
 pub mod Kept
 pub mod Placed
 pub mod Info

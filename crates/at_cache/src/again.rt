@@ -1,11 +1,7 @@
 //! What an entry used that is put anew: mostly what it used before, in the same order.
 
 ghost use Rattle.std.specs.Prelude.{◌≡◌, IfOk, IfSome, IsTrue, option_map};
-ghost use Rattle.std.specs.Map.{lookup};
-ghost use Rattle.at_body.specs.Same.{same_instance};
-ghost use Rattle.at_cache.specs.Info.{memory_of};
-ghost use Rattle.at_cache.specs.Putting.{AreTaken};
-ghost use Rattle.at_cache.specs.Theirs.{AreTheirs, HasSlot};
+ghost use Rattle.at_cache.specs.Prelude.{lookup, same_instance, memory_of, AreTaken, AreTheirs, HasSlot};
 
 use crate::entry::Links;
 use crate::likely::Likely;

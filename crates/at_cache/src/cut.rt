@@ -1,15 +1,7 @@
 //! Entries that stay in memory where they aren't kept.
 
 ghost use Rattle.std.specs.Prelude.{◌≡◌, ◌+◌, ℕ, List, None, Some, false, is_some, length, option_copied, true};
-ghost use Rattle.std.specs.Map.{lookup};
-ghost use Rattle.at_model.specs.Run.{Location};
-ghost use Rattle.at_body.specs.Same.{same_instance};
-ghost use Rattle.at_index.specs.declared.edge.Edge.{Edge};
-ghost use Rattle.at_cache.specs.Flushing.{is_fresh};
-ghost use Rattle.at_cache.specs.Info.{Info, memory_of};
-ghost use Rattle.at_cache.specs.Marking.{held_in};
-ghost use Rattle.at_cache.specs.Putting.{is_current};
-ghost use Rattle.at_cache.specs.Standings.{IsChanged, alive_in, held_among, held_of, remembered, standing_of, unheld, untraced};
+ghost use Rattle.at_cache.specs.Prelude.{lookup, Location, same_instance, Edge, is_fresh, Info, memory_of, held_in, is_current, IsChanged, alive_in, held_among, held_of, remembered, standing_of, unheld, untraced};
 
 use crate::again::slot_by;
 use crate::entry::Entry;

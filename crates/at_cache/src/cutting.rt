@@ -1,14 +1,7 @@
 //! What an edit takes away from entries that stay in memory.
 
 ghost use Rattle.std.specs.Prelude.{◌≡◌, ◌≢◌, ◌<◌, ◌⊎◌, ◌+◌, ℕ, List, [], Option, None, Some, IfNone, IfSome, IsSome, OnSome};
-ghost use Rattle.at_index.specs.declared.edge.Edge.{Edge};
-ghost use Rattle.at_index.specs.Asking.{AreNoted, Answers};
-ghost use Rattle.at_cache.specs.Flushing.{IsIdle, Work};
-ghost use Rattle.at_cache.specs.Info.{Memory, memory_of, table_len};
-ghost use Rattle.at_cache.specs.Kept.{AreNamed};
-ghost use Rattle.at_cache.specs.Marking.{GoesOver, HasMark, Passes, TakesAway, held_count, held_in};
-ghost use Rattle.at_cache.specs.Putting.{users_at};
-ghost use Rattle.at_index.specs.Finding.{edges_to};
+ghost use Rattle.at_cache.specs.Prelude.{Edge, AreNoted, Answers, IsIdle, Work, Memory, memory_of, table_len, AreNamed, GoesOver, HasMark, Passes, TakesAway, held_count, held_in, users_at, edges_to};
 
 use crate::cut::{Cut, Loss, take_value};
 use crate::forgetting::{doom_listed, doom_row};

@@ -1,11 +1,9 @@
 //! A flush marks what reads a touched drawer of a node.
 
-ghost use Rattle.at_store.specs.Located.{loc_view};
-ghost use Rattle.at_index.specs.Asking.{Answers, sees};
+ghost use Rattle.at_cache.specs.Prelude.{loc_view, Answers, sees, GoesOn};
 ghost use Rattle.at_index.specs.Desks.{desk_edges, edges_in_desks};
 ghost use Rattle.at_index.specs.declared.scope.Scope.TheVariants as scope_code;
 ghost use Rattle.std.specs.Prelude.{true};
-ghost use Rattle.at_cache.specs.Marking.{GoesOn};
 
 use crate::cut::{Cut, Loss};
 use crate::forgetting::doom_listed;

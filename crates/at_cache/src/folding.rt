@@ -1,12 +1,8 @@
 //! What has fewer entries of what is kept.
 
 ghost use Rattle.std.specs.Prelude.{ℕ, List, OnOk};
-ghost use Rattle.at_index.specs.Asking.{AreNoted};
-ghost use Rattle.at_index.specs.Finding.{edges_to};
-ghost use Rattle.at_cache.specs.Info.{memory_of};
+ghost use Rattle.at_cache.specs.Prelude.{AreNoted, edges_to, memory_of, AreHeld, FoldsHeld, held};
 ghost use Rattle.at_cache.specs.Recorded.{IsIndexed};
-ghost use Rattle.at_cache.specs.Shedding.{AreHeld, FoldsHeld};
-ghost use Rattle.at_cache.specs.Standings.{held};
 ghost use Rattle.at_cache.specs.declared.standing.Standing.{Standing};
 
 use crate::packing::PackedStanding;

@@ -1,15 +1,9 @@
 //! An edit takes the traces of what reads a touched location, and marks what is kept of it.
 
 ghost use Rattle.std.specs.Prelude.{◌≡◌, ◌∷◌, ℕ, [], IsTrue, MatchBool, Option, true, false};
-ghost use Rattle.at_model.specs.Run.{Location};
-ghost use Rattle.at_index.specs.declared.edge.Edge.{Edge};
-ghost use Rattle.at_index.specs.Edges.{edges_in};
-ghost use Rattle.at_index.specs.Rows.{edges_along, edges_of};
+ghost use Rattle.at_cache.specs.Prelude.{Location, Edge, edges_in, edges_along, edges_of, GoesOver, GoesOn, looks_at, sees, Answers, edges_to};
 ghost use Rattle.at_cache.specs.declared.cut.Loss.TheVariants as loss_code;
-ghost use Rattle.at_cache.specs.Marking.{GoesOver, GoesOn};
-ghost use Rattle.at_index.specs.Asking.{looks_at, sees, Answers};
 ghost use Rattle.at_index.specs.Readers.{edges_among, edges_at, stands_for};
-ghost use Rattle.at_index.specs.Finding.{edges_to};
 ghost use Rattle.at_index.specs.Runs.{edges_on, edges_over, edges_past};
 
 use crate::cut::{Cut, Loss, take_trace};

@@ -1,7 +1,7 @@
 //! Which entries go in a flush.
 
 ghost use Rattle.std.specs.Prelude.{◌≡◌, true};
-ghost use Rattle.at_cache.specs.Info.{is_going, next_of};
+ghost use Rattle.at_cache.specs.Prelude.{is_going, next_of};
 
 use at_index::edge::Slot;
 

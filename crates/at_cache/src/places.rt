@@ -4,9 +4,7 @@ ghost use Rattle.std.specs.Prelude.{None};
 ghost use Rattle.std.specs.List.{list_any};
 ghost use Rattle.at_model.specs.Touches.{node_of};
 ghost use Rattle.at_store.specs.Places.{is_drawer_at, is_index_among, is_node, named, names_around};
-ghost use Rattle.at_index.specs.Asking.{AreNoted, sees, Answers};
-ghost use Rattle.at_cache.specs.Marking.{GoesOn};
-ghost use Rattle.at_index.specs.Finding.{edges_to};
+ghost use Rattle.at_cache.specs.Prelude.{AreNoted, sees, Answers, GoesOn, edges_to};
 
 use crate::cut::Cut;
 use crate::desks::begin_desks;

@@ -1,11 +1,7 @@
 //! One entry more.
 
 ghost use Rattle.std.specs.Prelude.{◌≡◌, ℕ, IfOk, option_map};
-ghost use Rattle.at_model.specs.Run.{Instance};
-ghost use Rattle.at_body.specs.Values.{value_view};
-ghost use Rattle.at_cache.specs.Info.{info, memory_of};
-ghost use Rattle.at_cache.specs.Putting.{AreTaken, fresh_entry};
-ghost use Rattle.at_cache.specs.Theirs.{AreTheirs};
+ghost use Rattle.at_cache.specs.Prelude.{Instance, value_view, info, memory_of, AreTaken, fresh_entry, AreTheirs};
 
 use crate::entry::{Entry, Links};
 use crate::mark::Mark;

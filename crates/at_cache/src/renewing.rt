@@ -1,20 +1,9 @@
 //! An entry comes that stays in memory, or is put anew.
 
 ghost use Rattle.std.specs.Prelude.{◌≡◌, ◌<◌, ◌^◌, ℕ, List, None, Some, IfOk, IsSome, IsTrue, OnErr, OnOk, map, option_map};
-ghost use Rattle.at_model.specs.Run.{Instance, Location};
-ghost use Rattle.at_body.specs.Values.{value_view};
-ghost use Rattle.at_store.specs.Located.{loc_view};
-ghost use Rattle.at_index.specs.declared.edge.Edge.{Edge};
+ghost use Rattle.at_cache.specs.Prelude.{Instance, Location, value_view, loc_view, Edge, AreNoted, IsIdle, Info, info, memory_of, AreKept, held_in, fresh_entry, edges_to, kept_cut};
 ghost use Rattle.at_cache.specs.declared.keeper.Order.TheVariants as orders;
-ghost use Rattle.at_index.specs.Asking.{AreNoted};
-ghost use Rattle.at_cache.specs.Flushing.{IsIdle};
-ghost use Rattle.at_cache.specs.Info.{Info, info, memory_of};
-ghost use Rattle.at_cache.specs.Kept.{AreKept};
-ghost use Rattle.at_cache.specs.Marking.{held_in};
-ghost use Rattle.at_cache.specs.Putting.{fresh_entry};
-ghost use Rattle.at_index.specs.Finding.{edges_to};
 ghost use Rattle.at_cache.specs.Renewing.{Compares, EntersHeld, IsAwaited, IsSlotFor, PutsIn, StaysAwaited};
-ghost use Rattle.at_cache.specs.Shedding.{kept_cut};
 
 use crate::again::{slot_by, slots_again};
 use crate::cut::{Cut, Loss, take_trace};

@@ -1,10 +1,7 @@
 //! What can be kept again with no evaluation.
 
 ghost use Rattle.std.specs.Prelude.{ℕ, List, true};
-ghost use Rattle.at_model.specs.Run.{Location};
-ghost use Rattle.at_index.specs.declared.edge.Edge.{Edge};
-ghost use Rattle.at_cache.specs.Info.{memory_of};
-ghost use Rattle.at_cache.specs.Putting.{AreTaken};
+ghost use Rattle.at_cache.specs.Prelude.{Location, Edge, memory_of, AreTaken};
 ghost use Rattle.at_cache.specs.Settling.{CanKeep, HasSettled, HasSettledAll, IsWhole};
 
 use crate::packing::{NUMBERS, PackedStanding};

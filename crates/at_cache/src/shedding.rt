@@ -1,8 +1,7 @@
 //! What isn't kept leaves memory.
 
 ghost use Rattle.std.specs.Prelude.{◌≤◌, OnOk, length};
-ghost use Rattle.at_cache.specs.Info.{memory_of, table_len};
-ghost use Rattle.at_cache.specs.Shedding.{LosesTraces, Sheds, ShedsAt};
+ghost use Rattle.at_cache.specs.Prelude.{memory_of, table_len, LosesTraces, Sheds, ShedsAt};
 
 use crate::cut::take_trace;
 use crate::packing::PackedStanding;

@@ -1,19 +1,10 @@
 //! What is done to entries by their slots.
 
 ghost use Rattle.std.specs.Prelude.{◌≡◌, ◌<◌, ◌+◌, ◌&&◌, ◌++◌, ◌∷◌, [], not, ℕ, Option, None, Some, IsSome, option_copied, option_map, nat_eq, if◌then◌else◌, slice_get, OnSome, OnErr, OnOk, IfNone, IfOk, IfSome, IsTrue, MatchBool, is_some, ◌≢◌, false};
-ghost use Rattle.std.specs.Map.{lookup};
-ghost use Rattle.at_model.specs.Run.{Instance};
-ghost use Rattle.at_body.specs.Same.{same_instance};
-ghost use Rattle.at_body.specs.Values.{value_view};
+ghost use Rattle.at_cache.specs.Prelude.{lookup, Instance, same_instance, value_view, edges_in, edges_of, doomed, is_fresh, Info, info, is_going, memory_of, table_len, HasMark, unmarked, Enters, is_current, reused, users_at};
 ghost use Rattle.slab.specs.Slab.{get};
 ghost use Rattle.indexmap.specs.IndexMap.{IsUnique, index_map_len};
-ghost use Rattle.at_index.specs.Edges.{edges_in};
-ghost use Rattle.at_index.specs.Rows.{edges_of};
-ghost use Rattle.at_cache.specs.Flushing.{doomed, is_fresh};
-ghost use Rattle.at_cache.specs.Info.{Info, info, is_going, memory_of, table_len};
 ghost use Rattle.at_cache.specs.Placed.{IsMoved, IsPlaced, at};
-ghost use Rattle.at_cache.specs.Marking.{HasMark, unmarked};
-ghost use Rattle.at_cache.specs.Putting.{Enters, is_current, reused, users_at};
 ghost use Rattle.at_cache.specs.Slots.{HasWritten, renewed, outdated, relinked, with_entry, with_list, with_mark, with_number, with_rest};
 
 use crate::attributes::{has_come, note_attribute};

@@ -1,7 +1,7 @@
 //! How entries stand that stay in memory also where they aren't kept.
 
 ghost use Rattle.std.specs.Prelude.{◌≡◌, ◌<◌, ◌^◌, ℕ, IsTrue, OnOk, length, slice_set, true};
-ghost use Rattle.at_cache.specs.Standings.{is_alive, standing_of};
+ghost use Rattle.at_cache.specs.Prelude.{is_alive, standing_of};
 
 use crate::packing::PackedStanding;
 use at_index::edge::Slot;

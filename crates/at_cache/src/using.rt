@@ -1,14 +1,8 @@
 //! Those that used an entry: one more.
 
 ghost use Rattle.std.specs.Prelude.{◌≡◌, ℕ, List, None, IsSome, Contains, OnOk};
-ghost use Rattle.std.specs.Map.{lookup};
-ghost use Rattle.at_model.specs.Run.{Instance};
-ghost use Rattle.at_body.specs.Same.{same_instance};
-ghost use Rattle.at_index.specs.declared.edge.Edge.{Edge};
+ghost use Rattle.at_cache.specs.Prelude.{lookup, Instance, same_instance, Edge, memory_of, AreTaken, Uses, is_current, reused, users_at, alive_in};
 ghost use Rattle.at_index.specs.Linking.{AreListed, Lists};
-ghost use Rattle.at_cache.specs.Info.{memory_of};
-ghost use Rattle.at_cache.specs.Putting.{AreTaken, Uses, is_current, reused, users_at};
-ghost use Rattle.at_cache.specs.Standings.{alive_in};
 
 use crate::cut::Cut;
 use at_index::edge::{Edge, Edges, Slot};

@@ -1,3 +1,4 @@
+pub mod Prelude
 pub mod Folding
 pub mod Refolding
 pub mod Rerunning

@@ -1,11 +1,7 @@
 //! Whether entries may be folded by a plan.
 
 ghost use Rattle.std.specs.Prelude.{◌≡◌, ◌⊎◌, ℕ, Contains, IsTrue, Some, true};
-ghost use Rattle.at_index.specs.Edges.{edges_in};
-ghost use Rattle.at_evict.specs.Folding.{AreTaken, FoldsAt, HasUser, IsBelow};
-ghost use Rattle.at_evict.specs.Refolding.{into_of, is_told};
-ghost use Rattle.at_cache.specs.Info.{Info, memory_of};
-ghost use Rattle.at_index.specs.Rows.{edges_along, edges_of};
+ghost use Rattle.at_evict.specs.Prelude.{edges_in, AreTaken, FoldsAt, HasUser, IsBelow, into_of, is_told, Info, memory_of, edges_along, edges_of};
 
 use crate::folding::{does_stay, has, slots_at};
 use crate::refolding::Refolding;

@@ -1,9 +1,8 @@
 //! Edges of drawers that tell of entries which are folded tell of those into which they are.
 
 ghost use Rattle.std.specs.Prelude.{◌≡◌, ◌<◌, ℕ, OnOk, length, slice_get};
-ghost use Rattle.at_model.specs.Run.{Location};
+ghost use Rattle.at_evict.specs.Prelude.{Location, into_of, is_told, refolds};
 ghost use Rattle.at_evict.specs.Desks.{AreDesksRefolded, IsDeskRefolded, IsNodeOfDesks};
-ghost use Rattle.at_evict.specs.Refolding.{into_of, is_told, refolds};
 ghost use Rattle.at_index.specs.Desks.{desk_edges};
 
 use crate::refolding::Refolding;

@@ -4,13 +4,9 @@
 //! passes `is_sound` is right, so that which one is made is a matter of speed alone.
 
 ghost use Rattle.std.specs.Prelude.{◌≡◌, ℕ, Contains, IfOk, IsTrue, List, OnOk, nat_eq};
-ghost use Rattle.std.specs.List.{list_any};
-ghost use Rattle.slab.specs.Slab.{get};
+ghost use Rattle.at_evict.specs.Prelude.{list_any, get, AreOrdered, AreTaken, slots_at, memory_of, IsIndexed};
 ghost use Rattle.at_index.specs.Asking.{AreNoted};
 ghost use Rattle.at_index.specs.Finding.{edges_to};
-ghost use Rattle.at_evict.specs.Folding.{AreOrdered, AreTaken, slots_at};
-ghost use Rattle.at_cache.specs.Info.{memory_of};
-ghost use Rattle.at_cache.specs.Recorded.{IsIndexed};
 ghost use Rattle.at_cache.specs.Shedding.{AreHeld, FoldsHeld};
 ghost use Rattle.at_cache.specs.Standings.{held};
 ghost use Rattle.at_cache.specs.declared.standing.Standing.{Standing};

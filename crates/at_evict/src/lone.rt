@@ -1,12 +1,7 @@
 //! Entries that a plan leaves by themselves, and lists of edges to such alone, which it leaves as they are.
 
 ghost use Rattle.std.specs.Prelude.{◌≡◌, ◌∷◌, [], ℕ, Bool, Contains, IfOk, IfSome, IsTrue, List, true};
-ghost use Rattle.at_index.specs.declared.edge.Edge.{Edge};
-ghost use Rattle.at_index.specs.Edges.{edges_in};
-ghost use Rattle.at_evict.specs.Folding.{AreAlone, AreLone, IsLone, Stays, slots_at};
-ghost use Rattle.at_cache.specs.Info.{memory_of};
-ghost use Rattle.at_cache.specs.Putting.{is_current};
-ghost use Rattle.at_index.specs.Rows.{edges_along, edges_of};
+ghost use Rattle.at_evict.specs.Prelude.{Edge, edges_in, AreAlone, AreLone, IsLone, Stays, slots_at, memory_of, is_current, edges_along, edges_of};
 
 use crate::folding::slots_at;
 use at_cache::entry::Links;

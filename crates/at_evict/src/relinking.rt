@@ -1,13 +1,7 @@
 //! Entries that stay use what those used that are folded into them, and the others go.
 
 ghost use Rattle.std.specs.Prelude.{◌≡◌, ◌<◌, ◌∷◌, [], ℕ, Bool, Contains, IfOk, IsTrue, List, OnOk, Some};
-ghost use Rattle.slab.specs.Slab.{get};
-ghost use Rattle.at_index.specs.declared.edge.Edge.{Edge};
-ghost use Rattle.at_index.specs.Edges.{edges_in};
-ghost use Rattle.at_evict.specs.Folding.{AreAlone, AreLinks, AreLone, AreOrdered, AreTaken, HasLinked, HasSame, IsRelinked, Linked, LinkedTo, Relinks, RelinksAt, Remains, RemovesAt, Stays, listed_at, slots_at};
-ghost use Rattle.at_evict.specs.Refolding.{into_of};
-ghost use Rattle.at_cache.specs.Info.{Info, memory_of};
-ghost use Rattle.at_cache.specs.Putting.{is_current};
+ghost use Rattle.at_evict.specs.Prelude.{get, Edge, edges_in, AreAlone, AreLinks, AreLone, AreOrdered, AreTaken, HasLinked, HasSame, IsRelinked, Linked, LinkedTo, Relinks, RelinksAt, Remains, RemovesAt, Stays, listed_at, slots_at, into_of, Info, memory_of, is_current};
 
 use crate::folding::{does_stay, is_near, list_at, slots_at};
 use crate::lone::{Lone, is_only};

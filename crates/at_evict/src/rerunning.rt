@@ -1,10 +1,8 @@
 //! Edges of runs that tell of entries which are folded tell of those into which they are.
 
 ghost use Rattle.std.specs.Prelude.{◌≡◌, ◌∷◌, [], List, IfOk, OnOk};
-ghost use Rattle.std.specs.List.{list_any};
+ghost use Rattle.at_evict.specs.Prelude.{list_any, into_of, is_told, refolds, memory_of};
 ghost use Rattle.at_index.specs.declared.run.Seat.{Seat};
-ghost use Rattle.at_evict.specs.Refolding.{into_of, is_told, refolds};
-ghost use Rattle.at_cache.specs.Info.{memory_of};
 ghost use Rattle.at_evict.specs.Rerunning.{AreRerun, Covers, GoNoFurther, Reaches, is_as_wide, targets_of};
 ghost use Rattle.at_index.specs.Runs.{AreSeated, edges_on};
 

@@ -1,16 +1,8 @@
 //! Edges that tell of entries which are folded tell of those into which they are.
 
 ghost use Rattle.std.specs.Prelude.{◌≡◌, ◌<◌, ◌∷◌, ◌++◌, [], ℕ, IfOk, IfSome, IsTrue, List, OnOk, Some, length, slice_get, true};
-ghost use Rattle.at_model.specs.Run.{Location};
-ghost use Rattle.at_index.specs.declared.edge.Edge.{Edge};
-ghost use Rattle.at_index.specs.Edges.{edges_in};
-ghost use Rattle.at_evict.specs.Folding.{Added, AreAlone, AreRefolded, Gathered, IsRefolded, Parted};
-ghost use Rattle.at_evict.specs.Refolding.{into_of, is_told, refolds};
-ghost use Rattle.at_cache.specs.Info.{Info, Memory, memory_of};
-ghost use Rattle.at_cache.specs.Putting.{is_current};
+ghost use Rattle.at_evict.specs.Prelude.{Location, Edge, edges_in, Added, AreAlone, AreRefolded, Gathered, IsRefolded, Parted, into_of, is_told, refolds, Info, Memory, memory_of, is_current, edge_to, edges_along, edges_of};
 ghost use Rattle.at_index.specs.Readers.{edges_at};
-ghost use Rattle.at_cache.specs.Recorded.{edge_to};
-ghost use Rattle.at_index.specs.Rows.{edges_along, edges_of};
 
 use crate::folding::slots_at;
 use crate::joining::join;

@@ -1,7 +1,7 @@
 //! Room for work where lists of edges are made anew.
 
 ghost use Rattle.std.specs.Prelude.{◌≡◌, Contains, IsTrue};
-ghost use Rattle.at_index.specs.Rows.{edges_along};
+ghost use Rattle.at_evict.specs.Prelude.{edges_along};
 
 use at_index::edge::{Edge, Slot};
 use at_index::facet::small;

@@ -1,13 +1,5 @@
 -- A facet of a node comes, with one edge.
-use Rattle.std.proofs.Common.{◌≡◌, ◌∙◌, ℕ, List, [], ◌∷◌, ◌++◌, Bool, true, false, cond, Result, Ok, Err, OnErr, OnOk, Contains, append-nil, refl, sym, ap, subst}
-use Rattle.std.proofs.lemmas.List.Elements.{Contains-append_right}
-use Rattle.at_model.specs.Run.{Location}
-use Rattle.at_index.specs.declared.edge.Edge.{Edge}
-use Rattle.at_index.specs.declared.facet.Facet.{Facet}
-use Rattle.at_index.specs.declared.facet.Readers.{Readers}
-use Rattle.at_index.specs.Edges.{edges_in}
-use Rattle.at_index.specs.Linking.{Lists, HasAdded}
-use Rattle.at_index.specs.Readers.{edges_among, stands_for}
+use Rattle.at_index.proofs.Common.{◌≡◌, ◌∙◌, ℕ, List, [], ◌∷◌, ◌++◌, Bool, true, false, cond, Result, Ok, Err, OnErr, OnOk, Contains, append-nil, refl, sym, ap, subst, Contains-append_right, Location, Edge, Facet, Readers, edges_in, Lists, HasAdded, edges_among, stands_for}
 use Rattle.at_index.proofs.Beginning.{among_more}
 use Rattle.at_index.proofs.Lists.{head_of}
 use Rattle.at_index.proofs.Listing.{keeps_itself, listed_one, lists_same}

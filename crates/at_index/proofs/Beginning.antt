@@ -1,22 +1,8 @@
 -- Which edges are asked of nodes.
-use Rattle.std.proofs.Common.{◌≡◌, ◌⊎◌, inl, inr, ℕ, ◌+◌, ◌/◌, ◌^◌, get_or, List, [], ◌∷◌, ◌++◌, Bool, true, false, true≢false, cond, Some, Contains, take, if◌then◌else◌, length, ◌<◌, ◌≤◌, refl, sym, ap, ◌∙◌, subst, append-nil, arith, eqb-true, eq-eqb}
-use Rattle.std.proofs.lemmas.Bool.{and_from, cases_lt}
-use Rattle.std.proofs.lemmas.List.{take_more}
-use Rattle.std.proofs.lemmas.List.Concat.{flat_map-append}
-use Rattle.std.proofs.lemmas.List.Elements.{Contains-append_cases, Contains-append_left, Contains-append_right}
+use Rattle.at_index.proofs.Common.{◌≡◌, ◌⊎◌, inl, inr, ℕ, ◌+◌, ◌/◌, ◌^◌, get_or, List, [], ◌∷◌, ◌++◌, Bool, true, false, true≢false, cond, Some, Contains, take, if◌then◌else◌, length, ◌<◌, ◌≤◌, refl, sym, ap, ◌∙◌, subst, append-nil, arith, eqb-true, and_from, cases_lt, take_more, flat_map-append, Contains-append_cases, Contains-append_left, Contains-append_right, Location, both, Loc, loc_view, Edge, Facet, Readers, edges_in, Asked, Answers, node_at, same_location, edges_among, has_number, number_of, stands_for}
+use Rattle.std.proofs.Common.{eq-eqb}
 use Rattle.std.specs.Bool.{MatchBool}
-use Rattle.at_model.specs.Run.{Location}
-use Rattle.at_model.proofs.Options.{both}
-use Rattle.at_store.specs.declared.node.Loc.{Loc}
-use Rattle.at_store.specs.Located.{loc_view}
-use Rattle.at_index.specs.declared.edge.Edge.{Edge}
-use Rattle.at_index.specs.declared.facet.Facet.{Facet}
 use Rattle.at_index.specs.declared.facet.Facet.TheVariants as facet
-use Rattle.at_index.specs.declared.facet.Readers.{Readers}
-use Rattle.at_index.specs.Edges.{edges_in}
-use Rattle.at_index.specs.Asking.{Asked, Answers}
-use Rattle.at_index.specs.Sameness.{node_at, same_location}
-use Rattle.at_index.specs.Readers.{edges_among, has_number, number_of, stands_for}
 use Rattle.at_index.proofs.Locations.{near_at, near_number, none_from, none_past, same_location-is, same_location-itself, same_number, stands_at}
 use Rattle.at_index.proofs.Lists.{none_in}
 

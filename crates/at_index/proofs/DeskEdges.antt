@@ -1,35 +1,11 @@
 -- Desks: the edges that they have of a location, and one edge more.
-use Rattle.std.proofs.Common.{◌≡◌, inl, inr, ℕ, ◌+◌, ◌<◌, List, [], ◌∷◌, ◌++◌, Bool, true, false, cond, Option, None, Some, IfSome, Bor, Contains, nat_eq, length, slice_get, get_or, swap_remove, take, IsPermutation, if◌then◌else◌, append-nil, refl, sym, ap, ◌∙◌, subst, eqb-true}
+use Rattle.at_index.proofs.Common.{◌≡◌, inl, inr, ℕ, ◌+◌, ◌<◌, List, [], ◌∷◌, ◌++◌, Bool, true, false, cond, Option, None, Some, IfSome, Bor, Contains, nat_eq, length, slice_get, get_or, swap_remove, take, IsPermutation, if◌then◌else◌, append-nil, refl, sym, ap, ◌∙◌, subst, eqb-true, cases_eq, ne_eqb, flat_map-append, Contains-append_cases, Contains-append_left, Contains-append_right, Contains-permutation, IsPermutation-swap_remove, IsPermutation-sym, none-some, same_Some, slice_get_within, get_or_from_slice_get, Contains-cons, Contains-cons_cases, SmallVec, Location, Is, Tok, Slot, Up, Idx, Drawer, both, ghosts, Edge, Edges, Facet, Readers, Row, Run, Seat, desk_edges, drawer_at, edges_in_desks, edges_in, Keeps, Lists, Reads, edges_among, edges_at, stands_for, edges_along, edges_of, ListsBut, edges_on, edges_over, is_seen, node_at, same_location}
 use Rattle.std.specs.Map.{lookup, set_value}
 use Rattle.std.specs.Option.{option_copied}
-use Rattle.std.proofs.lemmas.Bool.{cases_eq, ne_eqb}
-use Rattle.std.proofs.lemmas.List.Concat.{flat_map-append}
-use Rattle.std.proofs.lemmas.List.Elements.{Contains-append_cases, Contains-append_left, Contains-append_right}
-use Rattle.std.proofs.lemmas.List.Sorted.{Contains-permutation, IsPermutation-swap_remove, IsPermutation-sym}
-use Rattle.std.proofs.lemmas.Option.{none-some, same_Some, slice_get_within, get_or_from_slice_get}
-use Rattle.slab.proofs.SlabLemmas.{Contains-cons, Contains-cons_cases}
-use Rattle.smallvec.specs.SmallVec.{SmallVec}
 use Rattle.at_model.specs.Drawers as model
-use Rattle.at_model.specs.Run.{Location, Is, Tok, Slot, Up, Idx, Drawer}
-use Rattle.at_model.proofs.Options.{both}
-use Rattle.at_index.specs.contracts.desk.SpotPartialEq.TheImpl.{ghosts}
 use Rattle.at_index.specs.declared.desk.Desks.{Desks}
 use Rattle.at_index.specs.declared.desk.Spot.{Spot}
-use Rattle.at_index.specs.declared.edge.Edge.{Edge}
-use Rattle.at_index.specs.declared.edge.Edges.{Edges}
-use Rattle.at_index.specs.declared.facet.Facet.{Facet}
 use Rattle.at_index.specs.declared.facet.Facet.TheVariants as facet
-use Rattle.at_index.specs.declared.facet.Readers.{Readers}
-use Rattle.at_index.specs.declared.row.Row.{Row}
-use Rattle.at_index.specs.declared.run.Run.{Run}
-use Rattle.at_index.specs.declared.run.Seat.{Seat}
-use Rattle.at_index.specs.Desks.{desk_edges, drawer_at, edges_in_desks}
-use Rattle.at_index.specs.Edges.{edges_in}
-use Rattle.at_index.specs.Linking.{Keeps, Lists, Reads}
-use Rattle.at_index.specs.Readers.{edges_among, edges_at, stands_for}
-use Rattle.at_index.specs.Rows.{edges_along, edges_of}
-use Rattle.at_index.specs.Runs.{ListsBut, edges_on, edges_over, is_seen}
-use Rattle.at_index.specs.Sameness.{node_at, same_location}
 use Rattle.at_index.proofs.Gained.{lists_before, lists_behind, lists_if}
 use Rattle.at_index.proofs.Listing.{keeps_itself, listed_one, lists_same, reads_on, reads_unchanged}
 use Rattle.at_index.proofs.Lists.{head_of, none_in}

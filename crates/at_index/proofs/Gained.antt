@@ -1,18 +1,5 @@
 -- One location has one edge more.
-use Rattle.std.proofs.Common.{◌≡◌, inl, inr, ℕ, zero, suc, List, [], ◌∷◌, ◌++◌, Bool, true, false, cond, Some, Result, OnOk, Contains, get_or, slice_get, slice_set, refl, sym, ap, ◌∙◌, subst}
-use Rattle.std.proofs.lemmas.Bool.{cases_eq}
-use Rattle.std.proofs.lemmas.Option.{none-some, same_Some, get_or_from_slice_get}
-use Rattle.std.proofs.lemmas.List.Elements.{Contains-append_cases, Contains-append_left, Contains-append_right}
-use Rattle.smallvec.specs.SmallVec.{SmallVec}
-use Rattle.at_model.specs.Run.{Location}
-use Rattle.at_index.specs.declared.edge.Edge.{Edge}
-use Rattle.at_index.specs.declared.edge.Edges.{Edges}
-use Rattle.at_index.specs.declared.facet.Facet.{Facet}
-use Rattle.at_index.specs.declared.facet.Readers.{Readers}
-use Rattle.at_index.specs.Edges.{edges_in}
-use Rattle.at_index.specs.Sameness.{node_at}
-use Rattle.at_index.specs.Linking.{HasChanged, ListsAt, with_edges, Lists}
-use Rattle.at_index.specs.Readers.{edges_among, edges_at, stands_for}
+use Rattle.at_index.proofs.Common.{◌≡◌, inl, inr, ℕ, zero, suc, List, [], ◌∷◌, ◌++◌, Bool, true, false, cond, Some, Result, OnOk, Contains, get_or, slice_get, slice_set, refl, sym, ap, ◌∙◌, subst, cases_eq, none-some, same_Some, get_or_from_slice_get, Contains-append_cases, Contains-append_left, Contains-append_right, SmallVec, Location, Edge, Edges, Facet, Readers, edges_in, node_at, HasChanged, ListsAt, with_edges, Lists, edges_among, edges_at, stands_for}
 use Rattle.at_index.proofs.Beginning.{edges_of}
 use Rattle.at_index.proofs.Listed.{edges_are, same_list}
 use Rattle.at_index.proofs.Listing.{lists_same}

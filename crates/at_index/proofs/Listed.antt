@@ -1,11 +1,5 @@
 -- The edges of a location, among those of all.
-use Rattle.std.proofs.Common.{◌≡◌, ℕ, List, [], Option, None, Some, slice_get, ap}
-use Rattle.smallvec.specs.SmallVec.{SmallVec}
-use Rattle.at_model.specs.Run.{Location}
-use Rattle.at_index.specs.declared.edge.Edge.{Edge}
-use Rattle.at_index.specs.declared.facet.Readers.{Readers}
-use Rattle.at_index.specs.Sameness.{node_at}
-use Rattle.at_index.specs.Readers.{edges_among, edges_at}
+use Rattle.at_index.proofs.Common.{◌≡◌, ℕ, List, [], Option, None, Some, slice_get, ap, SmallVec, Location, Edge, Readers, node_at, edges_among, edges_at}
 
 pub edges_are : (xs : List (SmallVec Readers)) (l : Location ℕ) (v : SmallVec Readers) → slice_get xs (node_at l) ≡ Some v → edges_at xs l ≡ edges_among (node_at l) v.items l
 edges_are xs l v h = ap (λ (o : Option (SmallVec Readers)). elim o as (λ _. List Edge) [ None ↦ [] | Some w ↦ edges_among (node_at l) w.items l ]) h

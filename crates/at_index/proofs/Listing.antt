@@ -1,13 +1,6 @@
 -- Lists of edges that lose those that tell of no entry, and gain one.
-use Rattle.std.proofs.Common.{◌≡◌, ◌⊎◌, inl, inr, ℕ, List, [], ◌∷◌, ◌++◌, Bool, true, false, Contains, refl, sym, subst, zero, suc, take, eqb-true, eq-eqb}
-use Rattle.std.specs.List.{list_any}
-use Rattle.std.proofs.lemmas.Bool.{and_from}
-use Rattle.std.proofs.lemmas.List.Elements.{Contains-append_left, Contains-push, Contains-push_cases}
-use Rattle.slab.proofs.SlabLemmas.{Contains-cons, Contains-cons_cases}
-use Rattle.at_model.proofs.Options.{both}
-use Rattle.at_index.specs.declared.edge.Edge.{Edge}
-use Rattle.at_index.specs.Edges.{same_edge}
-use Rattle.at_index.specs.Linking.{AreListed, Keeps, Lists, Reads}
+use Rattle.at_index.proofs.Common.{◌≡◌, ◌⊎◌, inl, inr, ℕ, List, [], ◌∷◌, ◌++◌, Bool, true, false, Contains, refl, sym, subst, zero, suc, take, eqb-true, list_any, and_from, Contains-append_left, Contains-push, Contains-push_cases, Contains-cons, Contains-cons_cases, both, Edge, same_edge, AreListed, Keeps, Lists, Reads}
+use Rattle.std.proofs.Common.{eq-eqb}
 use Rattle.at_index.proofs.Lists.{any_of, head_of, none_in, some_of}
 
 pub has : (xs : List Edge) (x : Edge) → Contains xs x → list_any (same_edge x) xs ≡ true

@@ -1,9 +1,5 @@
 -- Lists by places, by what they contain, and by tests.
-use Rattle.std.proofs.Common.{◌≡◌, ℕ, zero, suc, ◌⊎◌, inl, inr, List, [], ◌∷◌, ◌++◌, length, slice_get, Some, Contains, refl, ap, Bool, true, false, ◌||◌, get_or, nat_lt, ◌<◌, None, sym, ◌∙◌, arith}
-use Rattle.std.specs.List.{list_any}
-use Rattle.std.proofs.lemmas.Bool.{ltb-false, ltb-true, or_cases, or_left, or_right}
-use Rattle.std.proofs.lemmas.Option.{none-some, same_Some, slice_get_within, get_or_from_slice_get, slice_get_past}
-use Rattle.slab.proofs.SlabLemmas.{Contains-cons, Contains-cons_cases}
+use Rattle.at_index.proofs.Common.{◌≡◌, ℕ, zero, suc, ◌⊎◌, inl, inr, List, [], ◌∷◌, ◌++◌, length, slice_get, Some, Contains, refl, ap, Bool, true, false, ◌||◌, get_or, nat_lt, ◌<◌, None, sym, ◌∙◌, arith, list_any, ltb-false, ltb-true, or_cases, or_left, or_right, none-some, same_Some, slice_get_within, get_or_from_slice_get, slice_get_past, Contains-cons, Contains-cons_cases}
 
 module _ {A : Type 0} where
   pub get_left : (xs ys : List A) (k : ℕ) (x : A) → slice_get xs k ≡ Some x → slice_get (xs ++ ys) k ≡ Some x

@@ -1,23 +1,11 @@
 -- The test of locations is equality; what a facet stands for.
-use Rattle.std.proofs.Common.{◌≡◌, inl, inr, ℕ, zero, suc, ◌+◌, ◌*◌, ◌/◌, ◌%◌, ◌^◌, ◌<◌, ◌≤◌, max, List, ◌∷◌, Bool, true, false, true≢false, not, ◌&&◌, ◌||◌, Option, None, Some, Contains, map, nat_eq, if◌then◌else◌, bit_or, refl, sym, ap, ◌∙◌, subst, arith}
+use Rattle.at_index.proofs.Common.{◌≡◌, inl, inr, ℕ, zero, suc, ◌+◌, ◌*◌, ◌/◌, ◌%◌, ◌^◌, ◌<◌, ◌≤◌, max, List, ◌∷◌, Bool, true, false, true≢false, not, ◌&&◌, ◌||◌, Option, None, Some, Contains, map, nat_eq, if◌then◌else◌, bit_or, refl, sym, ap, ◌∙◌, subst, arith, and_from, cases_eq, eq-eqb, ne_eqb, or_cases, or_left, or_right, div-add-mod', mod-lt, bit_at-lt, bit_at_above, bit_at-pow_other, bit_at-pow_same, bit_at_or, none-some, same_Some, Contains-cons, Contains-cons_cases, Location, Is, Tok, Slot, Up, Idx, Drawer, both, Loc, loc_view, is_index, Facet, form_of, marks_at, node_at, part_at, same_location, IsFirst, has_number, is_near, is_of_index, number_of, stands_for}
 use Rattle.std.specs.Int.{bit_at}
-use Rattle.std.proofs.lemmas.Bool.{and_from, cases_eq, eqb-true, eq-eqb, ne_eqb, or_cases, or_left, or_right}
-use native.Mathlib.Nat.{div-add-mod', mod-lt}
+use Rattle.std.proofs.lemmas.Bool.{eqb-true}
 use Rattle.std.proofs.Math.Pow.{pow_pos}
 use Rattle.std.proofs.lemmas.Nat.{one_shl}
-use Rattle.std.proofs.lemmas.Nat.Bits.{bit_at-lt, bit_at_above, bit_at-pow_other, bit_at-pow_same, bit_at_or}
-use Rattle.std.proofs.lemmas.Option.{none-some, same_Some}
 use Rattle.std.proofs.lemmas.Slice.Eq.{bytes_eq-Decides}
-use Rattle.slab.proofs.SlabLemmas.{Contains-cons, Contains-cons_cases}
-use Rattle.at_model.specs.Run.{Location, Is, Tok, Slot, Up, Idx, Drawer}
-use Rattle.at_model.proofs.Options.{both}
-use Rattle.at_store.specs.declared.node.Loc.{Loc}
-use Rattle.at_store.specs.Located.{loc_view}
-use Rattle.at_index.specs.Asking.{is_index}
-use Rattle.at_index.specs.declared.facet.Facet.{Facet}
 use Rattle.at_index.specs.declared.facet.Facet.TheVariants as facet
-use Rattle.at_index.specs.Sameness.{form_of, marks_at, node_at, part_at, same_location}
-use Rattle.at_index.specs.Readers.{IsFirst, has_number, is_near, is_of_index, number_of, stands_for}
 use Rattle.at_index.proofs.Lists.{head_of}
 
 -- the drawer with that key and mark

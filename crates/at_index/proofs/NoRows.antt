@@ -1,10 +1,5 @@
 -- Rows without an edge.
-use Rattle.std.proofs.Common.{◌≡◌, ◌<◌, ◌≤◌, ◌+◌, ◌-◌, ℕ, zero, suc, true, false, List, [], ◌∷◌, ◌++◌, nat_eq, length, get_or, take, arith, refl, sym, ap, ◌∙◌, eqb-true, take_all}
-use Rattle.std.proofs.lemmas.Bool.{eq-eqb, ne_eqb}
-use Rattle.std.proofs.lemmas.List.{take_more}
-use Rattle.at_index.specs.declared.edge.Edge.{Edge}
-use Rattle.at_index.specs.declared.row.Row.{Row}
-use Rattle.at_index.specs.Rows.{edges_along, edges_of}
+use Rattle.at_index.proofs.Common.{◌≡◌, ◌<◌, ◌≤◌, ◌+◌, ◌-◌, ℕ, zero, suc, true, false, List, [], ◌∷◌, ◌++◌, nat_eq, length, get_or, take, arith, refl, sym, ap, ◌∙◌, eqb-true, take_all, eq-eqb, ne_eqb, take_more, Edge, Row, edges_along, edges_of}
 use Rattle.at_index.proofs.RowLists.{along_end}
 
 none_left : (xs : List Edge) → nat_eq (length xs) 0 ≡ true → xs ≡ []

@@ -1,19 +1,6 @@
 -- The nodes of which an entry read the index.
-use Rattle.std.proofs.Common.{◌≡◌, inl, inr, ℕ, ◌<◌, List, [], ◌∷◌, Bool, true, false, true≢false, Some, Contains, IsTrue, not, cond, nat_eq, length, get_or, slice_get, refl, sym, ap, ◌∙◌, subst}
-use Rattle.std.specs.List.{list_any}
-use Rattle.std.proofs.lemmas.List.Elements.{Contains-append_left, Contains-append_right}
-use Rattle.slab.proofs.SlabLemmas.{Contains-cons_cases}
-use Rattle.smallvec.specs.SmallVec.{SmallVec}
-use Rattle.at_model.specs.Run.{Location, Idx}
-use Rattle.at_store.specs.declared.node.Loc.{Loc}
+use Rattle.at_index.proofs.Common.{◌≡◌, inl, inr, ℕ, ◌<◌, List, [], ◌∷◌, Bool, true, false, true≢false, Some, Contains, IsTrue, not, cond, nat_eq, length, get_or, slice_get, refl, sym, ap, ◌∙◌, subst, list_any, Contains-append_left, Contains-append_right, Contains-cons_cases, SmallVec, Location, Idx, Loc, loc_view, Edge, Readers, edges_in, is_listed, AreNoted, node_at, edges_among, edges_at, is_of_index, stands_for}
 use Rattle.at_store.specs.declared.node.Loc.TheVariants as loc
-use Rattle.at_store.specs.Located.{loc_view}
-use Rattle.at_index.specs.declared.edge.Edge.{Edge}
-use Rattle.at_index.specs.declared.facet.Readers.{Readers}
-use Rattle.at_index.specs.Edges.{edges_in, is_listed}
-use Rattle.at_index.specs.Asking.{AreNoted}
-use Rattle.at_index.specs.Sameness.{node_at}
-use Rattle.at_index.specs.Readers.{edges_among, edges_at, is_of_index, stands_for}
 use Rattle.at_index.proofs.Beginning.{edges_of}
 use Rattle.at_index.proofs.Lists.{head_of, none_in}
 use Rattle.at_index.proofs.Listed.{edges_are}

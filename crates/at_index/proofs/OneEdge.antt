@@ -1,7 +1,5 @@
 -- Lists of one edge, and of two.
-use Rattle.std.proofs.Common.{◌≡◌, List, [], ◌∷◌, true, Contains, arith, eqb-true, length, nat_eq, refl, sym, subst, Bool}
-use Rattle.at_index.specs.declared.edge.Edge.{Edge}
-use Rattle.at_index.specs.Linking.{Lists}
+use Rattle.at_index.proofs.Common.{◌≡◌, List, [], ◌∷◌, true, Contains, arith, eqb-true, length, nat_eq, refl, sym, subst, Bool, Edge, Lists}
 use Rattle.at_index.proofs.Listing.{keeps_itself, listed_one}
 
 pub lists_first : (tells : Edge → Bool) (x : Edge) → Lists tells x [] (x ∷ [])

@@ -1,10 +1,5 @@
 -- An edge comes in place of a row whose edges tell of no entry.
-use Rattle.std.proofs.Common.{◌≡◌, ◌<◌, ℕ, zero, suc, List, [], ◌∷◌, Contains, Some, length, slice_get, slice_set, sym, ap, ◌∙◌, subst, Bool}
-use Rattle.std.proofs.lemmas.Option.{none-some, same_Some, slice_get_within}
-use Rattle.at_index.specs.declared.edge.Edge.{Edge}
-use Rattle.at_index.specs.declared.row.Row.{Row}
-use Rattle.at_index.specs.Linking.{Keeps, Lists}
-use Rattle.at_index.specs.Rows.{edges_along, edges_of}
+use Rattle.at_index.proofs.Common.{◌≡◌, ◌<◌, ℕ, zero, suc, List, [], ◌∷◌, Contains, Some, length, slice_get, slice_set, sym, ap, ◌∙◌, subst, Bool, none-some, same_Some, slice_get_within, Edge, Row, Keeps, Lists, edges_along, edges_of}
 use Rattle.at_index.proofs.Lists.{head_of}
 use Rattle.at_index.proofs.Gained.{get_same, lists_before, lists_behind}
 use Rattle.at_index.proofs.Listing.{listed_one}

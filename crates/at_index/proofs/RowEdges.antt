@@ -1,10 +1,6 @@
 -- The edges of a row, from its front and to its end.
-use Rattle.std.proofs.Common.{◌≡◌, inl, inr, ℕ, zero, suc, ◌+◌, ◌-◌, ◌*◌, ◌%◌, ◌^◌, ◌<◌, [], ◌∷◌, ◌++◌, length, Contains, arith, refl, sym, ap, ◌∙◌, subst, add-zero, add-suc, add_assoc, mod-eq_of_lt}
-use Rattle.std.proofs.lemmas.Bool.{cases_lt}
-use Rattle.std.proofs.lemmas.List.Elements.{Contains-append_left, Contains-push}
-use native.Mathlib.Nat.{zero-mul, one-mul, suc-mul, add_comm, mod-add-mod, suc-add, zero-add}
-use Rattle.at_index.specs.declared.edge.Edge.{Edge}
-use Rattle.at_index.specs.Rows.{edge_at, edges_from}
+use Rattle.at_index.proofs.Common.{◌≡◌, inl, inr, ℕ, zero, suc, ◌+◌, ◌-◌, ◌*◌, ◌%◌, ◌^◌, ◌<◌, [], ◌∷◌, ◌++◌, length, Contains, arith, refl, sym, ap, ◌∙◌, subst, add-zero, add-suc, add_assoc, mod-eq_of_lt, cases_lt, Contains-append_left, Contains-push, zero-mul, one-mul, suc-mul, add_comm, mod-add-mod, suc-add, zero-add, Edge, edge_at}
+use Rattle.at_index.specs.Rows.{edges_from}
 
 same_number : (n k s b : ℕ) → n < b → k ≡ n → (n + 0 * s) % b ≡ k
 same_number n k s b less is = ap (λ m. (n + m) % b) (zero-mul s) ∙ ap (λ m. m % b) (add-zero n) ∙ mod-eq_of_lt less ∙ sym is

@@ -1,15 +1,6 @@
 -- Lists of rows lose edges that tell of no entry, and gain one.
-use Rattle.std.proofs.Common.{◌≡◌, inl, inr, ℕ, zero, suc, ◌<◌, List, [], ◌∷◌, ◌++◌, nat_eq, true, false, Contains, Some, length, get_or, slice_get, slice_set, take, ◌+◌, swap_remove, IsPermutation, refl, sym, ap, ◌∙◌, subst, append-nil, append_assoc, arith, eqb-true, Bool}
-use Rattle.std.specs.List.{flat_map}
+use Rattle.at_index.proofs.Common.{◌≡◌, inl, inr, ℕ, zero, suc, ◌<◌, List, [], ◌∷◌, ◌++◌, nat_eq, true, false, Contains, Some, length, get_or, slice_get, slice_set, take, ◌+◌, swap_remove, IsPermutation, refl, sym, ap, ◌∙◌, subst, append-nil, append_assoc, arith, eqb-true, Bool, flat_map, get_or_default, take_more, Contains-append_cases, Contains-append_left, Contains-append_right, Contains-push, Contains-permutation, IsPermutation-swap_remove, IsPermutation-sym, Contains-cons, Contains-cons_cases, Edge, Row, Keeps, Lists, edges_along, edges_of}
 use Rattle.std.proofs.lemmas.Grind.{flat_map-append}
-use Rattle.std.proofs.lemmas.List.{get_or_default, take_more}
-use Rattle.std.proofs.lemmas.List.Elements.{Contains-append_cases, Contains-append_left, Contains-append_right, Contains-push}
-use Rattle.std.proofs.lemmas.List.Sorted.{Contains-permutation, IsPermutation-swap_remove, IsPermutation-sym}
-use Rattle.slab.proofs.SlabLemmas.{Contains-cons, Contains-cons_cases}
-use Rattle.at_index.specs.declared.edge.Edge.{Edge}
-use Rattle.at_index.specs.declared.row.Row.{Row}
-use Rattle.at_index.specs.Linking.{Keeps, Lists}
-use Rattle.at_index.specs.Rows.{edges_along, edges_of}
 use Rattle.at_index.proofs.Lists.{head_of, get_contains, none_in}
 use Rattle.at_index.proofs.Listing.{listed_one}
 

@@ -1,8 +1,6 @@
 -- Rows that are compared one by one.
-use Rattle.std.proofs.Common.{◌≡◌, ◌<◌, ◌≤◌, ◌+◌, ℕ, List, Bool, true, false, not, length, take, get_or, refl, sym, ◌∙◌, subst, take_all}
-use Rattle.std.proofs.lemmas.Bool.{and_parts, eqb-true}
-use Rattle.std.proofs.lemmas.List.{take_more_same}
-use Rattle.at_index.specs.declared.row.Row.{Row}
+use Rattle.at_index.proofs.Common.{◌≡◌, ◌<◌, ◌≤◌, ◌+◌, ℕ, List, Bool, true, false, not, length, take, get_or, refl, sym, ◌∙◌, subst, take_all, and_parts, take_more_same, Row}
+use Rattle.std.proofs.lemmas.Bool.{eqb-true}
 use Rattle.at_index.specs.contracts.row.RowPartialEq.TheImpl.{ghosts}
 
 pub row_same : (r s : Row) → ghosts.eq r s ≡ true → r ≡ s

@@ -1,3 +1,4 @@
+pub mod Prelude
 pub mod Sameness
 pub mod Rows
 pub mod Edges

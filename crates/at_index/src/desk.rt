@@ -2,17 +2,9 @@
 
 ghost use Rattle.std.specs.Prelude.{◌≡◌, ◌<◌, ◌∷◌, ℕ, [], None, Some, Bool, Contains, IfNone, IfSome, IsTrue, OnOk, length, nat_eq, slice_get};
 ghost use Rattle.std.specs.Map.{lookup};
-ghost use Rattle.at_model.specs.Run.{Location};
-ghost use Rattle.at_store.specs.Located.{loc_view};
+ghost use Rattle.at_index.specs.Prelude.{Location, loc_view, edges_in, Keeps, Reads, edges_along, edges_of, Stays, node_at, Edge, Edges};
 ghost use Rattle.at_index.specs.Desks.{desk_edges, drawer_at, edges_in_desks, same_spot};
-ghost use Rattle.at_index.specs.Edges.{edges_in};
-ghost use Rattle.at_index.specs.Linking.{Keeps, Reads};
-ghost use Rattle.at_index.specs.Rows.{edges_along, edges_of};
-ghost use Rattle.at_index.specs.Runs.{Stays};
-ghost use Rattle.at_index.specs.Sameness.{node_at};
 ghost use Rattle.at_index.specs.declared.desk.Spot.{Spot};
-ghost use Rattle.at_index.specs.declared.edge.Edge.{Edge};
-ghost use Rattle.at_index.specs.declared.edge.Edges.{Edges};
 
 use crate::edge::{Edge, Edges};
 use crate::linking::add_edge;

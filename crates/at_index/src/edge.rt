@@ -1,8 +1,7 @@
 //! Edges of the index.
 
 ghost use Rattle.std.specs.Prelude.{◌≡◌, ◌∷◌, [], IfOk, IfSome, IsTrue, length, nat_eq};
-ghost use Rattle.at_index.specs.Edges.{edges_in, same_edge};
-ghost use Rattle.at_index.specs.Rows.{edges_along, edges_of};
+ghost use Rattle.at_index.specs.Prelude.{edges_in, same_edge, edges_along, edges_of};
 
 use crate::row::Row;
 use smallvec::SmallVec;

@@ -1,12 +1,8 @@
 //! What is looked at of nodes, and by which entries.
 
 ghost use Rattle.std.specs.Prelude.{◌≡◌, ◌||◌, ℕ, IfOk, IfSome, MatchBool, Some, true, false};
-ghost use Rattle.at_model.specs.Run.{Location, Slot, Tok};
-ghost use Rattle.at_store.specs.Located.{loc_view};
+ghost use Rattle.at_index.specs.Prelude.{Location, Slot, Tok, loc_view, Answers, node_at, same_location, is_of_index, number_of, stands_for};
 ghost use Rattle.at_index.specs.declared.facet.Facet.TheVariants as facet;
-ghost use Rattle.at_index.specs.Asking.{Answers};
-ghost use Rattle.at_index.specs.Sameness.{node_at, same_location};
-ghost use Rattle.at_index.specs.Readers.{is_of_index, number_of, stands_for};
 
 use crate::edge::Edges;
 use at_store::{Loc, Node};

@@ -1,9 +1,7 @@
 //! Which facet stands for those at the front of locations.
 
 ghost use Rattle.std.specs.Prelude.{◌∷◌, IfOk, map};
-ghost use Rattle.at_store.specs.Located.{loc_view};
-ghost use Rattle.at_index.specs.Sameness.{node_at};
-ghost use Rattle.at_index.specs.Readers.{IsFirst};
+ghost use Rattle.at_index.specs.Prelude.{loc_view, node_at, IsFirst};
 
 use crate::facet::Facet;
 use at_store::Loc;

@@ -2,18 +2,9 @@
 //! that gains one loses some of those.
 
 ghost use Rattle.std.specs.Prelude.{◌≡◌, ◌<◌, ◌≤◌, ◌^◌, ◌∷◌, ◌++◌, [], ℕ, Option, None, Some, Contains, IfOk, IfSome, IsTrue, MatchBool, OnErr, OnOk, length, map, slice_get, slice_set, true, false, Bool};
-ghost use Rattle.at_model.specs.Run.{Location};
-ghost use Rattle.at_store.specs.Located.{loc_view};
-ghost use Rattle.at_index.specs.declared.edge.Edge.{Edge};
-ghost use Rattle.at_index.specs.declared.edge.Edges.{Edges};
+ghost use Rattle.at_index.specs.Prelude.{Location, loc_view, Edge, Edges, AreNoted, edges_in, edges_along, edges_of, AreListed, Keeps, Lists, Reads, HasAdded, HasChanged, ListsAt, with_edges, edges_among, edges_at, stands_for, ListsBut, Stays};
 ghost use Rattle.at_index.specs.declared.facet.Readers.{Readers};
-ghost use Rattle.at_index.specs.Asking.{AreNoted};
-ghost use Rattle.at_index.specs.Edges.{edges_in};
-ghost use Rattle.at_index.specs.Rows.{edges_along, edges_of};
-ghost use Rattle.at_index.specs.Linking.{AreListed, Keeps, Lists, Reads, HasAdded, HasChanged, ListsAt, with_edges};
-ghost use Rattle.at_index.specs.Readers.{edges_among, edges_at, stands_for};
 ghost use Rattle.at_index.specs.Finding.{edges_to, own_edges};
-ghost use Rattle.at_index.specs.Runs.{ListsBut, Stays};
 
 use crate::desk::{AllDesks, Spot};
 use crate::edge::{Edge, Edges, Many};

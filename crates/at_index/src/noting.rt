@@ -2,12 +2,7 @@
 
 ghost use Rattle.std.specs.Prelude.{◌≡◌, ℕ, IsTrue, OnOk, Contains, nat_eq, true};
 ghost use Rattle.std.specs.List.{list_any};
-ghost use Rattle.at_model.specs.Run.{Idx};
-ghost use Rattle.at_store.specs.Located.{loc_view};
-ghost use Rattle.at_index.specs.declared.edge.Edge.{Edge};
-ghost use Rattle.at_index.specs.Asking.{AreNoted};
-ghost use Rattle.at_index.specs.Edges.{edges_in};
-ghost use Rattle.at_index.specs.Readers.{edges_among, edges_at, is_of_index};
+ghost use Rattle.at_index.specs.Prelude.{Idx, loc_view, Edge, AreNoted, edges_in, edges_among, edges_at, is_of_index};
 
 use crate::facet::{Facets, Readers};
 use at_store::{Loc, Node};

@@ -2,8 +2,7 @@
 
 ghost use Rattle.std.specs.Prelude.{◌≡◌, ◌+◌, ◌*◌, ◌++◌, ◌∷◌, ◌<◌, [], Contains, IfSome, IsTrue, MatchOption, length, nat_eq};
 ghost use Rattle.at_index.specs.declared.edge.Edges.TheVariants as edges;
-ghost use Rattle.at_index.specs.Edges.{edges_in};
-ghost use Rattle.at_index.specs.Rows.{edge_at, edges_from, edges_of, first_of};
+ghost use Rattle.at_index.specs.Prelude.{edges_in, edge_at, edges_from, edges_of, first_of};
 
 use crate::edge::{Edge, Slot};
 

@@ -1,7 +1,7 @@
 //! Runs: nodes that were looked at one after the other, as a fold over a list looks at its elements.
 
 ghost use Rattle.std.specs.Prelude.{◌≡◌, ◌≤◌, ◌^◌, [], length};
-ghost use Rattle.at_index.specs.Runs.{AreSeated, lies};
+ghost use Rattle.at_index.specs.Prelude.{AreSeated, lies};
 
 use crate::desk::AllDesks;
 use crate::edge::Edge;

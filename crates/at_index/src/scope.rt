@@ -1,9 +1,7 @@
 //! Which facets of a node are looked at.
 
 ghost use Rattle.std.specs.Prelude.{◌≡◌, ℕ, true};
-ghost use Rattle.at_model.specs.Run.{Location};
-ghost use Rattle.at_index.specs.Asking.{looks_at};
-ghost use Rattle.at_index.specs.Readers.{stands_for};
+ghost use Rattle.at_index.specs.Prelude.{Location, looks_at, stands_for};
 
 use crate::facet::Facet;
 

@@ -1,11 +1,8 @@
 //! Who sits where in runs.
 
 ghost use Rattle.std.specs.Prelude.{◌≡◌, ◌<◌, ◌≤◌, ◌+◌, ◌^◌, ℕ, List, [], false, Some, IfNone, IfOk, IfSome, IsTrue, OnOk, length, nat_eq, slice_get, Bool};
-ghost use Rattle.at_model.specs.Run.{Location};
-ghost use Rattle.at_index.specs.declared.edge.Edge.{Edge};
+ghost use Rattle.at_index.specs.Prelude.{Location, Edge, Seat, AreApart, AreGiven, ArePast, AreSeated, HoldsReach, IsFree, KeepsRuns, Lose, count_of, edges_on, edges_over};
 ghost use Rattle.at_index.specs.declared.run.Run.{Run};
-ghost use Rattle.at_index.specs.declared.run.Seat.{Seat};
-ghost use Rattle.at_index.specs.Runs.{AreApart, AreGiven, ArePast, AreSeated, HoldsReach, IsFree, KeepsRuns, Lose, count_of, edges_on, edges_over};
 
 use crate::facet::{Facet, small};
 use crate::facets::first_facet;

@@ -1,9 +1,7 @@
 //! One edge for locations that are looked at as they were before.
 
 ghost use Rattle.std.specs.Prelude.{◌≡◌, ◌≤◌, ◌<◌, ◌^◌, ℕ, false, true, Some, Contains, IfOk, IsTrue, OnOk, length, map};
-ghost use Rattle.at_store.specs.Located.{loc_view};
-ghost use Rattle.at_index.specs.declared.run.Seat.{Seat};
-ghost use Rattle.at_index.specs.Runs.{Adds, AddsReads, AreApart, ArePast, AreSeated, Follows, Gains, HoldsReach, ListsBut, Lose, SitsAt, count_of, edges_on, edges_over, is_within};
+ghost use Rattle.at_index.specs.Prelude.{loc_view, Seat, Adds, AddsReads, AreApart, ArePast, AreSeated, Follows, Gains, HoldsReach, ListsBut, Lose, SitsAt, count_of, edges_on, edges_over, is_within};
 
 use crate::facet::Facet;
 use crate::facets::first_facet;

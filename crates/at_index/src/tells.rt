@@ -1,8 +1,7 @@
 //! Of which entries edges tell, and what an edge is added with.
 
 ghost use Rattle.std.specs.Prelude.{◌≡◌, Bool};
-ghost use Rattle.at_index.specs.Runs.{is_live};
-ghost use Rattle.at_index.specs.declared.edge.Edge.{Edge};
+ghost use Rattle.at_index.specs.Prelude.{is_live, Edge};
 
 use crate::edge::Edge;
 use std::alloc::Global;

@@ -1,19 +1,6 @@
 -- One entry more is kept: what was kept is kept, and what it rests on is found.
-use Rattle.std.proofs.Common.{◌≡◌, ◌⊎◌, inl, inr, ◌<◌, ◌+◌, ℕ, zero, suc, List, Bool, true, false, ◌&&◌, ◌||◌, Option, Some, None, nat_eq, nat_lt, if◌then◌else◌, Contains, refl, sym, ap, ◌∙◌, subst, arith, true≢false}
-use Rattle.std.specs.List.{list_any}
-use Rattle.std.specs.Option.{option_and_then}
-use Rattle.std.proofs.lemmas.Bool.{cases_eq, eq-eqb, lt-ltb, ltb-true, and_from}
-use Rattle.std.proofs.lemmas.Option.{none-some, same_Some}
-use Rattle.at_model.specs.Run.{Location}
-use Rattle.at_index.specs.declared.edge.Edge.{Edge}
-use Rattle.at_cache.specs.declared.standing.Standing.{Standing}
-use Rattle.at_cache.specs.Info.{Info, Memory}
-use Rattle.at_cache.specs.Recorded.{IsIndexed, covers, edge_to, is_used}
-use Rattle.at_index.specs.Edges.{is_listed}
-use Rattle.at_cache.specs.Standings.{IsTied, held, is_tied, shown, standing_of}
+use Rattle.at_cache.proofs.Common.{◌≡◌, ◌⊎◌, inl, inr, ◌<◌, ◌+◌, ℕ, zero, suc, List, Bool, true, false, ◌&&◌, ◌||◌, Option, Some, None, nat_eq, nat_lt, if◌then◌else◌, Contains, refl, sym, ap, ◌∙◌, subst, arith, true≢false, list_any, option_and_then, cases_eq, eq-eqb, lt-ltb, ltb-true, and_from, none-some, same_Some, Location, Edge, Standing, Info, Memory, IsIndexed, covers, edge_to, is_used, is_listed, IsTied, held, is_tied, shown, standing_of, any_of, any_same, both}
 use Rattle.at_cache.proofs.of_cut.Alive.{by_trace}
-use Rattle.at_index.proofs.Lists.{any_of, any_same}
-use Rattle.at_model.proofs.Options.{both}
 use Rattle.at_cache.proofs.Ending.{opened}
 
 -- the entry as it is kept
@@ -65,8 +52,7 @@ module _ (m : Memory) (s : ℕ) (e : Info) (p : ℕ) where
   there_used f is less listed =
       ap (λ (o : Option Info). elim o as (λ _. Bool) [
         | None ↦ false
-        | Some f ↦ nat_lt f.since e.since && is_listed
-            (edge_to s e) f.users
+        | Some f ↦ nat_lt f.since e.since && is_listed (edge_to s e) f.users
       ]) is
       ∙ and_from _ _ (lt-ltb f.since e.since less) listed
 

@@ -1,15 +1,5 @@
 -- The entries of which edges tell: those that are kept, or can be kept again.
-use Rattle.std.proofs.Common.{◌≡◌, ◌≤◌, inl, inr, ℕ, List, Bool, true, false, None, Some, nat_eq, if◌then◌else◌, refl, ap, ◌∙◌, subst, arith}
-use Rattle.std.proofs.lemmas.Option.{none-some}
-use Rattle.at_model.specs.Run.{Location}
-use Rattle.at_index.specs.declared.edge.Edge.{Edge}
-use Rattle.at_cache.specs.declared.standing.Standing.{Standing}
-use Rattle.at_cache.specs.Info.{Info, Memory}
-use Rattle.at_index.specs.Linking.{Reads}
-use Rattle.at_cache.specs.Putting.{Uses, is_current, reused}
-use Rattle.at_cache.specs.Standings.{IsTied, alive, is_alive, standing_of}
-use Rattle.std.proofs.lemmas.Bool.{or_cases, or_left, or_right}
-use Rattle.at_cache.specs.Recorded.{edge_to}
+use Rattle.at_cache.proofs.Common.{◌≡◌, ◌≤◌, inl, inr, ℕ, List, Bool, true, false, None, Some, nat_eq, if◌then◌else◌, refl, ap, ◌∙◌, subst, arith, none-some, Location, Edge, Standing, Info, Memory, Reads, Uses, is_current, reused, IsTied, alive, is_alive, standing_of, or_cases, or_left, or_right, edge_to}
 use Rattle.at_cache.proofs.Users.{reused_from, current, told_of}
 
 pub by_holding : (s : Standing) → s.holds ≡ true → is_alive s ≡ true

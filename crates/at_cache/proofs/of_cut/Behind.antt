@@ -1,12 +1,5 @@
 -- Entries that came to be kept again, one behind the other.
-use Rattle.std.proofs.Common.{◌≡◌, ◌<◌, ◌-◌, ◌+◌, ◌^◌, ◌++◌, ◌∷◌, ℕ, zero, suc, List, Bool, true, false, Option, Some, None, IsSome, is_some, min, if◌then◌else◌, refl, sym, ap, ◌∙◌, arith, true≢false}
-use Rattle.std.proofs.lemmas.Option.{none-some}
-use Rattle.at_model.specs.Run.{Instance, Location, Value}
-use Rattle.at_body.specs.Same.{same_instance}
-use Rattle.at_cache.specs.Kept.{Entries, Kept, PutsBy, value_at}
-use Rattle.at_cache.specs.Traced.{AreAllKept, IsNext, Memories, Settled, Trace, below, itself, nothing, one_more}
-use Rattle.at_cache.specs.Settling.{Settles}
-use Rattle.at_body.proofs.SamenessLemmas.{same_true}
+use Rattle.at_cache.proofs.Common.{◌≡◌, ◌<◌, ◌-◌, ◌+◌, ◌^◌, ◌++◌, ◌∷◌, ℕ, zero, suc, List, Bool, true, false, Option, Some, None, IsSome, is_some, min, if◌then◌else◌, refl, sym, ap, ◌∙◌, arith, true≢false, none-some, Instance, Location, Value, same_instance, Entries, Kept, PutsBy, value_at, AreAllKept, IsNext, Memories, Settled, Trace, below, itself, nothing, one_more, Settles, same_true}
 
 -- what is kept is kept on
 abbrev pub KeepsOn : (old new : Entries) → Type 0
@@ -36,8 +29,7 @@ puts_on old new i v reads uses none puts j k there = puts.adds j ∙ by (same_in
     by true is = absurd (none-some k (sym none ∙ ap old (same_true i j is) ∙ there))
     by false is = there
 
-pub settled_on : (m : Memories) (q : Instance ℕ) (n : ℕ) (old new : Entries) → Settled m q n old new
-    → KeepsOn old new
+pub settled_on : (m : Memories) (q : Instance ℕ) (n : ℕ) (old new : Entries) → Settled m q n old new → KeepsOn old new
 settled_on m q _ _ _ (nothing entries) i k there = there
 settled_on m q _ _ _ (one_more n old mid new j t rest comes traced none all puts) i k there =
     puts_on mid new j (Some t.value) t.reads t.uses none puts i k (settled_on m q n old mid rest i k there)

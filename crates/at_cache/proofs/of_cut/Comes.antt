@@ -1,33 +1,10 @@
 -- What an entry that comes, or comes in place of one that isn't kept, is kept as; and what was kept is kept.
-use Rattle.std.proofs.Common.{◌≡◌, inl, inr, ◌<◌, ◌+◌, ℕ, zero, suc, List, Bool, true, false, ◌||◌, Option, Some, None, nat_eq, if◌then◌else◌, Contains, refl, sym, ap, ◌∙◌, subst, arith, true≢false}
-use Rattle.std.specs.List.{list_any}
-use Rattle.std.specs.Map.{lookup}
-use Rattle.std.proofs.lemmas.Bool.{cases_eq}
-use Rattle.std.proofs.lemmas.Option.{none-some, same_Some}
-use Rattle.at_model.specs.Run.{Instance, Location}
-use Rattle.at_body.specs.Same.{same_instance}
-use Rattle.at_body.specs.Sameness.{instances_equiv}
-use Rattle.at_index.specs.declared.edge.Edge.{Edge}
-use Rattle.at_cache.specs.declared.entry.Entry.{Entry}
-use Rattle.at_cache.specs.declared.standing.Standing.{Standing}
-use Rattle.at_cache.specs.declared.table.Table.{Table}
-use Rattle.at_cache.specs.Info.{Info, Memory, memory_of}
-use Rattle.at_cache.specs.Kept.{Kept, Puts, covered}
-use Rattle.at_index.specs.Sameness.{same_location}
-use Rattle.at_index.specs.Linking.{AreListed, Reads}
-use Rattle.at_cache.specs.Putting.{with_users, is_current}
-use Rattle.at_cache.specs.Recorded.{IsIndexed, covers, edge_to}
-use Rattle.at_index.specs.Edges.{is_listed}
-use Rattle.at_cache.specs.Standings.{IsTied, alive, held, instances_in, is_alive, kept_held, standing_of}
+use Rattle.at_cache.proofs.Common.{◌≡◌, inl, inr, ◌<◌, ◌+◌, ℕ, zero, suc, List, Bool, true, false, ◌||◌, Option, Some, None, nat_eq, if◌then◌else◌, Contains, refl, sym, ap, ◌∙◌, subst, arith, true≢false, list_any, lookup, cases_eq, none-some, same_Some, Instance, Location, same_instance, instances_equiv, Edge, Entry, Standing, Table, Info, Memory, memory_of, Kept, Puts, covered, same_location, AreListed, Reads, with_users, is_current, IsIndexed, covers, edge_to, is_listed, IsTied, alive, held, instances_in, is_alive, kept_held, standing_of, agree, any_of, any_same, some_of, has, is_in, same_true, same_location-is, same_location-itself}
 use Rattle.at_cache.proofs.of_cut.Again.{held_as, held_on, is_among, tied_there}
 use Rattle.at_cache.proofs.of_cut.Alive.{by_holding, tells_on}
-use Rattle.at_index.proofs.Lists.{agree, any_of, any_same, some_of}
 use Rattle.at_cache.proofs.Ending.{far_enough, opened}
-use Rattle.at_index.proofs.Listing.{has, is_in}
 use Rattle.at_cache.proofs.of_cut.HeldSlots.{as_kept, covers_slots, entry_in, kept_none, kept_slot, off_slot, slot_of}
-use Rattle.at_body.proofs.SamenessLemmas.{same_true}
 use Rattle.at_cache.proofs.Users.{listed_still}
-use Rattle.at_index.proofs.Locations.{same_location-is, same_location-itself}
 use Rattle.at_cache.proofs.of_cut.Renewed.{held_indexed, held_links, held_since}
 use Rattle.at_cache.proofs.Testing.{indexed_by}
 

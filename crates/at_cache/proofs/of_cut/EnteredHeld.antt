@@ -1,23 +1,5 @@
 -- An entry that is kept from now on, by what its steps have said.
-use Rattle.std.proofs.Common.{◌≡◌, ℕ, List, Bool, true, false, Option, None, Some, IsSome, is_some, option_map, nat_eq, Contains, refl, sym, ap, ◌∙◌, subst, true≢false}
-use Rattle.std.specs.List.{list_any}
-use Rattle.std.specs.Map.{lookup}
-use Rattle.std.specs.Option.{option_and_then}
-use Rattle.std.proofs.lemmas.Option.{none-some, same_Some}
-use Rattle.at_model.specs.Run.{Instance, Location, Value}
-use Rattle.at_body.specs.Same.{same_instance}
-use Rattle.at_body.specs.Sameness.{instances_equiv}
-use Rattle.at_body.specs.Values.{value_view}
-use Rattle.at_index.specs.declared.edge.Edge.{Edge}
-use Rattle.at_cache.specs.declared.entry.Entry.{Entry}
-use Rattle.at_cache.specs.declared.standing.Standing.{Standing}
-use Rattle.at_cache.specs.declared.table.Table.{Table}
-use Rattle.at_cache.specs.Info.{Info, Memory, info, memory_of}
-use Rattle.at_cache.specs.Kept.{AreKept}
-use Rattle.at_cache.specs.Putting.{AreTaken, Uses, fresh_entry}
-use Rattle.at_cache.specs.Renewing.{IsAwaited, IsSlotFor, PutsIn}
-use Rattle.at_cache.specs.Standings.{held, instances_in, kept_held, shown, standing_of}
-use Rattle.at_cache.specs.Theirs.{AreTheirs, HasSlot}
+use Rattle.at_cache.proofs.Common.{◌≡◌, ℕ, List, Bool, true, false, Option, None, Some, IsSome, is_some, option_map, nat_eq, Contains, refl, sym, ap, ◌∙◌, subst, true≢false, list_any, lookup, option_and_then, none-some, same_Some, Instance, Location, Value, same_instance, instances_equiv, value_view, Edge, Entry, Standing, Table, Info, Memory, info, memory_of, AreKept, AreTaken, Uses, fresh_entry, IsAwaited, IsSlotFor, PutsIn, held, instances_in, kept_held, shown, standing_of, AreTheirs, HasSlot}
 use Rattle.at_cache.proofs.of_cut.Again.{held_off}
 use Rattle.at_cache.proofs.of_cut.Goes.{instance_among}
 use Rattle.at_cache.proofs.of_cut.HeldSlots.{kept_none, off_slot, slot_of, not_kept}

@@ -1,28 +1,10 @@
 -- What a put leaves, over all its steps: edges of the locations, edges of what it used, the entry, and how that stands.
-use Rattle.std.proofs.Common.{◌≡◌, ◌⊎◌, [], arith, inl, inr, ◌<◌, ◌+◌, length, slice_set, ℕ, List, Bool, true, false, Option, Some, None, IsSome, is_some, nat_eq, if◌then◌else◌, Contains, refl, sym, ap, ◌∙◌, subst, true≢false, eqb-true}
-use Rattle.std.specs.List.{list_any}
-use Rattle.std.proofs.lemmas.Bool.{cases_eq, eq-eqb, false_from_ne_true}
-use Rattle.std.proofs.lemmas.Option.{same_Some}
-use Rattle.at_model.specs.Run.{Instance, Location, Value}
-use Rattle.at_index.specs.declared.edge.Edge.{Edge}
-use Rattle.at_cache.specs.declared.keeper.Order.{Order}
+use Rattle.at_cache.proofs.Common.{◌≡◌, ◌⊎◌, [], arith, inl, inr, ◌<◌, ◌+◌, length, slice_set, ℕ, List, Bool, true, false, Option, Some, None, IsSome, is_some, nat_eq, if◌then◌else◌, Contains, refl, sym, ap, ◌∙◌, subst, true≢false, eqb-true, list_any, cases_eq, eq-eqb, false_from_ne_true, same_Some, Instance, Location, Value, Edge, Order, Standing, Table, Info, Memory, memory_of, AreKept, Puts, AreListed, Reads, AreTaken, Uses, users_at, with_users, is_current, IsIndexed, edge_to, IsAnother, IsUser, PutsIn, AreValued, IsTied, alive, held, instances_in, is_alive, kept_held, remembered, standing_of, AreTheirs, IsOutdated, IsSpared, IsStill, IsTraceOf, PutsTrace, SparesOthers, Trace, is_in, none_in, same_instance, instances_equiv, same_true}
 use Rattle.at_cache.specs.declared.keeper.Order.TheVariants as order
-use Rattle.at_cache.specs.declared.standing.Standing.{Standing}
-use Rattle.at_cache.specs.declared.table.Table.{Table}
-use Rattle.at_cache.specs.Info.{Info, Memory, memory_of}
-use Rattle.at_cache.specs.Kept.{AreKept, Puts}
-use Rattle.at_index.specs.Linking.{AreListed, Reads}
-use Rattle.at_cache.specs.Putting.{AreTaken, Uses, users_at, with_users, is_current}
-use Rattle.at_cache.specs.Recorded.{IsIndexed, edge_to}
-use Rattle.at_cache.specs.Renewing.{IsAnother, IsUser, PutsIn}
-use Rattle.at_cache.specs.Standings.{AreValued, IsTied, alive, held, instances_in, is_alive, kept_held, remembered, standing_of}
-use Rattle.at_cache.specs.Theirs.{AreTheirs}
-use Rattle.at_cache.specs.Traced.{IsOutdated, IsSpared, IsStill, IsTraceOf, PutsTrace, SparesOthers, Trace}
 use Rattle.at_cache.proofs.of_cut.Again.{tied_there}
 use Rattle.at_cache.proofs.of_cut.Alive.{by_trace, was_alive, tells_on}
 use Rattle.at_cache.proofs.of_cut.Comes.{Comes, comes_indexed, puts_comes}
 use Rattle.at_cache.proofs.of_cut.EnteredHeld.{they_are, they_hold}
-use Rattle.at_index.proofs.Listing.{is_in}
 use Rattle.at_index.proofs.Listing as listing
 use Rattle.at_cache.proofs.of_cut.HeldSlots.{kept_slot, not_kept}
 use Rattle.at_cache.proofs.Users.{back, users_of}
@@ -31,10 +13,6 @@ use Rattle.at_cache.proofs.of_cut.Goes.{instance_among}
 use Rattle.at_cache.proofs.of_cut.Retraced.{last_slot, puts_traces, trace_is, traced_in}
 use Rattle.at_cache.proofs.of_cut.Seeing.{set_is}
 use Rattle.at_cache.proofs.of_cut.Spared.{kept_trace, last_at}
-use Rattle.at_index.proofs.Lists.{none_in}
-use Rattle.at_body.specs.Same.{same_instance}
-use Rattle.at_body.specs.Sameness.{instances_equiv}
-use Rattle.at_body.proofs.SamenessLemmas.{same_true}
 
 -- All that is owed where an entry has come that is kept.
 pub record HasEntered (lists later : Location ℕ → List Edge) (told tnew : Table) (before after : List Standing)
@@ -44,8 +22,7 @@ pub record HasEntered (lists later : Location ℕ → List Edge) (told tnew : Ta
   pub indexed : IsIndexed later (number + 1) (held after (memory_of tnew))
   pub tied : IsTied later (number + 1) after (memory_of tnew)
   pub valued : AreValued after (memory_of tnew)
-  pub puts : Puts (kept_held lists told before number) inst value reads uses (kept_held later tnew after
-      (number + 1))
+  pub puts : Puts (kept_held lists told before number) inst value reads uses (kept_held later tnew after (number + 1))
   pub traces : PutsTrace inst value reads uses o (remembered lists told before) (remembered later tnew after)
   pub spares : SparesOthers inst (kept_held later tnew after (number + 1)) (remembered lists told before) (remembered later tnew after)
 

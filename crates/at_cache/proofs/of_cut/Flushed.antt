@@ -1,25 +1,6 @@
 -- What an edit leaves of entries that stay in memory.
-use Rattle.std.proofs.Common.{◌≡◌, inl, inr, ℕ, List, Bool, true, false, true≢false, Option, None, Some, option_map, if◌then◌else◌, refl, sym, ap, ◌∙◌, subst, arith}
-use Rattle.std.specs.Map.{lookup}
-use Rattle.std.specs.Option.{option_and_then}
-use Rattle.std.proofs.lemmas.Option.{none-some, same_Some}
-use Rattle.at_model.specs.Run.{Instance, Location, Value}
-use Rattle.at_body.specs.Same.{same_instance}
-use Rattle.at_body.specs.Values.{value_view}
-use Rattle.at_cache.specs.declared.cut.Cut.{Cut}
-use Rattle.at_index.specs.declared.edge.Edge.{Edge}
-use Rattle.at_cache.specs.declared.entry.Entry.{Entry}
-use Rattle.at_cache.specs.declared.standing.Standing.{Standing}
-use Rattle.at_cache.specs.declared.table.Table.{Table}
-use Rattle.at_cache.specs.Info.{Info, Memory, info, memory_of}
-use Rattle.at_cache.specs.Kept.{Kept, LeavesUntouched, LosesTouched}
-use Rattle.at_cache.specs.Marking.{TakesAway}
-use Rattle.at_cache.specs.Recorded.{IsIndexed, covers, edge_to}
-use Rattle.at_index.specs.Edges.{is_listed}
-use Rattle.at_cache.specs.Standings.{AreValued, IsTied, held, held_of, kept_held, last_of, remembered, standing_of, trace_at, trace_of}
-use Rattle.at_cache.specs.Traced.{FlushesTraces, SparesAtEdit, Trace}
+use Rattle.at_cache.proofs.Common.{◌≡◌, inl, inr, ℕ, List, Bool, true, false, true≢false, Option, None, Some, option_map, if◌then◌else◌, refl, sym, ap, ◌∙◌, subst, arith, lookup, option_and_then, none-some, same_Some, Instance, Location, Value, same_instance, value_view, Cut, Edge, Entry, Standing, Table, Info, Memory, info, memory_of, Kept, LeavesUntouched, LosesTouched, TakesAway, IsIndexed, covers, edge_to, is_listed, AreValued, IsTied, held, held_of, kept_held, last_of, remembered, standing_of, trace_at, trace_of, FlushesTraces, SparesAtEdit, Trace, is_in}
 use Rattle.at_cache.proofs.Ending.{has_edge, indexed_after, leaves, loses}
-use Rattle.at_index.proofs.Listing.{is_in}
 use Rattle.at_cache.proofs.Index as index
 use Rattle.at_cache.proofs.Index.{kept_at}
 use Rattle.at_cache.proofs.of_cut.Again.{held_as, held_from, held_on}

@@ -1,36 +1,12 @@
 -- How settling goes on.
-use Rattle.std.proofs.Common.{◌≡◌, [], inl, inr, ◌<◌, ◌+◌, ◌-◌, ◌^◌, ◌++◌, ◌∷◌, ℕ, zero, suc, List, length, get_or, take, Bool, true, false, not, Option, Some, None, IsSome, is_some, option_map, min, nat_eq, if◌then◌else◌, Contains, refl, sym, ap, ◌∙◌, subst, arith, true≢false}
-use Rattle.std.specs.List.{list_any}
-use Rattle.std.specs.Map.{lookup}
-use Rattle.std.specs.Option.{option_and_then}
-use Rattle.std.proofs.lemmas.Option.{same_Some}
-use Rattle.at_model.specs.Run.{Instance, Location, Value}
-use Rattle.at_body.specs.Same.{same_instance}
-use Rattle.at_index.specs.declared.edge.Edge.{Edge}
-use Rattle.at_cache.specs.declared.entry.Entry.{Entry}
+use Rattle.at_cache.proofs.Common.{◌≡◌, [], inl, inr, ◌<◌, ◌+◌, ◌-◌, ◌^◌, ◌++◌, ◌∷◌, ℕ, zero, suc, List, length, get_or, take, Bool, true, false, not, Option, Some, None, IsSome, is_some, option_map, min, nat_eq, if◌then◌else◌, Contains, refl, sym, ap, ◌∙◌, subst, arith, true≢false, list_any, lookup, option_and_then, same_Some, Instance, Location, Value, same_instance, Edge, Entry, Standing, Table, get, Info, info, memory_of, at, value_at, PutsBy, AreTraces, CanKeep, HasSettled, IsWhole, IsTied, instances_in, is_alive, kept_held, remembered, standing_of, trace_at, trace_of, held, HasSlot, AreAlike, AreAllKept, Memories, Settled, StayTraced, Trace, itself, head_of, none_in, cases_eq, eq-eqb, false_from_ne_true, or_cases, take_more, Contains-append_cases, Contains-append_left, Contains-append_right, Contains-get_or, AreTaken, IsIndexed, edge_to, is_listed, Contains-cons_cases}
 use Rattle.at_cache.specs.declared.settling.Counts.{Counts}
-use Rattle.at_cache.specs.declared.standing.Standing.{Standing}
-use Rattle.at_cache.specs.declared.table.Table.{Table}
-use Rattle.slab.specs.Slab.{get}
-use Rattle.at_cache.specs.Info.{Info, info, memory_of}
-use Rattle.at_cache.specs.Placed.{at}
-use Rattle.at_cache.specs.Kept.{value_at, PutsBy}
-use Rattle.at_cache.specs.Settling.{AreTraces, CanKeep, GoesOn, HasSettled, IsWhole}
-use Rattle.at_cache.specs.Standings.{IsTied, instances_in, is_alive, kept_held, remembered, standing_of, trace_at, trace_of, held}
-use Rattle.at_cache.specs.Theirs.{HasSlot}
-use Rattle.at_cache.specs.Traced.{AreAlike, AreAllKept, Memories, Settled, StayTraced, Trace, itself}
+use Rattle.at_cache.specs.Settling.{GoesOn}
 use Rattle.at_cache.proofs.of_cut.Behind.{KeepsOn, all_kept_on, settles_below, settles_itself, settles_none, settles_on, settles_then}
-use Rattle.at_index.proofs.Lists.{head_of, none_in}
-use Rattle.std.proofs.lemmas.Bool.{cases_eq, eq-eqb, eqb-true, false_from_ne_true, or_cases}
-use Rattle.std.proofs.lemmas.List.{take_more}
-use Rattle.std.proofs.lemmas.List.Elements.{Contains-append_cases, Contains-append_left, Contains-append_right, Contains-get_or}
+use Rattle.std.proofs.lemmas.Bool.{eqb-true}
 use Rattle.at_cache.proofs.Users.{from_kept}
-use Rattle.at_cache.specs.Putting.{AreTaken}
-use Rattle.at_cache.specs.Recorded.{IsIndexed, edge_to}
-use Rattle.at_index.specs.Edges.{is_listed}
 use Rattle.at_cache.proofs.of_cut.Again.{again, again_indexed, is_among, tied_there}
 use Rattle.at_cache.proofs.of_cut.Alive.{by_trace, tied_on}
-use Rattle.slab.proofs.SlabLemmas.{Contains-cons_cases}
 use Rattle.at_cache.proofs.of_cut.HeldSlots.{entry_in, holds_slot, kept_slot, off_slot, puts_again, slot_of}
 
 module _ (lists : Location ℕ → List Edge) (t : Table) where
@@ -106,8 +82,7 @@ module _ (lists : Location ℕ → List Edge) (t : Table) where
     goes_below i a b c x y z f.instance trace (instances_in (memory_of t) front) (instances_in (memory_of t) back)
         traced
         (uses ∙ instances_at front back p f there) all first second,
-    λ some u among.
-        one_more (instances_in (memory_of t) front) f.instance
+    λ some u among. one_more (instances_in (memory_of t) front) f.instance
         (all_kept_on _ _ (goes_on_kept f.instance b c y z second) _ all) some u
         (subst (λ us. Contains us u) (instances_at front [] p f there) among),
   )
@@ -118,8 +93,7 @@ module _ (lists : Location ℕ → List Edge) (t : Table) where
       one_more us u all some w among = elim (Contains-append_cases us (u ∷ []) w among) [
         | inl d ↦ all w d
         | inr d ↦ elim (Contains-cons_cases u w [] d) [
-          | inl same ↦ subst
-              (λ v. IsSome (value_at (kept_held lists t c z.puts v))) same some
+          | inl same ↦ subst (λ v. IsSome (value_at (kept_held lists t c z.puts v))) same some
           | inr none ↦ absurd (none_in w none)
         ]
       ]

@@ -1,26 +1,6 @@
 -- What is kept of instances, by the slots of their entries.
-use Rattle.std.proofs.Common.{◌≡◌, [], ◌+◌, ◌++◌, ◌∷◌, ℕ, List, Bool, true, false, ◌||◌, Option, Some, None, IsSome, is_some, option_map, nat_eq, if◌then◌else◌, refl, sym, ap, ◌∙◌, subst, true≢false}
-use Rattle.std.specs.List.{list_any}
-use Rattle.std.specs.Map.{lookup}
-use Rattle.std.proofs.lemmas.Option.{none-some, same_Some}
-use Rattle.slab.specs.Slab.{get}
-use Rattle.at_model.specs.Run.{Instance, Location, Value}
-use Rattle.at_body.specs.Same.{same_instance}
-use Rattle.at_body.specs.Sameness.{instances_equiv}
-use Rattle.at_body.specs.Values.{value_view}
-use Rattle.at_index.specs.declared.edge.Edge.{Edge}
-use Rattle.at_cache.specs.declared.entry.Entry.{Entry}
-use Rattle.at_cache.specs.declared.standing.Standing.{Standing}
-use Rattle.at_cache.specs.declared.table.Table.{Table}
-use Rattle.at_cache.specs.Info.{Info, Memory, info, memory_of}
-use Rattle.at_cache.specs.Kept.{Kept, PutsBy, covered_by, covers_at, value_at}
-use Rattle.at_cache.specs.Recorded.{IsIndexed, covers, edge_to}
-use Rattle.at_index.specs.Edges.{is_listed}
-use Rattle.at_cache.specs.Standings.{IsTied, held, held_of, instances_in, kept_held, standing_of}
+use Rattle.at_cache.proofs.Common.{◌≡◌, [], ◌+◌, ◌++◌, ◌∷◌, ℕ, List, Bool, true, false, ◌||◌, Option, Some, None, IsSome, is_some, option_map, nat_eq, if◌then◌else◌, refl, sym, ap, ◌∙◌, subst, true≢false, list_any, lookup, none-some, same_Some, get, Instance, Location, Value, same_instance, instances_equiv, value_view, Edge, Entry, Standing, Table, Info, Memory, info, memory_of, Kept, PutsBy, covered_by, covers_at, value_at, IsIndexed, covers, edge_to, is_listed, IsTied, held, held_of, instances_in, kept_held, standing_of, head_of, or_right, same_true}
 use Rattle.at_cache.proofs.of_cut.Again.{again, covers_it, covers_still, held_as, held_on, is_among}
-use Rattle.at_index.proofs.Lists.{head_of}
-use Rattle.std.proofs.lemmas.Bool.{or_right}
-use Rattle.at_body.proofs.SamenessLemmas.{same_true}
 use Rattle.at_cache.proofs.Moving.{at_none, at_some, table_by}
 use Rattle.at_cache.proofs.Shown.{entry_at, first_at, slot_taken}
 

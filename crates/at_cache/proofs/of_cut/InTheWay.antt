@@ -1,29 +1,7 @@
 -- How it is found what stands in the way of keeping an entry again.
-use Rattle.std.proofs.Common.{◌≡◌, inl, inr, ◌<◌, ◌+◌, ◌∷◌, [], ℕ, List, length, get_or, take, Bool, true, false, not, ◌&&◌, ◌||◌, Option, Some, None, IsSome, is_some, option_map, nat_eq, IfSome, Contains, refl, sym, ap, ◌∙◌, subst, true≢false}
-use Rattle.std.proofs.lemmas.Bool.{and_parts, not-false, not-true}
-use Rattle.std.proofs.lemmas.Option.{same_Some}
-use Rattle.std.proofs.lemmas.List.{take_more}
-use Rattle.std.proofs.lemmas.List.Elements.{Contains-append_cases, Contains-append_left, Contains-append_right}
-use Rattle.slab.proofs.SlabLemmas.{Contains-cons_cases}
-use Rattle.std.specs.List.{list_any}
-use Rattle.std.specs.Map.{lookup}
-use Rattle.slab.specs.Slab.{get}
-use Rattle.at_model.specs.Run.{Instance, Location, Value}
-use Rattle.at_body.specs.Same.{same_instance}
-use Rattle.at_body.specs.Values.{value_view}
-use Rattle.at_index.specs.declared.edge.Edge.{Edge}
-use Rattle.at_cache.specs.declared.entry.Entry.{Entry}
-use Rattle.at_cache.specs.declared.standing.Standing.{Standing}
-use Rattle.at_cache.specs.declared.table.Table.{Table}
-use Rattle.at_cache.specs.Blocking.{Follows, IsFirstOpen, LeadsTo, is_known, is_valued}
-use Rattle.at_cache.specs.Info.{Info, Memory, info, memory_of}
-use Rattle.at_cache.specs.Kept.{value_at}
-use Rattle.at_cache.specs.Placed.{at}
-use Rattle.at_cache.specs.Standings.{AreValued, IsTied, instances_in, kept_held, remembered, standing_of, trace_of}
-use Rattle.at_cache.specs.Traced.{AreAllKept, IsNext, below, itself}
+use Rattle.at_cache.proofs.Common.{◌≡◌, inl, inr, ◌<◌, ◌+◌, ◌∷◌, [], ℕ, List, length, get_or, take, Bool, true, false, not, ◌&&◌, ◌||◌, Option, Some, None, IsSome, is_some, option_map, nat_eq, IfSome, Contains, refl, sym, ap, ◌∙◌, subst, true≢false, and_parts, not-false, not-true, same_Some, take_more, Contains-append_cases, Contains-append_left, Contains-append_right, Contains-cons_cases, list_any, lookup, get, Instance, Location, Value, same_instance, value_view, Edge, Entry, Standing, Table, Follows, IsFirstOpen, LeadsTo, is_known, is_valued, Info, Memory, info, memory_of, value_at, at, AreValued, IsTied, instances_in, kept_held, remembered, standing_of, trace_of, AreAllKept, IsNext, below, itself, head_of, none_in}
 use Rattle.at_cache.proofs.of_cut.Again.{is_among, tied_there}
 use Rattle.at_cache.proofs.of_cut.Alive.{by_trace}
-use Rattle.at_index.proofs.Lists.{head_of, none_in}
 use Rattle.at_cache.proofs.of_cut.Goes.{before_place, has_shown, instances_at, trace_slot, value_kept}
 use Rattle.at_cache.proofs.of_cut.HeldSlots.{slot_of}
 

@@ -1,8 +1,5 @@
 -- Memories that differ in whether turns keep again what can be.
-use Rattle.std.proofs.Common.{ℕ, Bool, Err, Ok, OnErr, Result, inl, inr}
-use Rattle.at_model.specs.Run.{Instance}
-use Rattle.at_cache.specs.Kept.{Entries}
-use Rattle.at_cache.specs.Traced.{IsNext, IsOutdated, IsSpared, Memories, Settled, SparesOthers, StayTraced, Trace, below, itself, nothing, one_more}
+use Rattle.at_cache.proofs.Common.{ℕ, Bool, Err, Ok, OnErr, Result, inl, inr, Instance, Entries, IsNext, IsOutdated, IsSpared, Memories, Settled, SparesOthers, StayTraced, Trace, below, itself, nothing, one_more}
 
 -- the same, and turns keep it again, if so
 abbrev pub with_turns : Bool → Memories → Memories

@@ -1,29 +1,8 @@
 -- What stays where an entry that was to come doesn't.
-use Rattle.std.proofs.Common.{◌≡◌, inl, ℕ, ◌+◌, List, Option, None, Some, Result, Ok, Err, OnOk, OnErr, is_some, option_map, if◌then◌else◌, refl, sym, ap, ◌∙◌, subst, arith}
-use Rattle.std.specs.Map.{lookup}
-use Rattle.std.specs.Option.{option_and_then}
-use Rattle.at_model.specs.Run.{Instance, Location, Value}
-use Rattle.at_body.specs.Same.{same_instance}
-use Rattle.at_body.specs.Values.{value_view}
-use Rattle.at_cache.specs.declared.cut.Cut.{Cut}
-use Rattle.at_index.specs.declared.edge.Edge.{Edge}
-use Rattle.at_cache.specs.declared.entry.Entry.{Entry}
-use Rattle.at_cache.specs.declared.keeper.Order.{Order}
-use Rattle.at_cache.specs.declared.standing.Standing.{Standing}
-use Rattle.at_cache.specs.declared.table.Table.{Table}
-use Rattle.at_cache.specs.Info.{Info, Memory, memory_of}
-use Rattle.at_cache.specs.Kept.{Entries, Kept, KeepsAll, Puts}
-use Rattle.at_index.specs.Linking.{Reads}
-use Rattle.at_cache.specs.Putting.{Uses, is_current}
-use Rattle.at_cache.specs.Recorded.{IsIndexed, covers}
-use Rattle.at_cache.specs.Renewing.{EntersHeld}
-use Rattle.at_cache.specs.Shedding.{kept_cut}
-use Rattle.at_cache.specs.Standings.{AreValued, IsTied, alive, held, is_alive, kept_held, remembered, shown, standing_of}
-use Rattle.at_cache.specs.Traced.{KeepsTrace, SparesOthers, StayTraced}
+use Rattle.at_cache.proofs.Common.{◌≡◌, inl, ℕ, ◌+◌, List, Option, None, Some, Result, Ok, Err, OnOk, OnErr, is_some, option_map, if◌then◌else◌, refl, sym, ap, ◌∙◌, subst, arith, lookup, option_and_then, Instance, Location, Value, same_instance, value_view, Cut, Edge, Entry, Order, Standing, Table, Info, Memory, memory_of, Entries, Kept, KeepsAll, Puts, Reads, Uses, is_current, IsIndexed, covers, EntersHeld, kept_cut, AreValued, IsTied, alive, held, is_alive, kept_held, remembered, shown, standing_of, KeepsTrace, SparesOthers, StayTraced, reads_none}
 use Rattle.at_cache.proofs.of_cut.Alive.{tied_on}
 use Rattle.at_cache.proofs.of_cut.Lifting.{kept_still, stale_held}
 use Rattle.at_cache.proofs.Users.{back, uses_none}
-use Rattle.at_index.proofs.Listing.{reads_none}
 use Rattle.at_cache.proofs.of_cut.Retraced.{stale_traces, trace_is, traced_in}
 use Rattle.at_cache.proofs.of_cut.Spared.{kept_trace, last_at}
 use Rattle.at_cache.proofs.of_cut.Tying.{tied_still}
@@ -38,8 +17,7 @@ module _ (st ts : List Standing) (same : (k : ℕ) → standing_of ts k ≡ stan
   kept_alike lists t puts i n =
       option_map (λ (e : Entry). let k : Kept = record {
         value = option_map value_view e.value;
-        covers = covers lists
-            (λ k. option_and_then (shown (same k n)) (memory_of t k)) puts e.slot;
+        covers = covers lists (λ k. option_and_then (shown (same k n)) (memory_of t k)) puts e.slot;
       } in k)
       (option_and_then (λ (e : Entry). if (same e.slot n).holds then Some e else None) (lookup
       (same_instance i) t.entries.entries))

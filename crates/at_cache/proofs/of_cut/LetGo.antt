@@ -1,8 +1,5 @@
 -- What isn't kept leaves memory where much more is there than is kept, and then an edit takes what it touches.
-use Rattle.std.proofs.Common.{◌≡◌, ◌⊎◌, inl, inr, ℕ, Bool, true, false, Option, None, Some, refl, sym, subst, ◌∙◌}
-use Rattle.at_model.specs.Run.{Instance, Location}
-use Rattle.at_cache.specs.Kept.{Entries, KeepsAll, LeavesUntouched, LosesTouched}
-use Rattle.at_cache.specs.Traced.{FlushesTraces, Memories, SparesAtEdit, StayTraced, Trace}
+use Rattle.at_cache.proofs.Common.{◌≡◌, ◌⊎◌, inl, inr, ℕ, Bool, true, false, Option, None, Some, refl, sym, subst, ◌∙◌, Instance, Location, Entries, KeepsAll, LeavesUntouched, LosesTouched, FlushesTraces, Memories, SparesAtEdit, StayTraced, Trace}
 
 module _ (says : Location ℕ → Bool → Type 0) where
   pub leaves_then : {a b c : Entries} → KeepsAll a b → LeavesUntouched says b c → LeavesUntouched says a c

@@ -1,25 +1,12 @@
 -- Edges of an entry that is to come, seen from what is kept.
-use Rattle.std.proofs.Common.{◌≡◌, inl, inr, ℕ, ◌+◌, List, [], true, Option, None, Some, IsSome, Contains, refl, sym, ap, ◌∙◌, subst}
-use Rattle.std.specs.Option.{option_and_then}
-use Rattle.std.proofs.lemmas.Option.{none-some}
-use Rattle.at_model.specs.Run.{Location}
-use Rattle.at_index.specs.declared.edge.Edge.{Edge}
+use Rattle.at_cache.proofs.Common.{◌≡◌, inl, inr, ℕ, ◌+◌, List, [], true, Option, None, Some, IsSome, Contains, refl, sym, ap, ◌∙◌, subst, option_and_then, none-some, Location, Edge, Standing, Table, Info, Memory, memory_of, KeepsAll, Reads, Uses, users_at, with_users, is_current, IsIndexed, alive, held, kept_held, shown, standing_of, none_in}
 use Rattle.at_cache.proofs.Users.{current, told_of}
-use Rattle.at_cache.specs.declared.standing.Standing.{Standing}
-use Rattle.at_cache.specs.declared.table.Table.{Table}
-use Rattle.at_cache.specs.Info.{Info, Memory, memory_of}
-use Rattle.at_cache.specs.Kept.{KeepsAll}
-use Rattle.at_index.specs.Linking.{Reads}
-use Rattle.at_cache.specs.Putting.{Uses, users_at, with_users, is_current}
-use Rattle.at_cache.specs.Recorded.{IsIndexed}
-use Rattle.at_cache.specs.Standings.{alive, held, kept_held, shown, standing_of}
 use Rattle.at_cache.proofs.Entered.{kept_mid, stale_indexed}
 use Rattle.at_cache.proofs.of_cut.Again.{held_as, held_from, held_off, held_on}
 use Rattle.at_cache.proofs.of_cut.Alive.{alive_on, by_holding}
 use Rattle.at_cache.proofs.of_cut.Flushed.{shown_held}
 use Rattle.at_cache.proofs.of_cut.Passing.{not_shown}
 use Rattle.at_cache.proofs.Showing.{same_of}
-use Rattle.at_index.proofs.Lists.{none_in}
 use Rattle.at_cache.proofs.Testing.{indexed_by, tested}
 
 module _ (ss : List Standing) where

@@ -1,26 +1,9 @@
 -- What used an entry that is put with another value has no trace any more.
-use Rattle.std.proofs.Common.{◌≡◌, inl, inr, ℕ, List, [], true, false, true≢false, Option, None, Some, IsSome, is_some, option_map, nat_eq, Contains, if◌then◌else◌, refl, sym, ap, ◌∙◌, subst}
-use Rattle.std.specs.Map.{lookup}
-use Rattle.std.proofs.lemmas.Bool.{eq-eqb, ne_eqb}
-use Rattle.std.proofs.lemmas.Option.{none-some, same_Some}
-use Rattle.at_model.specs.Run.{Instance, Value}
-use Rattle.at_cache.specs.declared.cut.Cut.{Cut}
+use Rattle.at_cache.proofs.Common.{◌≡◌, inl, inr, ℕ, List, [], true, false, true≢false, Option, None, Some, IsSome, is_some, option_map, nat_eq, Contains, if◌then◌else◌, refl, sym, ap, ◌∙◌, subst, lookup, eq-eqb, ne_eqb, none-some, same_Some, Instance, Value, Cut, Edge, same_instance, Entry, Table, Standing, IsIdle, Reached, Work, by_start, by_user, Info, Memory, memory_of, Aside, GoesOver, held_in, Enters, fresh_entry, users_at, Compares, IsAnother, IsSlotFor, PutsIn, renewed, none_in}
 use Rattle.at_cache.specs.declared.cut.Loss.TheVariants as loss
-use Rattle.at_index.specs.declared.edge.Edge.{Edge}
-use Rattle.at_body.specs.Same.{same_instance}
-use Rattle.at_cache.specs.declared.entry.Entry.{Entry}
-use Rattle.at_cache.specs.declared.table.Table.{Table}
-use Rattle.at_cache.specs.declared.standing.Standing.{Standing}
-use Rattle.at_cache.specs.Flushing.{IsIdle, Reached, Work, by_start, by_user}
-use Rattle.at_cache.specs.Info.{Info, Memory, memory_of}
-use Rattle.at_cache.specs.Marking.{Aside, GoesOver, held_in}
-use Rattle.at_cache.specs.Putting.{Enters, fresh_entry, users_at}
-use Rattle.at_cache.specs.Renewing.{Compares, IsAnother, IsSlotFor, PutsIn}
-use Rattle.at_cache.specs.Slots.{renewed}
 use Rattle.at_cache.proofs.of_cut.Passing.{entries_after, entries_aside, held_idle, quiet_aside}
 use Rattle.at_cache.proofs.Shown.{slot_there}
 use Rattle.at_cache.proofs.Taking.{begun}
-use Rattle.at_index.proofs.Lists.{none_in}
 
 -- nothing is reached from no edge
 none_reached : {old : Memory} {k : ℕ} → Reached old [] k → ⊥

@@ -1,17 +1,5 @@
 -- The slots of instances, in order.
-use Rattle.std.proofs.Common.{◌≡◌, [], ◌∷◌, ◌++◌, ◌<◌, ◌+◌, inl, inr, ℕ, List, length, get_or, take, Some, None, IsSome, is_some, Contains, sym, ap, ◌∙◌, subst, true≢false}
-use Rattle.std.specs.Map.{lookup}
-use Rattle.std.proofs.lemmas.List.{take_more}
-use Rattle.std.proofs.lemmas.List.Elements.{Contains-append_left, Contains-append_right, Contains-push_cases}
-use Rattle.at_model.specs.Run.{Instance}
-use Rattle.at_body.specs.Same.{same_instance}
-use Rattle.at_cache.specs.declared.entry.Entry.{Entry}
-use Rattle.at_cache.specs.declared.table.Table.{Table}
-use Rattle.at_cache.specs.Info.{memory_of}
-use Rattle.at_cache.specs.Putting.{AreTaken}
-use Rattle.at_cache.specs.Standings.{instances_in}
-use Rattle.at_cache.specs.Theirs.{AreTheirs}
-use Rattle.at_index.proofs.Lists.{head_of}
+use Rattle.at_cache.proofs.Common.{◌≡◌, [], ◌∷◌, ◌++◌, ◌<◌, ◌+◌, inl, inr, ℕ, List, length, get_or, take, Some, None, IsSome, is_some, Contains, sym, ap, ◌∙◌, subst, true≢false, lookup, take_more, Contains-append_left, Contains-append_right, Contains-push_cases, Instance, same_instance, Entry, Table, memory_of, AreTaken, instances_in, AreTheirs, head_of}
 use Rattle.at_cache.proofs.Shown.{slot_there}
 use Rattle.at_cache.proofs.of_cut.Goes.{instances_at}
 use Rattle.at_cache.proofs.of_cut.HeldSlots.{slot_of}

@@ -1,25 +1,5 @@
 -- An entry that isn't kept has another number, no links and no trace: no edge tells of it then.
-use Rattle.std.proofs.Common.{◌≡◌, ◌⊎◌, inl, inr, ◌+◌, [], ◌∷◌, ◌++◌, ℕ, List, Bool, true, false, Option, Some, None, option_map, nat_eq, if◌then◌else◌, refl, sym, ap, ◌∙◌, subst, arith, true≢false}
-use Rattle.std.specs.List.{list_any}
-use Rattle.std.specs.Map.{lookup}
-use Rattle.std.specs.Option.{option_and_then}
-use Rattle.std.proofs.lemmas.Bool.{cases_eq, eq-eqb, ne_eqb}
-use Rattle.std.proofs.lemmas.Option.{none-some, same_Some}
-use Rattle.at_model.specs.Run.{Instance, Location, Value}
-use Rattle.at_body.specs.Same.{same_instance}
-use Rattle.at_index.specs.declared.edge.Edge.{Edge}
-use Rattle.at_cache.specs.declared.entry.Entry.{Entry}
-use Rattle.at_cache.specs.declared.keeper.Order.{Order}
-use Rattle.at_cache.specs.declared.standing.Standing.{Standing}
-use Rattle.at_cache.specs.declared.table.Table.{Table}
-use Rattle.at_cache.specs.Info.{Info, memory_of}
-use Rattle.at_cache.specs.Kept.{KeepsAll}
-use Rattle.at_cache.specs.Recorded.{IsIndexed, edge_to}
-use Rattle.at_index.specs.Edges.{is_listed}
-use Rattle.at_cache.specs.Renewing.{IsAwaited, IsSlotFor, StaysAwaited}
-use Rattle.at_cache.specs.Slots.{outdated}
-use Rattle.at_cache.specs.Standings.{IsChanged, IsTied, held, instances_in, is_alive, is_tied, kept_held, remembered, shown, standing_of, trace_of, untraced}
-use Rattle.at_cache.specs.Traced.{IsStill, KeepsTrace, Memories, PutsTrace, StayTraced, Trace}
+use Rattle.at_cache.proofs.Common.{◌≡◌, ◌⊎◌, inl, inr, ◌+◌, [], ◌∷◌, ◌++◌, ℕ, List, Bool, true, false, Option, Some, None, option_map, nat_eq, if◌then◌else◌, refl, sym, ap, ◌∙◌, subst, arith, true≢false, list_any, lookup, option_and_then, cases_eq, eq-eqb, ne_eqb, none-some, same_Some, Instance, Location, Value, same_instance, Edge, Entry, Order, Standing, Table, Info, memory_of, KeepsAll, IsIndexed, edge_to, is_listed, IsAwaited, IsSlotFor, StaysAwaited, outdated, IsChanged, IsTied, held, instances_in, is_alive, is_tied, kept_held, remembered, shown, standing_of, trace_of, untraced, IsStill, KeepsTrace, Memories, PutsTrace, StayTraced, Trace}
 use Rattle.at_cache.proofs.Index.{kept_at}
 use Rattle.at_cache.proofs.of_cut.Again.{held_off, tied_there}
 use Rattle.at_cache.proofs.of_cut.Flushed.{shown_held}
@@ -243,8 +223,7 @@ module _ (lists : Location ℕ → List Edge) (told tnew : Table) (st ts : List 
         awaited = record {
           indexed = subst (IsIndexed lists (puts + 1)) all_same alone.indexed;
           tied = tied;
-          valued = λ k f now on.
-              a.valued k f (sym (other k (elsewhere k on)) ∙ now)
+          valued = λ k f now on. a.valued k f (sym (other k (elsewhere k on)) ∙ now)
               (ap (λ (z : Standing). z.traced) (sym (stands k (elsewhere k on))) ∙ on);
           absent = keeps inst ∙ a.absent;
           place = its_slot_for tnew inst slot x (subst (λ i. lookup (same_instance i) tnew.entries.entries ≡ Some x)

@@ -1,27 +1,10 @@
 -- What edges take from entries, and what a flush leaves.
-use Rattle.std.proofs.Common.{length, ◌≡◌, ◌⊎◌, inl, inr, ℕ, List, [], ◌∷◌, ◌++◌, Bool, true, false, true≢false, Option, None, Some, IsSome, option_map, nat_eq, Contains, if◌then◌else◌, refl, sym, ap, ◌∙◌, subst, append-nil, append_assoc, eqb-true}
-use Rattle.std.specs.Option.{option_and_then}
-use Rattle.std.proofs.lemmas.Bool.{cases_Bool, cases_eq, eq-eqb, ne_eqb}
-use Rattle.std.proofs.lemmas.Option.{none-some, same_Some}
-use Rattle.std.proofs.lemmas.List.Elements.{Contains-append_cases, Contains-append_left, Contains-append_right}
-use Rattle.slab.proofs.SlabLemmas.{Contains-cons_cases}
+use Rattle.at_cache.proofs.Common.{length, ◌≡◌, ◌⊎◌, inl, inr, ℕ, List, [], ◌∷◌, ◌++◌, Bool, true, false, true≢false, Option, None, Some, IsSome, option_map, nat_eq, Contains, if◌then◌else◌, refl, sym, ap, ◌∙◌, subst, append-nil, append_assoc, eqb-true, option_and_then, cases_Bool, cases_eq, eq-eqb, ne_eqb, none-some, same_Some, Contains-append_cases, Contains-append_left, Contains-append_right, Contains-cons_cases, Location, Cut, Edge, Mark, Standing, Table, Begins, IsIdle, Work, dooms, first_after, Info, Memory, memory_of, table_len, Aside, GoesOver, HasMark, IsQuiet, Passes, TakesAway, Untraces, aside_cut, beside, held_in, of_trace, of_value, stamps_of, unmarked, is_current, reused, users_at, with_users, IsChanged, held, held_among, shape, shown, standing_of, unheld, untraced, head_of, none_in}
 use Rattle.std.specs.Global.{Vec}
-use Rattle.at_model.specs.Run.{Location}
-use Rattle.at_cache.specs.declared.cut.Cut.{Cut}
 use Rattle.at_cache.specs.declared.cut.Loss.{Loss}
 use Rattle.at_cache.specs.declared.cut.Loss.TheVariants as loss
-use Rattle.at_index.specs.declared.edge.Edge.{Edge}
-use Rattle.at_cache.specs.declared.mark.Mark.{Mark}
-use Rattle.at_cache.specs.declared.standing.Standing.{Standing}
-use Rattle.at_cache.specs.declared.table.Table.{Table}
-use Rattle.at_cache.specs.Flushing.{Begins, IsIdle, Work, dooms, first_after}
-use Rattle.at_cache.specs.Info.{Info, Memory, memory_of, table_len}
-use Rattle.at_cache.specs.Marking.{Aside, GoesOver, HasMark, IsQuiet, Passes, TakesAway, Untraces, aside_cut, beside, held_in, of_trace, of_value, stamps_of, unmarked}
-use Rattle.at_cache.specs.Putting.{is_current, reused, users_at, with_users}
-use Rattle.at_cache.specs.Standings.{IsChanged, held, held_among, shape, shown, standing_of, unheld, untraced}
 use Rattle.at_cache.proofs.Ending.{none_goes}
 use Rattle.at_cache.proofs.Dooming.{dooming}
-use Rattle.at_index.proofs.Lists.{head_of, none_in}
 use Rattle.at_cache.proofs.of_cut.Again.{held_from, held_off, held_on}
 use Rattle.at_cache.proofs.of_cut.Resting.{resting}
 use Rattle.at_cache.proofs.Taking.{begun, more, taken}

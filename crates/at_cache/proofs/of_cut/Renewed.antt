@@ -1,21 +1,7 @@
 -- An entry comes, or comes in place of one: all is found as before, and so is it.
-use Rattle.std.proofs.Common.{◌≡◌, inl, inr, [], ◌<◌, ◌+◌, ℕ, List, Bool, true, false, Option, Some, None, nat_eq, Contains, refl, sym, ap, ◌∙◌, subst, arith, eqb-true}
-use Rattle.std.specs.List.{list_any}
-use Rattle.std.proofs.lemmas.Bool.{cases_eq}
-use Rattle.std.proofs.lemmas.Option.{same_Some}
-use Rattle.at_model.specs.Run.{Location}
-use Rattle.at_index.specs.declared.edge.Edge.{Edge}
-use Rattle.at_cache.specs.declared.standing.Standing.{Standing}
-use Rattle.at_cache.specs.Info.{Info, Memory}
-use Rattle.at_index.specs.Linking.{AreListed, Reads}
-use Rattle.at_cache.specs.Putting.{Uses, users_at, with_users, is_current}
-use Rattle.at_cache.specs.Recorded.{IsIndexed, edge_to, is_used}
-use Rattle.at_index.specs.Edges.{is_listed}
-use Rattle.at_cache.specs.Standings.{IsTied, alive, held, is_alive, is_tied, standing_of}
+use Rattle.at_cache.proofs.Common.{◌≡◌, inl, inr, [], ◌<◌, ◌+◌, ℕ, List, Bool, true, false, Option, Some, None, nat_eq, Contains, refl, sym, ap, ◌∙◌, subst, arith, eqb-true, list_any, cases_eq, same_Some, Location, Edge, Standing, Info, Memory, AreListed, Reads, Uses, users_at, with_users, is_current, IsIndexed, edge_to, is_used, is_listed, IsTied, alive, held, is_alive, is_tied, standing_of, has, is_in, some_of, none_in}
 use Rattle.at_cache.proofs.of_cut.Again.{held_as, held_from, held_on, is_among, there_used, tied_there, used_there}
 use Rattle.at_cache.proofs.of_cut.Alive.{by_holding, tells_on}
-use Rattle.at_index.proofs.Listing.{has, is_in}
-use Rattle.at_index.proofs.Lists.{some_of, none_in}
 use Rattle.at_cache.proofs.Users.{back, users_of}
 
 -- what the test finds is among them
@@ -177,8 +163,7 @@ module _ {lists : Location ℕ → List Edge} {puts : ℕ} {st : List Standing} 
               (is_in a.users (edge_to k g) edge)) (tells_on st m k g there live) in
               let it : edge_to k g ≡ edge_to k f = λ n. record {
                 slot = k;
-                stamp = (ap (λ (i : Info). i.stamp) (sym is))
-                    n;
+                stamp = (ap (λ (i : Info). i.stamp) (sym is)) n;
               } in
               tied_by k p f (subst (Contains (users_at mid p)) it c)
         ];

@@ -1,14 +1,6 @@
 -- An entry that isn't going is before none.
-use Rattle.std.proofs.Common.{◌≡◌, ℕ, true, false, true≢false, Option, None, Some, option_map, refl, sym, ap, ◌∙◌}
-use Rattle.std.proofs.lemmas.Option.{none-some, same_Some}
-use Rattle.slab.specs.Slab.{get}
-use Rattle.at_model.specs.Run.{Instance}
-use Rattle.at_cache.specs.declared.entry.Entry.{Entry}
-use Rattle.at_cache.specs.declared.mark.Mark.{Mark}
+use Rattle.at_cache.proofs.Common.{◌≡◌, ℕ, true, false, true≢false, Option, None, Some, option_map, refl, sym, ap, ◌∙◌, none-some, same_Some, get, Instance, Entry, Mark, Table, Info, info, is_going, memory_of, next_of, at}
 use Rattle.at_cache.specs.declared.mark.Mark.TheVariants as mark
-use Rattle.at_cache.specs.declared.table.Table.{Table}
-use Rattle.at_cache.specs.Info.{Info, info, is_going, memory_of, next_of}
-use Rattle.at_cache.specs.Placed.{at}
 
 next_none : (mark : Mark) → is_going mark ≡ false → next_of mark ≡ None
 next_none mark.Stays h = refl

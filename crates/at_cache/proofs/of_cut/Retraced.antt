@@ -1,33 +1,11 @@
 -- What is traced where an entry comes, or comes in place of one.
-use Rattle.std.proofs.Common.{◌≡◌, inl, inr, [], ◌++◌, ◌∷◌, ◌||◌, ℕ, List, Bool, true, false, Option, Some, None, option_map, nat_eq, if◌then◌else◌, Contains, refl, sym, ap, ◌∙◌, subst, arith}
-use Rattle.std.specs.List.{list_any}
-use Rattle.std.specs.Map.{lookup}
-use Rattle.std.specs.Option.{option_and_then}
-use Rattle.std.proofs.lemmas.Bool.{cases_eq, eq-eqb, or_right}
-use Rattle.std.proofs.lemmas.List.Elements.{Contains-append_cases}
-use Rattle.std.proofs.lemmas.Option.{none-some, same_Some}
-use Rattle.slab.proofs.SlabLemmas.{Contains-cons_cases}
-use Rattle.at_model.specs.Run.{Instance, Location, Value}
-use Rattle.at_body.specs.Same.{same_instance}
-use Rattle.at_index.specs.declared.edge.Edge.{Edge}
-use Rattle.at_cache.specs.declared.entry.Entry.{Entry}
-use Rattle.at_cache.specs.declared.keeper.Order.{Order}
+use Rattle.at_cache.proofs.Common.{◌≡◌, inl, inr, [], ◌++◌, ◌∷◌, ◌||◌, ℕ, List, Bool, true, false, Option, Some, None, option_map, nat_eq, if◌then◌else◌, Contains, refl, sym, ap, ◌∙◌, subst, arith, list_any, lookup, option_and_then, cases_eq, eq-eqb, or_right, Contains-append_cases, none-some, same_Some, Contains-cons_cases, Instance, Location, Value, same_instance, Edge, Entry, Order, Standing, Table, Info, Memory, memory_of, AreListed, Reads, with_users, is_current, IsIndexed, edge_to, is_listed, IsTied, alive, held, instances_in, is_alive, last_of, remembered, standing_of, trace_at, trace_of, IsStill, IsTraceOf, PutsTrace, StayTraced, Trace, none_in}
 use Rattle.at_cache.specs.declared.keeper.Order.TheVariants as order
-use Rattle.at_cache.specs.declared.standing.Standing.{Standing}
-use Rattle.at_cache.specs.declared.table.Table.{Table}
-use Rattle.at_cache.specs.Info.{Info, Memory, memory_of}
-use Rattle.at_index.specs.Linking.{AreListed, Reads}
-use Rattle.at_cache.specs.Putting.{with_users, is_current}
-use Rattle.at_cache.specs.Recorded.{IsIndexed, edge_to}
-use Rattle.at_index.specs.Edges.{is_listed}
-use Rattle.at_cache.specs.Standings.{IsTied, alive, held, instances_in, is_alive, last_of, remembered, standing_of, trace_at, trace_of}
-use Rattle.at_cache.specs.Traced.{IsStill, IsTraceOf, PutsTrace, StayTraced, Trace}
 use Rattle.at_cache.proofs.of_cut.Again.{tied_there}
 use Rattle.at_cache.proofs.of_cut.Alive.{by_trace, tells_on}
 use Rattle.at_cache.proofs.of_cut.Comes.{Comes, listed_it, listed_same}
 use Rattle.at_cache.proofs.Users.{listed_still}
 use Rattle.at_cache.proofs.of_cut.HeldSlots.{entry_in, slot_of}
-use Rattle.at_index.proofs.Lists.{none_in}
 
 abbrev pub traced_of : (lists : Location ℕ → List Edge) → Memory → (slot : ℕ) → Bool → Info → Option Trace
 traced_of lists m s b e = if b then option_map (trace_of lists m s e) e.value else None

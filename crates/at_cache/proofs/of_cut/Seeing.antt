@@ -1,13 +1,6 @@
 -- What is kept of entries, of which some are marked.
-use Rattle.std.proofs.Common.{◌≡◌, ◌<◌, ◌≤◌, ◌+◌, inl, inr, ◌&&◌, ℕ, zero, suc, drop, List, [], ◌∷◌, length, slice_set, arith, Bool, true, false, Option, None, Some, IsSome, option_map, nat_eq, if◌then◌else◌, refl, sym, ap, ◌∙◌, subst, eqb-true}
-use Rattle.std.specs.Option.{option_and_then}
-use Rattle.std.proofs.lemmas.Bool.{cases_eq, eq-eqb, ne_eqb}
-use Rattle.at_index.specs.declared.edge.Edge.{Edge}
-use Rattle.at_cache.specs.declared.standing.Standing.{Standing}
-use Rattle.at_cache.specs.Flushing.{doomed, is_fresh}
-use Rattle.at_cache.specs.Info.{Info, Memory}
-use Rattle.at_cache.specs.Marking.{beside, unmarked}
-use Rattle.at_cache.specs.Standings.{IsChanged, held, held_among, nothing, shape, shown, standing_of}
+use Rattle.at_cache.proofs.Common.{◌≡◌, ◌<◌, ◌≤◌, ◌+◌, inl, inr, ◌&&◌, ℕ, zero, suc, drop, List, [], ◌∷◌, length, slice_set, arith, Bool, true, false, Option, None, Some, IsSome, option_map, nat_eq, if◌then◌else◌, refl, sym, ap, ◌∙◌, subst, eqb-true, option_and_then, cases_eq, eq-eqb, ne_eqb, Edge, Standing, doomed, is_fresh, Info, Memory, beside, unmarked, IsChanged, held, held_among, shape, shown, standing_of}
+use Rattle.at_cache.specs.Standings.{nothing}
 
 -- what is kept is there
 pub seen_there : (s : Standing) (o : Option Info) → IsSome (option_and_then (shown s) o) → IsSome o

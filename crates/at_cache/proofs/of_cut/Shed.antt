@@ -1,22 +1,6 @@
 -- What isn't kept leaves memory.
-use Rattle.std.proofs.Common.{◌≡◌, inl, inr, ℕ, zero, suc, ◌<◌, ◌≤◌, ◌+◌, List, [], ◌∷◌, ◌++◌, ◌||◌, if◌then◌else◌, length, option_map, Bool, true, false, true≢false, Option, None, Some, is_some, IfNone, OnSome, nat_eq, Contains, slice_index_or, refl, sym, ap, ◌∙◌, subst, arith}
-use Rattle.std.specs.List.{list_any}
-use Rattle.slab.specs.Slab.{get}
-use Rattle.std.specs.Option.{option_and_then}
-use Rattle.std.proofs.lemmas.Bool.{cases_eq, cases_lt, eq-eqb, ne_eqb, or_right}
-use Rattle.std.proofs.lemmas.Option.{none-some}
-use Rattle.at_model.specs.Run.{Instance, Location}
-use Rattle.at_cache.specs.declared.cut.Cut.{Cut}
-use Rattle.at_index.specs.declared.edge.Edge.{Edge}
-use Rattle.at_cache.specs.declared.standing.Standing.{Standing}
-use Rattle.at_cache.specs.declared.table.Table.{Table}
-use Rattle.at_cache.specs.Info.{Info, Memory, info, memory_of}
-use Rattle.at_cache.specs.Kept.{KeepsAll}
-use Rattle.at_cache.specs.Recorded.{IsIndexed, edge_to}
-use Rattle.at_index.specs.Edges.{is_listed}
-use Rattle.at_cache.specs.Shedding.{AreHeld, LosesTraces, Sheds, ShedsAt, Shrinks}
-use Rattle.at_cache.specs.Standings.{AreValued, IsChanged, IsTied, held, instances_in, is_tied, kept_held, nothing, remembered, shown, standing_of, trace_of, untraced}
-use Rattle.at_cache.specs.Traced.{FlushesTraces, IsStill, Memories, StayTraced, Trace}
+use Rattle.at_cache.proofs.Common.{◌≡◌, inl, inr, ℕ, zero, suc, ◌<◌, ◌≤◌, ◌+◌, List, [], ◌∷◌, ◌++◌, ◌||◌, if◌then◌else◌, length, option_map, Bool, true, false, true≢false, Option, None, Some, is_some, IfNone, OnSome, nat_eq, Contains, slice_index_or, refl, sym, ap, ◌∙◌, subst, arith, list_any, get, option_and_then, cases_eq, cases_lt, eq-eqb, ne_eqb, or_right, none-some, Instance, Location, Cut, Edge, Standing, Table, Info, Memory, info, memory_of, KeepsAll, IsIndexed, edge_to, is_listed, AreHeld, LosesTraces, Sheds, ShedsAt, Shrinks, AreValued, IsChanged, IsTied, held, instances_in, is_tied, kept_held, remembered, shown, standing_of, trace_of, untraced, FlushesTraces, IsStill, Memories, StayTraced, Trace}
+use Rattle.at_cache.specs.Standings.{nothing}
 use Rattle.at_cache.proofs.Came.{none_by}
 use Rattle.at_cache.proofs.Index.{kept_at}
 use Rattle.at_cache.proofs.Moving.{at_none}

@@ -1,21 +1,5 @@
 -- The slot of an instance's entry.
-use Rattle.std.proofs.Common.{◌≡◌, ℕ, Bool, List, [], Option, None, Some, IfSome, ap, if◌then◌else◌, is_some, option_map, refl, subst, sym, false, true, ◌∙◌}
-use Rattle.std.specs.Map.{lookup}
-use Rattle.std.proofs.lemmas.Option.{none-some, same_Some}
-use Rattle.slab.specs.Slab.{get}
-use Rattle.at_model.specs.Run.{Instance}
-use Rattle.at_body.specs.Same.{same_instance}
-use Rattle.at_body.proofs.SamenessLemmas.{same_true}
-use Rattle.at_cache.specs.declared.entry.Entry.{Entry}
-use Rattle.at_cache.specs.declared.standing.Standing.{Standing}
-use Rattle.at_cache.specs.declared.table.Table.{Table}
-use Rattle.at_index.specs.declared.edge.Edge.{Edge}
-use Rattle.at_index.specs.Edges.{edges_in}
-use Rattle.at_cache.specs.Info.{Info, info, memory_of}
-use Rattle.at_cache.specs.Placed.{at}
-use Rattle.at_cache.specs.Putting.{users_at}
-use Rattle.at_cache.specs.Standings.{held_of, standing_of}
-use Rattle.at_cache.specs.Theirs.{HasSlot}
+use Rattle.at_cache.proofs.Common.{◌≡◌, ℕ, Bool, List, [], Option, None, Some, IfSome, ap, if◌then◌else◌, is_some, option_map, refl, subst, sym, false, true, ◌∙◌, lookup, none-some, same_Some, get, Instance, same_instance, same_true, Entry, Standing, Table, Edge, edges_in, Info, info, memory_of, at, users_at, held_of, standing_of, HasSlot}
 use Rattle.at_cache.proofs.of_cut.HeldSlots.{entry_in}
 
 -- the users of what is in the slot

@@ -1,21 +1,5 @@
 -- What can be kept again stays so.
-use Rattle.std.proofs.Common.{◌≡◌, ◌⊎◌, inl, inr, ℕ, List, Bool, true, false, Option, None, Some, IsSome, is_some, if◌then◌else◌, option_map, refl, sym, ap, ◌∙◌, subst, true≢false}
-use Rattle.std.specs.Map.{lookup}
-use Rattle.std.specs.Option.{option_and_then}
-use Rattle.std.proofs.lemmas.Option.{none-some, same_Some}
-use Rattle.at_model.specs.Run.{Instance, Location, Value}
-use Rattle.at_body.specs.Same.{same_instance}
-use Rattle.at_body.specs.Sameness.{instances_equiv}
-use Rattle.at_body.proofs.SamenessLemmas.{same_true}
-use Rattle.at_index.specs.declared.edge.Edge.{Edge}
-use Rattle.at_cache.specs.declared.entry.Entry.{Entry}
-use Rattle.at_cache.specs.declared.keeper.Order.{Order}
-use Rattle.at_cache.specs.declared.standing.Standing.{Standing}
-use Rattle.at_cache.specs.declared.table.Table.{Table}
-use Rattle.at_cache.specs.Info.{Info, memory_of}
-use Rattle.at_cache.specs.Kept.{Entries, Puts}
-use Rattle.at_cache.specs.Standings.{last_of, remembered, standing_of, trace_at, trace_of}
-use Rattle.at_cache.specs.Traced.{AreAlike, IsSpared, IsStill, IsTraceOf, KeepsTrace, Memories, PutsTrace, SparesOthers, Trace, TracesKept}
+use Rattle.at_cache.proofs.Common.{◌≡◌, ◌⊎◌, inl, inr, ℕ, List, Bool, true, false, Option, None, Some, IsSome, is_some, if◌then◌else◌, option_map, refl, sym, ap, ◌∙◌, subst, true≢false, lookup, option_and_then, none-some, same_Some, Instance, Location, Value, same_instance, instances_equiv, same_true, Edge, Entry, Order, Standing, Table, Info, memory_of, Entries, Puts, last_of, remembered, standing_of, trace_at, trace_of, AreAlike, IsSpared, IsStill, IsTraceOf, KeepsTrace, Memories, PutsTrace, SparesOthers, Trace, TracesKept}
 use Rattle.at_cache.proofs.of_cut.HeldSlots.{entry_in, slot_of}
 use Rattle.at_cache.proofs.of_cut.Retraced.{last_slot, trace_is, traced_of, traced_slot}
 

@@ -1,17 +1,6 @@
 -- Edges of an entry that doesn't come, seen from all that is in memory.
-use Rattle.std.proofs.Common.{◌≡◌, inl, inr, ℕ, ◌+◌, List, Bool, true, false, Option, None, Some, Contains, nat_eq, refl, sym, ap, ◌∙◌, subst, arith}
-use Rattle.std.specs.List.{list_any}
-use Rattle.at_model.specs.Run.{Location}
-use Rattle.at_index.specs.declared.edge.Edge.{Edge}
-use Rattle.at_cache.specs.declared.standing.Standing.{Standing}
-use Rattle.at_cache.specs.Info.{Info, Memory}
-use Rattle.at_index.specs.Linking.{Reads}
-use Rattle.at_cache.specs.Putting.{Uses, users_at, is_current}
-use Rattle.at_cache.specs.Recorded.{edge_to}
-use Rattle.at_index.specs.Edges.{is_listed}
-use Rattle.at_cache.specs.Standings.{IsTied, alive, is_tied}
+use Rattle.at_cache.proofs.Common.{◌≡◌, inl, inr, ℕ, ◌+◌, List, Bool, true, false, Option, None, Some, Contains, nat_eq, refl, sym, ap, ◌∙◌, subst, arith, list_any, Location, Edge, Standing, Info, Memory, Reads, Uses, users_at, is_current, edge_to, is_listed, IsTied, alive, is_tied, has, is_in}
 use Rattle.at_cache.proofs.of_cut.Alive.{tells_on}
-use Rattle.at_index.proofs.Listing.{has, is_in}
 use Rattle.at_cache.proofs.Users.{back, users_of}
 
 -- an edge to one that used what is in the slot

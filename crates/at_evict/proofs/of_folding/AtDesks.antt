@@ -1,23 +1,8 @@
 -- The lists of drawers are rewritten where those of all desks are.
-use Rattle.std.proofs.Common.{◌≡◌, ℕ, zero, suc, List, [], ◌∷◌, Bool, true, false, cond, Option, None, Some, Result, OnOk, nat_eq, slice_get, refl, sym, ap, ◌∙◌, subst}
-use Rattle.std.specs.Map.{lookup}
-use Rattle.std.proofs.lemmas.Option.{none-some, same_Some}
-use Rattle.std.proofs.lemmas.Result.{on_ok_weaker}
-use Rattle.smallvec.specs.SmallVec.{SmallVec}
+use Rattle.at_evict.proofs.Common.{◌≡◌, ℕ, zero, suc, List, [], ◌∷◌, Bool, true, false, cond, Option, None, Some, Result, OnOk, nat_eq, slice_get, refl, sym, ap, ◌∙◌, subst, lookup, none-some, same_Some, on_ok_weaker, SmallVec, Location, Is, Tok, Slot, Up, Idx, Drawer, Edge, Edges, Readers, desk_edges, drawer_at, edges_in_desks, edges_in, own_edges, edges_at, same_location, AreDesksRefolded, IsDeskRefolded, IsNodeOfDesks, Refolded}
 use Rattle.indexmap.specs.IndexMap.{set_value_at}
-use Rattle.at_model.specs.Run.{Location, Is, Tok, Slot, Up, Idx, Drawer}
 use Rattle.at_index.specs.declared.desk.Desks.{Desks}
 use Rattle.at_index.specs.declared.desk.Spot.{Spot}
-use Rattle.at_index.specs.declared.edge.Edge.{Edge}
-use Rattle.at_index.specs.declared.edge.Edges.{Edges}
-use Rattle.at_index.specs.declared.facet.Readers.{Readers}
-use Rattle.at_index.specs.Desks.{desk_edges, drawer_at, edges_in_desks}
-use Rattle.at_index.specs.Edges.{edges_in}
-use Rattle.at_index.specs.Finding.{own_edges}
-use Rattle.at_index.specs.Readers.{edges_at}
-use Rattle.at_index.specs.Sameness.{same_location}
-use Rattle.at_evict.specs.Desks.{AreDesksRefolded, IsDeskRefolded, IsNodeOfDesks}
-use Rattle.at_evict.specs.Folding.{Refolded}
 use Rattle.at_evict.proofs.of_folding.Nodes.{refolded_append, refolded_none}
 
 -- another value at a place

@@ -1,9 +1,6 @@
 -- Lists in which each slot stands once.
-use Rattle.std.proofs.Common.{◌≡◌, inl, inr, ℕ, List, Contains, IsPermutation, eqb, sym, subst}
-use Rattle.std.specs.List.{dedup}
+use Rattle.at_evict.proofs.Common.{◌≡◌, inl, inr, ℕ, List, Contains, IsPermutation, eqb, sym, subst, dedup, Contains-permutation, IsPermutation-sym, HasSame, Linked}
 use Rattle.std.proofs.lemmas.List.Kept.{Contains-dedup_nat, Contains-from_dedup}
-use Rattle.std.proofs.lemmas.List.Sorted.{Contains-permutation, IsPermutation-sym}
-use Rattle.at_evict.specs.Folding.{HasSame, Linked}
 
 -- in order, and each once
 pub same_sorted : (xs sorted : List ℕ) → IsPermutation xs sorted → HasSame xs (dedup eqb sorted)

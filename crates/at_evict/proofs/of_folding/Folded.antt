@@ -1,19 +1,7 @@
 -- An entry that stays stands for what it stood for, where others are folded into it.
-use Rattle.std.proofs.Common.{◌≡◌, inl, inr, ℕ, zero, suc, ◌<◌, ◌≤◌, ◌+◌, List, true, true≢false, Option, None, Some, Contains, option_map, refl, sym, ap, ◌∙◌, subst, arith}
-use Rattle.std.specs.List.{list_any}
-use Rattle.std.proofs.lemmas.Option.{none-some, same_Some}
-use Rattle.at_model.specs.Run.{Location}
-use Rattle.at_index.specs.declared.edge.Edge.{Edge}
-use Rattle.at_evict.specs.Folding.{Folded, Folds, IsLeft, Rewritten, Tells}
-use Rattle.at_cache.specs.Info.{Info, Memory}
-use Rattle.at_cache.specs.Recorded.{covers, edge_to}
-use Rattle.at_index.specs.Edges.{is_listed}
-use Rattle.at_index.proofs.Lists.{agree, any_of, some_of}
-use Rattle.std.proofs.lemmas.Bool.{or_cases, or_left, or_right}
+use Rattle.at_evict.proofs.Common.{◌≡◌, inl, inr, ℕ, zero, suc, ◌<◌, ◌≤◌, ◌+◌, List, true, true≢false, Option, None, Some, Contains, option_map, refl, sym, ap, ◌∙◌, subst, arith, list_any, none-some, same_Some, Location, Edge, Folded, Folds, IsLeft, Rewritten, Tells, Info, Memory, covers, edge_to, is_listed, agree, any_of, some_of, or_cases, or_left, or_right, has, is_in, Index, Standing, kept_at, standing}
 use Rattle.at_cache.proofs.Ending.{far_enough, opened}
-use Rattle.at_index.proofs.Listing.{has, is_in}
 use Rattle.at_cache.proofs.Entered.{kept_of}
-use Rattle.at_cache.proofs.Index.{Index, Standing, kept_at, standing}
 
 module _ {lists later : Location ℕ → List Edge} {puts : ℕ} {m n : Memory} {into : ℕ → List ℕ} (i : Index lists puts m) (j : Index later puts n) (plan : Folds m into) (d : Folded lists m into later n) (l : Location ℕ) where
   old_more : (s : ℕ) (e : Info) → m s ≡ Some e → covers lists m (suc puts) s l ≡ true → covers lists m puts s l ≡ true

@@ -1,16 +1,5 @@
 -- What is gathered for a list, and the list that is made of it.
-use Rattle.std.proofs.Common.{◌≡◌, ◌⊎◌, inl, inr, ℕ, zero, suc, List, [], ◌∷◌, ◌++◌, Bool, true, false, true≢false, nat_eq, Some, Contains, length, replicate, slice_get, slice_set, take, refl, sym, ap, ◌∙◌, subst, arith, eqb-true}
-use Rattle.std.specs.List.{list_any}
-use Rattle.std.proofs.lemmas.Bool.{eq-eqb}
-use Rattle.std.proofs.lemmas.Option.{none-some, same_Some}
-use Rattle.std.proofs.lemmas.List.Elements.{Contains-append_cases, Contains-append_left, Contains-append_right}
-use Rattle.slab.proofs.SlabLemmas.{Contains-cons_cases}
-use Rattle.at_index.specs.declared.edge.Edge.{Edge}
-use Rattle.at_evict.specs.Folding.{AreAlone, AreLone, Gathered, HasUser, Refolded, Stays}
-use Rattle.at_cache.proofs.Users.{told_of}
-use Rattle.at_cache.specs.Info.{Info, Memory}
-use Rattle.at_cache.specs.Putting.{is_current}
-use Rattle.at_index.proofs.Lists.{any_of, some_of, head_of, none_in}
+use Rattle.at_evict.proofs.Common.{◌≡◌, ◌⊎◌, inl, inr, ℕ, zero, suc, List, [], ◌∷◌, ◌++◌, Bool, true, false, true≢false, nat_eq, Some, Contains, length, replicate, slice_get, slice_set, take, refl, sym, ap, ◌∙◌, subst, arith, eqb-true, list_any, eq-eqb, none-some, same_Some, Contains-append_cases, Contains-append_left, Contains-append_right, Contains-cons_cases, Edge, AreAlone, AreLone, Gathered, HasUser, Refolded, Stays, told_of, Info, Memory, is_current, any_of, some_of, head_of, none_in}
 
 -- a number is one of these, by a test and back
 pub is_one : (xs : List ℕ) (x : ℕ) → list_any (nat_eq x) xs ≡ true → Contains xs x

@@ -1,22 +1,6 @@
 -- What is looked at of a node by the same entries has one list of edges.
-use Rattle.std.proofs.Common.{◌≡◌, ◌⊎◌, inl, inr, ℕ, zero, suc, ◌<◌, ◌+◌, ◌||◌, get_or, List, [], ◌∷◌, Bool, true, false, cond, Option, None, Some, IfSome, Contains, if◌then◌else◌, length, nat_eq, eqb-true, refl, length-set, slice_get, slice_set, swap_remove, IsPermutation, sym, ap, ◌∙◌, subst, arith}
-use Rattle.std.proofs.lemmas.Option.{get_or_from_slice_get, same_Some}
-use Rattle.std.proofs.lemmas.List.Sorted.{Contains-permutation, IsPermutation-swap_remove, IsPermutation-sym}
-use Rattle.slab.proofs.SlabLemmas.{Contains-cons, Contains-cons_cases}
-use Rattle.at_model.specs.Run.{Location}
-use Rattle.at_index.specs.declared.edge.Edge.{Edge}
+use Rattle.at_evict.proofs.Common.{◌≡◌, ◌⊎◌, inl, inr, ℕ, zero, suc, ◌<◌, ◌+◌, ◌||◌, get_or, List, [], ◌∷◌, Bool, true, false, cond, Option, None, Some, IfSome, Contains, if◌then◌else◌, length, nat_eq, eqb-true, refl, length-set, slice_get, slice_set, swap_remove, IsPermutation, sym, ap, ◌∙◌, subst, arith, get_or_from_slice_get, same_Some, Contains-permutation, IsPermutation-swap_remove, IsPermutation-sym, Contains-cons, Contains-cons_cases, Location, Edge, Readers, edges_in, AreRefolded, AreJoint, HaveSame, Joins, edges_among, stands_for, head_of, get_contains, none_in, get_other, get_same, stayed, slice_get_within, got, along_from, along_to}
 use Rattle.at_index.specs.declared.facet.Facet.{Facet}
-use Rattle.at_index.specs.declared.facet.Readers.{Readers}
-use Rattle.at_index.specs.Edges.{edges_in}
-use Rattle.at_evict.specs.Folding.{AreRefolded}
-use Rattle.at_evict.specs.Joining.{AreJoint, HaveSame, Joins}
-use Rattle.at_index.specs.Readers.{edges_among, stands_for}
-use Rattle.at_index.proofs.Lists.{head_of, get_contains, none_in}
-use Rattle.at_index.proofs.Gained.{get_other, get_same}
-use Rattle.at_cache.proofs.Moving.{stayed}
-use Rattle.std.proofs.lemmas.Option.{slice_get_within}
-use Rattle.at_index.proofs.Lists.{got}
-use Rattle.at_index.proofs.RowLists.{along_from, along_to}
 
 pub same_none : (rs : List Readers) → HaveSame rs rs
 same_none rs = record { kept = λ n l x c. c; from = λ n l x c. c }

@@ -1,13 +1,5 @@
 -- The links of entries into which others are folded, and the memory that has them.
-use Rattle.std.proofs.Common.{◌≡◌, ◌⊎◌, inl, inr, ℕ, zero, suc, ◌+◌, List, [], ◌∷◌, ◌++◌, Option, None, Some, Contains, slice_get, slice_set, refl, sym, ap, ◌∙◌, subst}
-use Rattle.std.proofs.lemmas.Bool.{cases_eq}
-use Rattle.std.proofs.lemmas.Option.{none-some, same_Some}
-use Rattle.std.proofs.lemmas.List.Elements.{Contains-append_cases, Contains-append_left, Contains-append_right, Contains-push_cases}
-use Rattle.smallvec.specs.SmallVec.{SmallVec}
-use Rattle.at_evict.specs.Folding.{HasLinked, Linked, LinkedTo, Stays, listed_at, slots_at}
-use Rattle.at_cache.specs.Info.{Info, Memory}
-use Rattle.at_index.proofs.Lists.{head_of, none_in}
-use Rattle.at_index.proofs.Gained.{get_other, get_same}
+use Rattle.at_evict.proofs.Common.{◌≡◌, ◌⊎◌, inl, inr, ℕ, zero, suc, ◌+◌, List, [], ◌∷◌, ◌++◌, Option, None, Some, Contains, slice_get, slice_set, refl, sym, ap, ◌∙◌, subst, cases_eq, none-some, same_Some, Contains-append_cases, Contains-append_left, Contains-append_right, Contains-push_cases, SmallVec, HasLinked, Linked, LinkedTo, Stays, listed_at, slots_at, Info, Memory, head_of, none_in, get_other, get_same}
 use Rattle.at_evict.proofs.of_folding.Gathering.{only_one}
 
 abbrev pub list_of : Option (SmallVec ℕ) → List ℕ

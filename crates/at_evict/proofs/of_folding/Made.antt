@@ -1,15 +1,5 @@
 -- What comes of a folding: the entries that stay stand for what they stood for.
-use Rattle.std.proofs.Common.{◌≡◌, inl, inr, ℕ, zero, suc, ◌≤◌, ◌+◌, List, Option, None, Some, Contains, refl, sym, ap, ◌∙◌, subst, arith}
-use Rattle.std.proofs.lemmas.Bool.{cases_eq}
-use Rattle.std.proofs.lemmas.Option.{none-some, same_Some}
-use Rattle.at_model.specs.Run.{Location}
-use Rattle.at_index.specs.declared.edge.Edge.{Edge}
-use Rattle.at_evict.specs.Folding.{AreLinks, Folded, Folds, IsLeft, IsRelinked, Linked, Refolded, Relinks, Remains, Rewritten, Stays}
-use Rattle.at_cache.specs.Info.{Info, Memory}
-use Rattle.at_cache.specs.Putting.{is_current}
-use Rattle.at_cache.specs.Recorded.{edge_to}
-use Rattle.at_cache.proofs.Index.{Index, Standing, kept_at}
-use Rattle.at_cache.proofs.Users.{current, told_of}
+use Rattle.at_evict.proofs.Common.{◌≡◌, inl, inr, ℕ, zero, suc, ◌≤◌, ◌+◌, List, Option, None, Some, Contains, refl, sym, ap, ◌∙◌, subst, arith, cases_eq, none-some, same_Some, Location, Edge, AreLinks, Folded, Folds, IsLeft, IsRelinked, Linked, Refolded, Relinks, Remains, Rewritten, Stays, Info, Memory, is_current, edge_to, Index, Standing, kept_at, current, told_of}
 use Rattle.at_evict.proofs.of_folding.Folded.{folded_indexed, kept_folded}
 
 module _ {lists later : Location ℕ → List Edge} {puts : ℕ} {m mid n : Memory} {into links : ℕ → List ℕ} (i : Index lists puts m) (plan : Folds m into) (readers : (l : Location ℕ) → Refolded (is_current m) into (lists l) (later l)) (linked : AreLinks m into links) (relinked : Relinks into links m mid) (left : Remains into mid n) where

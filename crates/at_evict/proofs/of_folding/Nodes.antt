@@ -1,18 +1,5 @@
 -- The lists of all locations are rewritten where those of all facets are.
-use Rattle.std.proofs.Common.{◌≡◌, inl, inr, ℕ, zero, suc, List, [], ◌∷◌, ◌++◌, Bool, true, false, cond, Option, None, Some, slice_get, sym, ap, ◌∙◌, subst}
-use Rattle.std.proofs.lemmas.Option.{none-some, same_Some}
-use Rattle.std.proofs.lemmas.List.Elements.{Contains-append_cases, Contains-append_left, Contains-append_right}
-use Rattle.smallvec.specs.SmallVec.{SmallVec}
-use Rattle.at_model.specs.Run.{Location, Idx}
-use Rattle.at_index.specs.declared.edge.Edge.{Edge}
-use Rattle.at_index.specs.declared.facet.Readers.{Readers}
-use Rattle.at_index.specs.Asking.{AreNoted}
-use Rattle.at_index.specs.Edges.{edges_in}
-use Rattle.at_evict.specs.Folding.{AreRefolded, IsNodeRefolded, IsRefolded, Refolded}
-use Rattle.at_index.specs.Sameness.{node_at}
-use Rattle.at_index.specs.Readers.{edges_among, edges_at, stands_for}
-use Rattle.at_index.proofs.Listing.{has, is_in}
-use Rattle.at_index.proofs.Lists.{none_in}
+use Rattle.at_evict.proofs.Common.{◌≡◌, inl, inr, ℕ, zero, suc, List, [], ◌∷◌, ◌++◌, Bool, true, false, cond, Option, None, Some, slice_get, sym, ap, ◌∙◌, subst, none-some, same_Some, Contains-append_cases, Contains-append_left, Contains-append_right, SmallVec, Location, Idx, Edge, Readers, AreNoted, edges_in, AreRefolded, IsNodeRefolded, IsRefolded, Refolded, node_at, edges_among, edges_at, stands_for, has, is_in, none_in}
 use Rattle.at_evict.proofs.of_folding.Gathering.{user_of}
 
 abbrev edges_of : Location ℕ → Option (SmallVec Readers) → List Edge

@@ -1,23 +1,5 @@
 -- What is kept of a list that is made anew, and the edges that are added.
-use Rattle.std.proofs.Common.{◌≡◌, ◌⊎◌, inl, inr, ℕ, ◌<◌, ◌≤◌, ◌+◌, ◌-◌, List, [], ◌∷◌, ◌++◌, true, None, Some, Contains, IsPermutation, get_or, slice_get, swap_remove, take, length, sym, ap, ◌∙◌, subst, arith}
-use Rattle.std.proofs.lemmas.Bool.{cases_eq, cases_lt}
-use Rattle.std.proofs.lemmas.List.{get_or_default, take_more}
-use Rattle.std.proofs.lemmas.List.Elements.{Contains-append_left, Contains-push, Contains-push_cases}
-use Rattle.std.proofs.lemmas.List.Sorted.{Contains-permutation, IsPermutation-swap_remove, IsPermutation-sym}
-use Rattle.std.proofs.lemmas.Option.{none-some, same_Some}
-use Rattle.slab.proofs.SlabLemmas.{Contains-cons, Contains-cons_cases}
-use Rattle.at_index.specs.declared.edge.Edge.{Edge}
-use Rattle.at_index.specs.declared.row.Row.{Row}
-use Rattle.at_evict.specs.Folding.{Added, AreAlone, Gathered, HasUser, Parted, Refolded}
-use Rattle.at_cache.proofs.Users.{told_of}
-use Rattle.at_cache.specs.Info.{Memory}
-use Rattle.at_index.specs.Linking.{Lists}
-use Rattle.at_cache.specs.Putting.{is_current}
-use Rattle.at_index.specs.Rows.{edges_along, edges_of}
-use Rattle.at_index.proofs.Lists.{head_of, none_in}
-use Rattle.at_cache.proofs.Moving.{past, stayed}
-use Rattle.at_index.proofs.Lists.{got}
-use Rattle.at_index.proofs.RowLists.{along_from, along_has, along_to}
+use Rattle.at_evict.proofs.Common.{◌≡◌, ◌⊎◌, inl, inr, ℕ, ◌<◌, ◌≤◌, ◌+◌, ◌-◌, List, [], ◌∷◌, ◌++◌, true, None, Some, Contains, IsPermutation, get_or, slice_get, swap_remove, take, length, sym, ap, ◌∙◌, subst, arith, cases_eq, cases_lt, get_or_default, take_more, Contains-append_left, Contains-push, Contains-push_cases, Contains-permutation, IsPermutation-swap_remove, IsPermutation-sym, none-some, same_Some, Contains-cons, Contains-cons_cases, Edge, Row, Added, AreAlone, Gathered, HasUser, Parted, Refolded, told_of, Memory, Lists, is_current, edges_along, edges_of, head_of, none_in, past, stayed, got, along_from, along_has, along_to}
 use Rattle.at_evict.proofs.of_folding.Gathering.{only_one, told_same, user_of}
 
 module _ (m : Memory) (into : ℕ → List ℕ) where

@@ -1,15 +1,5 @@
 -- What stands at places is rewritten, one place behind the other.
-use Rattle.std.proofs.Common.{◌≡◌, inl, inr, ℕ, zero, suc, ◌<◌, ◌≤◌, ◌+◌, List, [], ◌∷◌, length, Option, None, Some, Result, OnOk, get_or, slice_get, slice_set, refl, sym, ap, ◌∙◌, subst, arith, Bool}
-use Rattle.std.proofs.lemmas.Bool.{cases_lt}
-use Rattle.std.proofs.lemmas.Result.{on_ok_weaker}
-use Rattle.smallvec.specs.SmallVec.{SmallVec}
-use Rattle.at_index.specs.declared.edge.Edge.{Edge}
-use Rattle.at_index.specs.declared.edge.Edges.{Edges}
-use Rattle.at_index.specs.declared.facet.Readers.{Readers}
-use Rattle.at_index.specs.Edges.{edges_in}
-use Rattle.at_evict.specs.Folding.{AreRefolded, IsNodeRefolded, IsRefolded, Refolded}
-use Rattle.at_index.proofs.Gained.{get_same}
-use Rattle.at_index.proofs.Lists.{got}
+use Rattle.at_evict.proofs.Common.{◌≡◌, inl, inr, ℕ, zero, suc, ◌<◌, ◌≤◌, ◌+◌, List, [], ◌∷◌, length, Option, None, Some, Result, OnOk, get_or, slice_get, slice_set, refl, sym, ap, ◌∙◌, subst, arith, Bool, cases_lt, on_ok_weaker, SmallVec, Edge, Edges, Readers, edges_in, AreRefolded, IsNodeRefolded, IsRefolded, Refolded, get_same, got}
 
 -- What stands at the first places is so; the others are as they were.
 pub record Below {T : Type 0} (P : Option T → Option T → Type 0) (n : ℕ) (old new : List T) : Type 0 where

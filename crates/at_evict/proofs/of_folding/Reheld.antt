@@ -1,19 +1,8 @@
 -- Entries that are kept are folded as others are: by the numbers that they came to be kept with.
-use Rattle.std.proofs.Common.{◌≡◌, ◌⊎◌, ℕ, List, Bool, true, false, Option, None, Some, option_map, nat_eq, Contains, refl, sym, ap, ◌∙◌, subst}
-use Rattle.std.specs.Option.{option_and_then}
-use Rattle.std.proofs.lemmas.Option.{none-some, same_Some}
-use Rattle.at_model.specs.Run.{Location}
-use Rattle.at_index.specs.declared.edge.Edge.{Edge}
+use Rattle.at_evict.proofs.Common.{◌≡◌, ◌⊎◌, ℕ, List, Bool, true, false, Option, None, Some, option_map, nat_eq, Contains, refl, sym, ap, ◌∙◌, subst, option_and_then, none-some, same_Some, Location, Edge, Table, AreLinks, Folds, FoldsAt, HasUsed, HasUser, IsRelinked, Refolded, Relinks, Remains, Info, Memory, memory_of, is_current, IsIndexed, AreHeld, held, shown, standing_of, Index, kept_at}
 use Rattle.at_cache.specs.declared.standing.Standing.{Standing}
-use Rattle.at_cache.specs.declared.table.Table.{Table}
-use Rattle.at_evict.specs.Folding.{AreLinks, Folds, FoldsAt, HasUsed, HasUser, IsRelinked, Refolded, Relinks, Remains}
-use Rattle.at_cache.specs.Info.{Info, Memory, memory_of}
-use Rattle.at_cache.specs.Putting.{is_current}
-use Rattle.at_cache.specs.Recorded.{IsIndexed}
-use Rattle.at_cache.specs.Shedding.{AreHeld, FoldsHeld}
-use Rattle.at_cache.specs.Standings.{held, shown, standing_of}
+use Rattle.at_cache.specs.Shedding.{FoldsHeld}
 use Rattle.at_cache.proofs.Index as index
-use Rattle.at_cache.proofs.Index.{Index, kept_at}
 use Rattle.at_cache.proofs.Showing.{leaves_of}
 use Rattle.at_cache.proofs.Testing.{indexed_by, tested}
 use Rattle.at_cache.proofs.of_cut.Again.{held_as, held_on}

@@ -1,15 +1,6 @@
 -- The memory in which entries are linked anew, and those are gone that don't stay.
-use Rattle.std.proofs.Common.{◌≡◌, inl, inr, ℕ, ◌<◌, ◌≤◌, ◌+◌, List, [], Bool, true, false, nat_eq, length, Option, None, Some, true≢false, is_some, IfNone, OnSome, option_map, if◌then◌else◌, Contains, get_or, slice_get, refl, sym, ap, ◌∙◌, subst, arith}
-use Rattle.std.proofs.lemmas.Bool.{cases_eq, cases_lt, eq-eqb, ne_eqb}
-use Rattle.std.proofs.lemmas.Option.{none-some, same_Some}
-use Rattle.at_index.specs.declared.edge.Edge.{Edge}
-use Rattle.at_evict.specs.Folding.{AreAlone, AreOrdered, AreTaken, IsRelinked, Linked, Refolded, Relinks, RelinksAt, RemovesAt, Stays}
-use Rattle.at_cache.specs.Info.{Info, Memory}
-use Rattle.at_cache.specs.Putting.{is_current, reused, users_at, with_users}
-use Rattle.at_cache.specs.Slots.{relinked}
+use Rattle.at_evict.proofs.Common.{◌≡◌, inl, inr, ℕ, ◌<◌, ◌≤◌, ◌+◌, List, [], Bool, true, false, nat_eq, length, Option, None, Some, true≢false, is_some, IfNone, OnSome, option_map, if◌then◌else◌, Contains, get_or, slice_get, refl, sym, ap, ◌∙◌, subst, arith, cases_eq, cases_lt, eq-eqb, ne_eqb, none-some, same_Some, Edge, AreAlone, AreOrdered, AreTaken, IsRelinked, Linked, Refolded, Relinks, RelinksAt, RemovesAt, Stays, Info, Memory, is_current, reused, users_at, with_users, relinked, got, none_in}
 use Rattle.at_cache.proofs.Came.{none_by}
-use Rattle.at_index.proofs.Lists.{got}
-use Rattle.at_index.proofs.Lists.{none_in}
 use Rattle.at_evict.proofs.of_folding.Gathering.{refolded_alone}
 
 -- what is written at one slot

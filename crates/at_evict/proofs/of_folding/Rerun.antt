@@ -1,26 +1,6 @@
 -- Edges of runs are made anew, one behind the other.
-use Rattle.std.proofs.Common.{◌≡◌, inl, inr, ℕ, ◌<◌, ◌+◌, List, [], ◌∷◌, ◌++◌, ◌&&◌, Bool, true, false, true≢false, cond, not, nat_eq, nat_lt, Option, None, Some, Contains, get_or, take, length, slice_get, slice_set, refl, sym, ap, ◌∙◌, subst, eqb-true, arith}
-use Rattle.std.specs.List.{list_any}
-use Rattle.std.proofs.lemmas.Bool.{eq-eqb, le-ltb, ltb-false, and_from}
-use Rattle.std.proofs.lemmas.List.{take_more}
-use Rattle.std.proofs.lemmas.List.Elements.{Contains-append_cases, Contains-append_left, Contains-append_right, Contains-push, Contains-push_cases}
-use Rattle.std.proofs.lemmas.Option.{none-some}
-use Rattle.at_model.specs.Run.{Location}
-use Rattle.at_index.specs.declared.edge.Edge.{Edge}
-use Rattle.at_index.specs.declared.run.Reach.{Reach}
+use Rattle.at_evict.proofs.Common.{◌≡◌, inl, inr, ℕ, ◌<◌, ◌+◌, List, [], ◌∷◌, ◌++◌, ◌&&◌, Bool, true, false, true≢false, cond, not, nat_eq, nat_lt, Option, None, Some, Contains, get_or, take, length, slice_get, slice_set, refl, sym, ap, ◌∙◌, subst, eqb-true, arith, list_any, eq-eqb, le-ltb, ltb-false, and_from, take_more, Contains-append_cases, Contains-append_left, Contains-append_right, Contains-push, Contains-push_cases, none-some, Location, Edge, Reach, Seat, HasUser, Refolded, told_of, Memory, node_at, is_current, same_edge, AreRerun, Covers, GoNoFurther, IsOver, IsRerun, Reaches, is_as_wide, targets_of, AreSeated, edges_on, edges_over, edges_past, is_seen, lies, both, some_of, none_in, get_same}
 use Rattle.at_index.specs.declared.run.Run.{Run}
-use Rattle.at_index.specs.declared.run.Seat.{Seat}
-use Rattle.at_evict.specs.Folding.{HasUser, Refolded}
-use Rattle.at_cache.proofs.Users.{told_of}
-use Rattle.at_cache.specs.Info.{Memory}
-use Rattle.at_index.specs.Sameness.{node_at}
-use Rattle.at_cache.specs.Putting.{is_current}
-use Rattle.at_index.specs.Edges.{same_edge}
-use Rattle.at_evict.specs.Rerunning.{AreRerun, Covers, GoNoFurther, IsOver, IsRerun, Reaches, is_as_wide, targets_of}
-use Rattle.at_index.specs.Runs.{AreSeated, edges_on, edges_over, edges_past, is_seen, lies}
-use Rattle.at_model.proofs.Options.{both}
-use Rattle.at_index.proofs.Lists.{some_of, none_in}
-use Rattle.at_index.proofs.Gained.{get_same}
 use Rattle.at_evict.proofs.of_folding.Gathering.{only_one, told_same}
 use Rattle.at_evict.proofs.of_folding.Nodes.{refolded_append, refolded_none}
 use Rattle.at_index.proofs.of_runs.Following.{in_lies, lies_in}

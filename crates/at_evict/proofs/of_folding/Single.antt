@@ -1,14 +1,5 @@
 -- What comes in the place of one edge.
-use Rattle.std.proofs.Common.{◌≡◌, ℕ, List, [], ◌∷◌, true, false, true≢false, Option, None, Some, IfSome, Contains, refl, sym, ap, ◌∙◌, subst}
-use Rattle.at_index.specs.declared.edge.Edge.{Edge}
-use Rattle.at_index.specs.declared.edge.Edges.{Edges}
-use Rattle.at_index.specs.Edges.{edges_in}
-use Rattle.at_evict.specs.Folding.{HasUser, Refolded}
-use Rattle.at_cache.specs.Info.{Info, Memory}
-use Rattle.at_cache.specs.Putting.{is_current}
-use Rattle.at_cache.specs.Recorded.{edge_to}
-use Rattle.at_index.proofs.Lists.{head_of, none_in}
-use Rattle.at_cache.proofs.Users.{current}
+use Rattle.at_evict.proofs.Common.{◌≡◌, ℕ, List, [], ◌∷◌, true, false, true≢false, Option, None, Some, IfSome, Contains, refl, sym, ap, ◌∙◌, subst, Edge, Edges, edges_in, HasUser, Refolded, Info, Memory, is_current, edge_to, head_of, none_in, current}
 use Rattle.at_evict.proofs.of_folding.Gathering.{only_one, told_same}
 
 module _ (m : Memory) (into : ℕ → List ℕ) (x : Edge) where

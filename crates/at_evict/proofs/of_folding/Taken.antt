@@ -1,18 +1,5 @@
 -- The slots of all entries, and what is done to each of these.
-use Rattle.std.proofs.Common.{◌≡◌, inl, inr, ℕ, ◌<◌, ◌≤◌, ◌+◌, List, [], ◌∷◌, ◌++◌, Option, None, Some, option_map, Contains, get_or, take, length, slice_get, refl, sym, ap, ◌∙◌, subst, arith}
-use Rattle.std.proofs.lemmas.Bool.{cases_eq, cases_lt}
-use Rattle.std.proofs.lemmas.List.{length_push, take_more}
-use Rattle.std.proofs.lemmas.List.Elements.{Contains-append_left, Contains-append_right, Contains-push_cases}
-use Rattle.std.proofs.lemmas.Option.{none-some, same_Some}
-use Rattle.slab.specs.Slab.{get}
-use Rattle.at_model.specs.Run.{Instance}
-use Rattle.at_cache.specs.declared.entry.Entry.{Entry}
-use Rattle.at_cache.specs.declared.table.Table.{Table}
-use Rattle.at_evict.specs.Folding.{AreLinks, AreTaken, HasLinked, HasUsed, Remains, RemovesAt, Stays}
-use Rattle.at_cache.specs.Info.{Info, Memory, info, memory_of}
-use Rattle.at_index.proofs.Lists.{head_of, get_push, none_in}
-use Rattle.at_cache.proofs.Moving.{at_none, table_by}
-use Rattle.std.proofs.lemmas.Option.{slice_get_within}
+use Rattle.at_evict.proofs.Common.{◌≡◌, inl, inr, ℕ, ◌<◌, ◌≤◌, ◌+◌, List, [], ◌∷◌, ◌++◌, Option, None, Some, option_map, Contains, get_or, take, length, slice_get, refl, sym, ap, ◌∙◌, subst, arith, cases_eq, cases_lt, length_push, take_more, Contains-append_left, Contains-append_right, Contains-push_cases, none-some, same_Some, get, Instance, Entry, Table, AreLinks, AreTaken, HasLinked, HasUsed, Remains, RemovesAt, Stays, Info, Memory, info, memory_of, head_of, get_push, none_in, at_none, table_by, slice_get_within}
 
 -- these are the slots of the entries at the first places, in their order
 pub record TakenBelow (t : Table) (n : ℕ) (slots : List ℕ) : Type 0 where

@@ -1,21 +1,5 @@
 -- What holds of each of some numbers, and what is found among rows.
-use Rattle.std.proofs.Common.{◌≡◌, ◌⊎◌, inl, inr, ℕ, ◌<◌, ◌+◌, List, [], ◌∷◌, ◌++◌, Bool, Some, Contains, get_or, take, length, refl, sym, ap, ◌∙◌, subst, append_assoc, append-nil}
-use Rattle.std.proofs.lemmas.List.{take_more}
-use Rattle.std.proofs.lemmas.List.Elements.{Contains-push_cases}
-use Rattle.std.proofs.lemmas.Option.{same_Some}
-use Rattle.at_model.specs.Run.{Instance, Location}
-use Rattle.at_index.specs.declared.edge.Edge.{Edge}
-use Rattle.at_cache.proofs.Users.{told_of}
-use Rattle.at_cache.specs.declared.entry.Entry.{Entry}
-use Rattle.at_index.specs.declared.row.Row.{Row}
-use Rattle.at_index.specs.Edges.{edges_in}
-use Rattle.at_evict.specs.Folding.{AreAlone, Folds, FoldsAt, Gathered, HasUser, IsBelow, Linked, LinkedTo}
-use Rattle.at_cache.specs.Info.{Info, Memory, info}
-use Rattle.at_cache.specs.Putting.{is_current}
-use Rattle.at_index.specs.Rows.{edges_along, edges_of}
-use Rattle.at_cache.proofs.Index.{Index}
-use Rattle.at_index.proofs.Lists.{got}
-use Rattle.at_index.proofs.RowLists.{along_end, along_has}
+use Rattle.at_evict.proofs.Common.{◌≡◌, ◌⊎◌, inl, inr, ℕ, ◌<◌, ◌+◌, List, [], ◌∷◌, ◌++◌, Bool, Some, Contains, get_or, take, length, refl, sym, ap, ◌∙◌, subst, append_assoc, append-nil, take_more, Contains-push_cases, same_Some, Instance, Location, Edge, told_of, Entry, Row, edges_in, AreAlone, Folds, FoldsAt, Gathered, HasUser, IsBelow, Linked, LinkedTo, Info, Memory, info, is_current, edges_along, edges_of, Index, got, along_end, along_has}
 use Rattle.at_evict.proofs.of_folding.Gathering.{alone_then, gathered_none, gathered_then, user_of}
 use Rattle.at_evict.proofs.of_folding.Linking.{linked_then, to_then}
 

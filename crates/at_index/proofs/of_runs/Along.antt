@@ -1,14 +1,5 @@
 -- One edge over a part of a run, in the lists of locations.
-use Rattle.std.proofs.Common.{◌≡◌, ◌⊎◌, inl, inr, ℕ, List, [], ◌&&◌, Bool, true, false, true≢false, cond, Option, None, Some, Contains, slice_get, refl, sym, ap, ◌∙◌, subst}
-use Rattle.at_model.specs.Run.{Location}
-use Rattle.at_index.specs.declared.edge.Edge.{Edge}
-use Rattle.at_index.specs.declared.run.Run.{Run}
-use Rattle.at_index.specs.declared.run.Seat.{Seat}
-use Rattle.at_index.specs.Sameness.{node_at}
-use Rattle.at_index.specs.Runs.{Adds, AddsReads, Follows, ListsBut, edges_on, edges_over, is_reached, is_seen, is_within}
-use Rattle.at_index.specs.Linking.{Keeps}
-use Rattle.std.proofs.lemmas.Bool.{and_from}
-use Rattle.at_model.proofs.Options.{both}
+use Rattle.at_index.proofs.Common.{◌≡◌, ◌⊎◌, inl, inr, ℕ, List, [], ◌&&◌, Bool, true, false, true≢false, cond, Option, None, Some, Contains, slice_get, refl, sym, ap, ◌∙◌, subst, Location, Edge, Run, Seat, node_at, Adds, AddsReads, Follows, ListsBut, edges_on, edges_over, is_reached, is_seen, is_within, Keeps, and_from, both}
 use Rattle.at_index.proofs.of_runs.Over.{over_at, over_none}
 use Rattle.at_index.proofs.Lists.{none_in}
 

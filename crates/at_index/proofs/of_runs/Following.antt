@@ -1,15 +1,5 @@
 -- Locations that go over a part of a run.
-use Rattle.std.proofs.Common.{◌≡◌, inl, inr, ℕ, ◌+◌, ◌<◌, ◌≤◌, List, ◌&&◌, Bool, true, false, not, true≢false, Option, None, Some, Contains, slice_get, nat_eq, nat_lt, refl, sym, ap, ◌∙◌, subst, arith, eqb-true}
-use Rattle.std.proofs.lemmas.Bool.{cases_Bool, cases_lt, eq-eqb, lt-ltb, le-ltb, ltb-false, ltb-true, and_from}
-use Rattle.std.proofs.lemmas.Option.{same_Some}
-use Rattle.at_model.specs.Run.{Location}
-use Rattle.at_index.specs.declared.facet.Facet.{Facet}
-use Rattle.at_index.specs.declared.run.Seat.{Seat}
-use Rattle.at_index.specs.Asking.{is_index}
-use Rattle.at_index.specs.Sameness.{node_at}
-use Rattle.at_index.specs.Readers.{IsFirst, is_of_index, stands_for}
-use Rattle.at_index.specs.Runs.{AreApart, Follows, SitsAt, is_reached, is_seen, is_within, lies}
-use Rattle.at_model.proofs.Options.{both}
+use Rattle.at_index.proofs.Common.{◌≡◌, inl, inr, ℕ, ◌+◌, ◌<◌, ◌≤◌, List, ◌&&◌, Bool, true, false, not, true≢false, Option, None, Some, Contains, slice_get, nat_eq, nat_lt, refl, sym, ap, ◌∙◌, subst, arith, eqb-true, cases_Bool, cases_lt, eq-eqb, lt-ltb, le-ltb, ltb-false, ltb-true, and_from, same_Some, Location, Facet, Seat, is_index, node_at, IsFirst, is_of_index, stands_for, AreApart, Follows, SitsAt, is_reached, is_seen, is_within, lies, both}
 use Rattle.at_index.proofs.Locations.{stands_at, stands_index}
 
 -- the node of a location sits in that part of the run

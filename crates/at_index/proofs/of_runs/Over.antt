@@ -1,20 +1,6 @@
 -- The edges over the seats of nodes, beside those of their own facets.
-use Rattle.std.proofs.Common.{◌≡◌, ◌⊎◌, inl, inr, ℕ, ◌+◌, List, [], ◌∷◌, ◌++◌, append-nil, ◌&&◌, Bool, true, false, true≢false, not, cond, Option, None, Some, Contains, slice_get, nat_eq, if◌then◌else◌, refl, sym, ap, ◌∙◌, subst, arith, eqb-true}
-use Rattle.std.proofs.lemmas.Bool.{cases_Bool, and_from}
-use Rattle.at_model.specs.Run.{Location, Idx}
-use Rattle.smallvec.specs.SmallVec.{SmallVec}
-use Rattle.at_index.specs.declared.edge.Edge.{Edge}
-use Rattle.at_index.specs.declared.facet.Readers.{Readers}
-use Rattle.at_index.specs.declared.run.Reach.{Reach}
-use Rattle.at_index.specs.declared.run.Run.{Run}
-use Rattle.at_index.specs.declared.run.Seat.{Seat}
+use Rattle.at_index.proofs.Common.{◌≡◌, ◌⊎◌, inl, inr, ℕ, ◌+◌, List, [], ◌∷◌, ◌++◌, append-nil, ◌&&◌, Bool, true, false, true≢false, not, cond, Option, None, Some, Contains, slice_get, nat_eq, if◌then◌else◌, refl, sym, ap, ◌∙◌, subst, arith, eqb-true, cases_Bool, and_from, Location, Idx, SmallVec, Edge, Readers, Reach, Run, Seat, AreNoted, Asked, is_index, looks_at, sees, node_at, is_listed, edges_at, is_of_index, stands_for, edges_on, edges_over, edges_past, is_seen, lies, both}
 use Rattle.at_index.specs.declared.scope.Scope.{Scope}
-use Rattle.at_index.specs.Asking.{AreNoted, Asked, is_index, looks_at, sees}
-use Rattle.at_index.specs.Sameness.{node_at}
-use Rattle.at_index.specs.Edges.{is_listed}
-use Rattle.at_index.specs.Readers.{edges_at, is_of_index, stands_for}
-use Rattle.at_index.specs.Runs.{edges_on, edges_over, edges_past, is_seen, lies}
-use Rattle.at_model.proofs.Options.{both}
 use Rattle.at_index.proofs.of_runs.Following.{lies_in, no_index}
 use Rattle.at_index.proofs.Locations.{stands_at, stands_index}
 use Rattle.at_index.proofs.of_runs.Reaching.{on_are}

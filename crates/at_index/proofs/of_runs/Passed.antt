@@ -1,10 +1,5 @@
 -- A flush goes along the edges of a run.
-use Rattle.std.proofs.Common.{◌≡◌, ℕ, ◌+◌, ◌<◌, List, [], ◌∷◌, ◌++◌, Bool, true, false, cond, get_or, length, sym, ap, ◌∙◌, append-nil, take}
-use Rattle.std.proofs.lemmas.List.{take_more}
-use Rattle.std.proofs.lemmas.List.Concat.{flat_map-append}
-use Rattle.at_index.specs.declared.edge.Edge.{Edge}
-use Rattle.at_index.specs.declared.run.Reach.{Reach}
-use Rattle.at_index.specs.Runs.{edges_past, lies}
+use Rattle.at_index.proofs.Common.{◌≡◌, ℕ, ◌+◌, ◌<◌, List, [], ◌∷◌, ◌++◌, Bool, true, false, cond, get_or, length, sym, ap, ◌∙◌, append-nil, take, take_more, flat_map-append, Edge, Reach, edges_past, lies}
 
 -- one edge of a run more
 module _ (place : ℕ) (edges : List Reach) (i : ℕ) (d : Reach) (less : i < length edges) where

@@ -1,16 +1,6 @@
 -- Edges of a run, some of which go, and one of which comes.
-use Rattle.std.proofs.Common.{◌≡◌, ◌⊎◌, inl, inr, ℕ, List, [], ◌∷◌, ◌++◌, Bool, true, false, cond, Option, None, Some, Contains, slice_get, slice_set, nat_eq, if◌then◌else◌, refl, sym, ap, ◌∙◌, subst, eqb-true}
-use Rattle.std.proofs.lemmas.Bool.{cases_eq, eq-eqb, and_from}
-use Rattle.std.proofs.lemmas.List.Elements.{Contains-append_left, Contains-push_cases}
-use Rattle.slab.proofs.SlabLemmas.{Contains-cons_cases}
-use Rattle.at_index.specs.declared.edge.Edge.{Edge}
-use Rattle.at_index.specs.declared.run.Reach.{Reach}
-use Rattle.at_index.specs.declared.run.Run.{Run}
-use Rattle.at_index.specs.declared.run.Seat.{Seat}
-use Rattle.at_index.specs.Runs.{Adds, Gains, edges_on, edges_past, is_live, is_within, lies}
-use Rattle.at_index.specs.Linking.{Keeps}
+use Rattle.at_index.proofs.Common.{◌≡◌, ◌⊎◌, inl, inr, ℕ, List, [], ◌∷◌, ◌++◌, Bool, true, false, cond, Option, None, Some, Contains, slice_get, slice_set, nat_eq, if◌then◌else◌, refl, sym, ap, ◌∙◌, subst, eqb-true, cases_eq, eq-eqb, and_from, Contains-append_left, Contains-push_cases, Contains-cons_cases, Edge, Reach, Run, Seat, Adds, Gains, edges_on, edges_past, is_live, is_within, lies, Keeps, both}
 use Rattle.at_index.proofs.Lists.{head_of, none_in}
-use Rattle.at_model.proofs.Options.{both}
 use Rattle.at_index.proofs.Gained.{get_other, get_same}
 use Rattle.at_index.proofs.RowLists.{along_from, along_to}
 

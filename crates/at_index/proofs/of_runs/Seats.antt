@@ -1,16 +1,5 @@
 -- Nodes come to sit in runs.
-use Rattle.std.proofs.Common.{◌-◌, get_or, nat_lt, take, ◌≡◌, ◌⊎◌, inl, inr, ℕ, zero, suc, ◌+◌, ◌<◌, ◌≤◌, List, [], ◌∷◌, ◌++◌, true, false, cond, Option, None, Some, Contains, slice_get, slice_set, length, nat_eq, refl, sym, ap, ◌∙◌, subst, arith, Bool}
-use Rattle.std.proofs.lemmas.Bool.{cases_Bool, cases_eq, eq-eqb, ltb-true}
-use Rattle.std.proofs.lemmas.Option.{none-some, same_Some, slice_get_read, slice_get_within}
-use Rattle.at_model.specs.Run.{Location}
-use Rattle.at_index.specs.declared.edge.Edge.{Edge}
-use Rattle.at_index.specs.declared.run.Reach.{Reach}
-use Rattle.at_index.specs.declared.run.Run.{Run}
-use Rattle.at_index.specs.declared.run.Seat.{Seat}
-use Rattle.at_index.specs.Sameness.{node_at}
-use Rattle.at_index.specs.Runs.{AreApart, AreGiven, ArePast, AreSeated, Follows, HoldsReach, IsFree, KeepsRuns, count_of, edges_on, edges_over, edges_past, is_live, is_seen, lies}
-use Rattle.at_index.specs.Linking.{Keeps}
-use Rattle.slab.proofs.SlabLemmas.{Contains-cons}
+use Rattle.at_index.proofs.Common.{◌-◌, get_or, nat_lt, take, ◌≡◌, ◌⊎◌, inl, inr, ℕ, zero, suc, ◌+◌, ◌<◌, ◌≤◌, List, [], ◌∷◌, ◌++◌, true, false, cond, Option, None, Some, Contains, slice_get, slice_set, length, nat_eq, refl, sym, ap, ◌∙◌, subst, arith, Bool, cases_Bool, cases_eq, eq-eqb, ltb-true, none-some, same_Some, slice_get_read, slice_get_within, Location, Edge, Reach, Run, Seat, node_at, AreApart, AreGiven, ArePast, AreSeated, Follows, HoldsReach, IsFree, KeepsRuns, count_of, edges_on, edges_over, edges_past, is_live, is_seen, lies, Keeps, Contains-cons}
 use Rattle.at_index.proofs.Lists.{head_of, none_in}
 use Rattle.at_index.proofs.of_runs.Following.{lies_in}
 use Rattle.at_index.proofs.Gained.{get_other, get_same}

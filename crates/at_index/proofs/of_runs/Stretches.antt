@@ -1,15 +1,5 @@
 -- Locations of which some at the front have one edge more, and others are left.
-use Rattle.std.proofs.Common.{arith, drop, map, take, take-append-drop, ◌≡◌, ◌⊎◌, inl, inr, ℕ, List, [], ◌∷◌, ◌++◌, Bool, true, false, Contains, Result, Ok, Err, OnOk, length, nat_eq, refl, sym, ap, ◌∙◌, subst}
-use Rattle.std.proofs.lemmas.Bool.{eq-eqb, or_left, or_right}
-use Rattle.std.proofs.lemmas.List.{map-append}
-use Rattle.std.proofs.lemmas.List.Elements.{Contains-append_cases, Contains-append_left, Contains-append_right}
-use Rattle.at_model.specs.Run.{Location}
-use Rattle.at_store.specs.declared.node.Loc.{Loc}
-use Rattle.at_store.specs.Located.{loc_view}
-use Rattle.at_index.specs.declared.edge.Edge.{Edge}
-use Rattle.at_index.specs.Linking.{AreListed, Reads}
-use Rattle.at_index.specs.Runs.{AddsReads, ListsBut, Stays, is_live}
-use Rattle.at_index.specs.Linking.{Keeps}
+use Rattle.at_index.proofs.Common.{arith, drop, map, take, take-append-drop, ◌≡◌, ◌⊎◌, inl, inr, ℕ, List, [], ◌∷◌, ◌++◌, Bool, true, false, Contains, Result, Ok, Err, OnOk, length, nat_eq, refl, sym, ap, ◌∙◌, subst, eq-eqb, or_left, or_right, map-append, Contains-append_cases, Contains-append_left, Contains-append_right, Location, Loc, loc_view, Edge, AreListed, Reads, AddsReads, ListsBut, Stays, is_live, Keeps}
 use Rattle.at_index.proofs.Lists.{none_in}
 
 module _ {L : Type 0} {tells : Edge → Bool} {x : Edge} where

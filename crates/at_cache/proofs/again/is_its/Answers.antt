@@ -1,4 +1,4 @@
-use Rattle.std.proofs.Common.{◌∙◌, sym}
+use Rattle.at_cache.proofs.Common.{◌∙◌, sym}
 use Rattle.at_cache.proofs.of_cut.Slotted.{its_slot}
 use Rattle.at_cache.proofs.again.is_its.Goals as goal
 

@@ -1,5 +1,4 @@
-use Rattle.std.proofs.Common.{ap, option_map}
-use Rattle.at_cache.specs.declared.entry.Entry.{Entry}
+use Rattle.at_cache.proofs.Common.{ap, option_map, Entry}
 use Rattle.at_cache.proofs.again.slot_by.Goals as goal
 
 pub returns-in-Some : goal.returns-in-Some

@@ -1,7 +1,4 @@
-use Rattle.std.proofs.Common.{◌++◌, ◌∙◌, ◌∷◌, [], ℕ, arith, ap, sym, refl, subst, take_all}
-use Rattle.at_cache.specs.Info.{memory_of}
-use Rattle.at_cache.specs.Putting.{AreTaken}
-use Rattle.at_cache.specs.Theirs.{AreTheirs}
+use Rattle.at_cache.proofs.Common.{◌++◌, ◌∙◌, ◌∷◌, [], ℕ, arith, ap, sym, refl, subst, take_all, memory_of, AreTaken, AreTheirs}
 use Rattle.at_cache.proofs.of_cut.Ordered.{taken_more, theirs_more, theirs_none}
 use Rattle.at_cache.proofs.of_cut.Slotted.{has_slot, no_slot}
 use Rattle.at_cache.proofs.again.slots_near.Goals as goal

@@ -1,5 +1,4 @@
-use Rattle.std.proofs.Common.{◌∙◌, ap}
-use Rattle.at_cache.specs.Attributes.{has_come}
+use Rattle.at_cache.proofs.Common.{◌∙◌, ap, has_come}
 use Rattle.at_cache.proofs.Came.{come_push}
 use Rattle.at_cache.proofs.attributes.make_place.Goals as goal
 

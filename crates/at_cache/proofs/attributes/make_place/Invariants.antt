@@ -1,5 +1,4 @@
-use Rattle.std.proofs.Common.{◌≡◌, ◌-◌, ◌+◌, ℕ, length}
-use Rattle.at_cache.specs.Attributes.{has_come}
+use Rattle.at_cache.proofs.Common.{◌≡◌, ◌-◌, ◌+◌, ℕ, length, has_come}
 use Rattle.at_cache.proofs.attributes.make_place.Given as goal
 
 abbrev pub invariant-loop-attributes : goal.invariant-loop-attributes

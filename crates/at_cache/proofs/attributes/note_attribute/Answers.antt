@@ -1,4 +1,4 @@
-use Rattle.std.proofs.Common.{◌∙◌, sym}
+use Rattle.at_cache.proofs.Common.{◌∙◌, sym}
 use Rattle.at_cache.proofs.Came.{come_here, come_stays}
 use Rattle.at_cache.proofs.attributes.note_attribute.Goals as goal
 

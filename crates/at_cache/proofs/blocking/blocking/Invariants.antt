@@ -1,4 +1,4 @@
-use Rattle.at_cache.specs.Blocking.{LeadsTo}
+use Rattle.at_cache.proofs.Common.{LeadsTo}
 use Rattle.at_cache.proofs.blocking.blocking.Given as goal
 
 abbrev pub invariant-loop : goal.invariant-loop

@@ -1,6 +1,5 @@
-use Rattle.std.proofs.Common.{sym, ◌∙◌}
+use Rattle.at_cache.proofs.Common.{sym, ◌∙◌, none_in}
 use Rattle.at_cache.proofs.of_cut.InTheWay.{one_past, open_at}
-use Rattle.at_index.proofs.Lists.{none_in}
 use Rattle.at_cache.proofs.blocking.first_open.Goals as goal
 
 pub loop-slot-init : goal.loop-slot-init

@@ -1,5 +1,4 @@
-use Rattle.std.proofs.Common.{◌≡◌, ℕ, Contains, take, true}
-use Rattle.at_cache.specs.Blocking.{is_known}
+use Rattle.at_cache.proofs.Common.{◌≡◌, ℕ, Contains, take, true, is_known}
 use Rattle.at_cache.proofs.blocking.first_open.Given as goal
 
 abbrev pub invariant-loop-slot : goal.invariant-loop-slot

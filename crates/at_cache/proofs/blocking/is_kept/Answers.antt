@@ -1,5 +1,5 @@
 use Rattle.at_cache.proofs.of_cut.InTheWay.{none_known, not_known, some_known, traced_known}
-use Rattle.std.proofs.Common.{◌∙◌}
+use Rattle.at_cache.proofs.Common.{◌∙◌}
 use Rattle.at_cache.proofs.blocking.is_kept.Goals as goal
 
 pub returns-then-not-standing : goal.returns-then-not-standing

@@ -1,6 +1,4 @@
-use Rattle.std.proofs.Common.{◌∙◌, ap, length, arith, refl}
-use Rattle.at_cache.specs.declared.standing.Standing.{Standing}
-use Rattle.at_cache.specs.Standings.{held_among, untraced}
+use Rattle.at_cache.proofs.Common.{◌∙◌, ap, length, arith, refl, Standing, held_among, untraced}
 use Rattle.at_cache.proofs.of_cut.Seeing.{changed_past, changed_set, set_room, set_same}
 use Rattle.at_cache.proofs.cut.take_trace.Goals as goal
 

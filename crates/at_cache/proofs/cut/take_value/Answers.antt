@@ -1,6 +1,4 @@
-use Rattle.std.proofs.Common.{◌∙◌, ◌+◌, ◌<◌, ◌≤◌, length, ap, sym, arith, refl, true≢false}
-use Rattle.at_cache.specs.declared.standing.Standing.{Standing}
-use Rattle.at_cache.specs.Standings.{held_among, unheld}
+use Rattle.at_cache.proofs.Common.{◌∙◌, ◌+◌, ◌<◌, ◌≤◌, length, ap, sym, arith, refl, true≢false, Standing, held_among, unheld}
 use Rattle.at_cache.proofs.of_cut.Seeing.{changed_past, changed_set, past_nothing, set_fewer}
 use Rattle.at_cache.proofs.cut.take_value.Goals as goal
 

@@ -1,7 +1,4 @@
-use Rattle.std.proofs.Common.{subst, List}
-use Rattle.at_index.specs.declared.edge.Edge.{Edge}
-use Rattle.at_index.specs.Edges.{edges_in}
-use Rattle.at_cache.specs.Marking.{GoesOver}
+use Rattle.at_cache.proofs.Common.{subst, List, Edge, edges_in, GoesOver}
 use Rattle.at_cache.proofs.of_cut.Passing.{over_users, still_there}
 use Rattle.at_cache.proofs.cutting.doom_users.Goals as goal
 

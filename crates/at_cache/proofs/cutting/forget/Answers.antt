@@ -1,8 +1,4 @@
-use Rattle.std.proofs.Common.{◌∙◌, inl, inr, ap, append-nil, sym, subst, arith, []}
-use Rattle.at_cache.specs.Flushing.{Work}
-use Rattle.at_cache.specs.Info.{memory_of}
-use Rattle.at_cache.specs.Marking.{Aside, held_in}
-use Rattle.at_cache.specs.Putting.{users_at}
+use Rattle.at_cache.proofs.Common.{◌∙◌, inl, inr, ap, append-nil, sym, subst, arith, [], Work, memory_of, Aside, held_in, users_at}
 use Rattle.at_cache.proofs.of_cut.Passing.{its_users, mark_there, passes_both, passes_over, taken_so, there_past, users_past}
 use Rattle.at_cache.proofs.Taking.{first_there}
 use Rattle.at_cache.proofs.cutting.forget.Goals as goal

@@ -1,4 +1,4 @@
-use Rattle.std.proofs.Common.{◌∙◌, refl}
+use Rattle.at_cache.proofs.Common.{◌∙◌, refl}
 use Rattle.at_cache.proofs.of_cut.Passing.{passes_both, passes_on}
 use Rattle.at_cache.proofs.cutting.forget_all.Goals as goal
 

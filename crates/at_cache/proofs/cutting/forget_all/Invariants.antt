@@ -1,8 +1,4 @@
-use Rattle.std.proofs.Common.{◌≡◌, ◌+◌, ◌*◌, List, [], cond, is_some}
-use Rattle.at_index.specs.declared.edge.Edge.{Edge}
-use Rattle.at_cache.specs.Flushing.{Work}
-use Rattle.at_cache.specs.Info.{Memory, table_len}
-use Rattle.at_cache.specs.Marking.{Passes, held_count, held_in}
+use Rattle.at_cache.proofs.Common.{◌≡◌, ◌+◌, ◌*◌, List, [], cond, is_some, Edge, Work, Memory, table_len, Passes, held_count, held_in}
 use Rattle.at_cache.proofs.cutting.forget_all.Given as goal
 
 abbrev pub invariant-loop-first : goal.invariant-loop-first

@@ -1,8 +1,4 @@
-use Rattle.std.proofs.Common.{◌≡◌, ◌∙◌, None, ap, sym, subst, IfNone}
-use Rattle.std.specs.Option.{option_and_then}
-use Rattle.at_cache.specs.Info.{memory_of}
-use Rattle.at_cache.specs.Marking.{held_in}
-use Rattle.at_cache.specs.Standings.{shown, standing_of}
+use Rattle.at_cache.proofs.Common.{◌≡◌, ◌∙◌, None, ap, sym, subst, IfNone, option_and_then, memory_of, held_in, shown, standing_of}
 use Rattle.at_cache.proofs.of_cut.Again.{held_off}
 use Rattle.at_cache.proofs.of_cut.Passing.{entries_hidden, hidden, mark_seen, others_seen, passes_on, passes_same, quiet_hidden, traces_hidden}
 use Rattle.at_cache.proofs.cutting.hide.Goals as goal

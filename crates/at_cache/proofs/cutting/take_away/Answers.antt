@@ -1,7 +1,4 @@
-use Rattle.std.proofs.Common.{ap, ◌∙◌}
-use Rattle.at_index.specs.Asking.{Answers}
-use Rattle.at_cache.specs.Marking.{Aside}
-use Rattle.at_index.specs.Finding.{edges_to}
+use Rattle.at_cache.proofs.Common.{ap, ◌∙◌, Answers, Aside, edges_to}
 use Rattle.at_cache.proofs.Drawers.{begins_named}
 use Rattle.at_cache.proofs.of_cut.Passing.{takes_away}
 use Rattle.at_cache.proofs.cutting.take_away.Goals as goal

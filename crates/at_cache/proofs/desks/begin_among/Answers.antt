@@ -1,9 +1,5 @@
-use Rattle.std.proofs.Common.{◌++◌, arith, subst, take_all, true}
+use Rattle.at_cache.proofs.Common.{◌++◌, arith, subst, take_all, true, Answers, Asked, edges_in_desks, edges_in, asked_none}
 use Rattle.at_cache.specs.declared.cut.Loss.TheVariants as loss
-use Rattle.at_index.specs.Asking.{Answers, Asked}
-use Rattle.at_index.specs.Desks.{edges_in_desks}
-use Rattle.at_index.specs.Edges.{edges_in}
-use Rattle.at_index.proofs.Beginning.{asked_none}
 use Rattle.at_cache.proofs.Drawers.{asked_next_touched, asked_next_untouched}
 use Rattle.at_cache.proofs.Naming.{goes_not}
 use Rattle.at_cache.proofs.of_cut.Passing.{over_then}

@@ -1,7 +1,4 @@
-use Rattle.std.proofs.Common.{take, true}
-use Rattle.at_index.specs.Asking.{Answers}
-use Rattle.at_index.specs.Desks.{edges_in_desks}
-use Rattle.at_cache.specs.Marking.{GoesOn}
+use Rattle.at_cache.proofs.Common.{take, true, Answers, edges_in_desks, GoesOn}
 use Rattle.at_cache.proofs.desks.begin_among.Given as goal
 
 abbrev pub invariant-loop-place : goal.invariant-loop-place

@@ -1,10 +1,5 @@
-use Rattle.std.proofs.Common.{◌++◌, List, subst, take_all}
+use Rattle.at_cache.proofs.Common.{◌++◌, List, subst, take_all, Readers, edges_in, Asked, looks_at, Answers, edges_among, asked_next_touched, asked_next_untouched, asked_none}
 use Rattle.at_cache.specs.declared.cut.Loss.TheVariants as loss
-use Rattle.at_index.specs.declared.facet.Readers.{Readers}
-use Rattle.at_index.specs.Edges.{edges_in}
-use Rattle.at_index.specs.Asking.{Asked, looks_at, Answers}
-use Rattle.at_index.specs.Readers.{edges_among}
-use Rattle.at_index.proofs.Beginning.{asked_next_touched, asked_next_untouched, asked_none}
 use Rattle.at_cache.proofs.Naming.{goes_not}
 use Rattle.at_cache.proofs.of_cut.Passing.{over_then}
 use Rattle.at_cache.proofs.forgetting.begin_at.Goals as goal

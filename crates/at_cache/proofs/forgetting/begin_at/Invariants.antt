@@ -1,7 +1,4 @@
-use Rattle.std.proofs.Common.{take}
-use Rattle.at_index.specs.Asking.{Answers, looks_at}
-use Rattle.at_cache.specs.Marking.{GoesOn}
-use Rattle.at_index.specs.Readers.{edges_among}
+use Rattle.at_cache.proofs.Common.{take, Answers, looks_at, GoesOn, edges_among}
 use Rattle.at_cache.proofs.forgetting.begin_at.Given as goal
 
 abbrev pub invariant-loop-reader : goal.invariant-loop-reader

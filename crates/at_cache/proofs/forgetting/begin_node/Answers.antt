@@ -1,4 +1,4 @@
-use Rattle.std.proofs.Common.{refl}
+use Rattle.at_cache.proofs.Common.{refl}
 use Rattle.at_cache.proofs.Naming.{goes_both}
 use Rattle.at_cache.proofs.forgetting.begin_node.Goals as goal
 

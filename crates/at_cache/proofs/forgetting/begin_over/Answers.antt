@@ -1,11 +1,5 @@
-use Rattle.std.proofs.Common.{inl, inr, ap, sym, ◌∙◌}
-use Rattle.std.proofs.lemmas.Bool.{ne_eqb}
-use Rattle.at_index.specs.Asking.{Answers}
-use Rattle.at_index.specs.Readers.{is_of_index}
-use Rattle.at_index.specs.Runs.{edges_on}
-use Rattle.at_index.specs.declared.run.Seat.{Seat}
+use Rattle.at_cache.proofs.Common.{inl, inr, ap, sym, ◌∙◌, ne_eqb, Answers, is_of_index, edges_on, Seat, over_touched, over_untouched}
 use Rattle.at_cache.proofs.Naming.{goes_not, goes_past_seat}
-use Rattle.at_index.proofs.of_runs.Over.{over_touched, over_untouched}
 use Rattle.at_cache.proofs.forgetting.begin_over.Goals as goal
 use Rattle.at_cache.proofs.forgetting.begin_over.Goals.{then-seat-eq0-via-then-seat-eq0, then-seat-eq0-via-else-seat-eq0+then-is_index}
 

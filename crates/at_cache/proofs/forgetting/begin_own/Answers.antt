@@ -1,5 +1,5 @@
 use Rattle.at_cache.proofs.Naming.{goes_at, goes_past}
-use Rattle.at_index.proofs.Lists.{node_past, node_there}
+use Rattle.at_cache.proofs.Common.{node_past, node_there}
 use Rattle.at_cache.proofs.forgetting.begin_own.Goals as goal
 
 pub returns-in-Some : goal.returns-in-Some

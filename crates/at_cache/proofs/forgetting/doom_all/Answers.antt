@@ -1,7 +1,5 @@
-use Rattle.std.proofs.Common.{List, subst, take_all}
+use Rattle.at_cache.proofs.Common.{List, subst, take_all, GoesOver, edges_along}
 use Rattle.at_index.specs.declared.row.Row.{Row}
-use Rattle.at_cache.specs.Marking.{GoesOver}
-use Rattle.at_index.specs.Rows.{edges_along}
 use Rattle.at_cache.proofs.of_cut.Passing.{over_none, over_then}
 use Rattle.at_index.proofs.RowLists.{along_more}
 use Rattle.at_cache.proofs.forgetting.doom_all.Goals as goal

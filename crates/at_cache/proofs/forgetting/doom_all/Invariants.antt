@@ -1,6 +1,4 @@
-use Rattle.std.proofs.Common.{take}
-use Rattle.at_cache.specs.Marking.{GoesOver}
-use Rattle.at_index.specs.Rows.{edges_along}
+use Rattle.at_cache.proofs.Common.{take, GoesOver, edges_along}
 use Rattle.at_cache.proofs.forgetting.doom_all.Given as goal
 
 abbrev pub invariant-loop-row : goal.invariant-loop-row

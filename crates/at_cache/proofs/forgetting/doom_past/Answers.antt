@@ -1,8 +1,6 @@
-use Rattle.std.proofs.Common.{List, subst, take_all}
+use Rattle.at_cache.proofs.Common.{List, subst, take_all, GoesOver, edges_past}
 use Rattle.at_cache.specs.declared.cut.Loss.TheVariants as loss
 use Rattle.at_index.specs.declared.run.Reach.{Reach}
-use Rattle.at_cache.specs.Marking.{GoesOver}
-use Rattle.at_index.specs.Runs.{edges_past}
 use Rattle.at_cache.proofs.of_cut.Passing.{over_none, over_then}
 use Rattle.at_index.proofs.of_runs.Passed.{past_other, past_over}
 use Rattle.at_cache.proofs.forgetting.doom_past.Goals as goal

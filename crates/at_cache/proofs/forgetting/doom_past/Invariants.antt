@@ -1,7 +1,5 @@
-use Rattle.std.proofs.Common.{take}
+use Rattle.at_cache.proofs.Common.{take, GoesOver, edges_past}
 use Rattle.at_cache.specs.declared.cut.Loss.TheVariants as loss
-use Rattle.at_cache.specs.Marking.{GoesOver}
-use Rattle.at_index.specs.Runs.{edges_past}
 use Rattle.at_cache.proofs.forgetting.doom_past.Given as goal
 
 abbrev pub invariant-loop-reach : goal.invariant-loop-reach

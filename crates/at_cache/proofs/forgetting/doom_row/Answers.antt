@@ -1,6 +1,4 @@
-use Rattle.std.proofs.Common.{◌∙◌, ◌++◌, ◌∷◌, [], ap, append-nil, append_assoc, refl, subst, sym}
-use Rattle.at_cache.specs.Marking.{GoesOver}
-use Rattle.at_index.specs.Rows.{edges_of}
+use Rattle.at_cache.proofs.Common.{◌∙◌, ◌++◌, ◌∷◌, [], ap, append-nil, append_assoc, refl, subst, sym, GoesOver, edges_of}
 use Rattle.at_cache.proofs.of_cut.Passing.{over_none, over_then}
 use Rattle.at_cache.proofs.forgetting.doom_row.Goals as goal
 

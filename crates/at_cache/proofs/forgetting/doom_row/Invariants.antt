@@ -1,7 +1,4 @@
-use Rattle.std.proofs.Common.{◌≡◌, ◌++◌, List, length}
-use Rattle.at_index.specs.declared.edge.Edge.{Edge}
-use Rattle.at_cache.specs.Marking.{GoesOver}
-use Rattle.at_index.specs.Rows.{edges_of}
+use Rattle.at_cache.proofs.Common.{◌≡◌, ◌++◌, List, length, Edge, GoesOver, edges_of}
 use Rattle.at_cache.proofs.forgetting.doom_row.Given as goal
 
 -- those before the rest were gone over

@@ -1,4 +1,4 @@
-use Rattle.std.proofs.Common.{◌∙◌, arith, eqb-true, sym}
+use Rattle.at_cache.proofs.Common.{◌∙◌, arith, eqb-true, sym}
 use Rattle.at_index.proofs.of_runs.Seats.{none_long}
 use Rattle.at_cache.proofs.Drawers.{none_read}
 use Rattle.at_cache.proofs.forgetting.is_unread.Goals as goal

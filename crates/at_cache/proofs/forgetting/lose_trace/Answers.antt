@@ -1,4 +1,4 @@
-use Rattle.std.proofs.Common.{◌∙◌, sym}
+use Rattle.at_cache.proofs.Common.{◌∙◌, sym}
 use Rattle.at_cache.proofs.of_cut.Passing.{over_other, over_trace}
 use Rattle.at_cache.proofs.forgetting.lose_trace.Goals as goal
 

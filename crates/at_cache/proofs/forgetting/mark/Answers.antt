@@ -1,7 +1,4 @@
-use Rattle.std.proofs.Common.{◌∙◌, refl, sym}
-use Rattle.at_cache.specs.Info.{memory_of}
-use Rattle.at_cache.specs.Marking.{aside_cut, held_in}
-use Rattle.at_cache.specs.Standings.{standing_of}
+use Rattle.at_cache.proofs.Common.{◌∙◌, refl, sym, memory_of, aside_cut, held_in, standing_of}
 use Rattle.at_cache.proofs.Dooming.{doom_fresh, doom_stale, first_fresh, first_stale, fresh_there}
 use Rattle.at_cache.proofs.of_cut.Passing.{over_mark}
 use Rattle.at_cache.proofs.of_cut.Seeing.{going_beside, going_seen, seen_there}

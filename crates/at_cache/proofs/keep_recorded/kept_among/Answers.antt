@@ -1,4 +1,4 @@
-use Rattle.std.proofs.Common.{arith}
+use Rattle.at_cache.proofs.Common.{arith}
 use Rattle.at_cache.proofs.of_cut.Seeing.{held_none}
 use Rattle.at_cache.proofs.keep_recorded.kept_among.Goals as goal
 

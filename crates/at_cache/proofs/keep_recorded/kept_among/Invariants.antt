@@ -1,5 +1,4 @@
-use Rattle.std.specs.Prelude.{◌≡◌, ◌≤◌, ◌+◌, drop}
-use Rattle.at_cache.specs.Standings.{held_among}
+use Rattle.at_cache.proofs.Common.{◌≡◌, ◌≤◌, ◌+◌, drop, held_among}
 use Rattle.at_cache.proofs.keep_recorded.kept_among.Given as goal
 
 abbrev pub invariant-loop-standing : goal.invariant-loop-standing

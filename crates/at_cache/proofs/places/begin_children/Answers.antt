@@ -1,4 +1,4 @@
-use Rattle.std.proofs.Common.{ap}
+use Rattle.at_cache.proofs.Common.{ap}
 use Rattle.at_cache.proofs.Naming.{goes_to_children, goes_to_noted}
 use Rattle.at_cache.proofs.places.begin_children.Goals as goal
 use Rattle.at_cache.proofs.places.begin_children.Goals.{then-index_read-children, else-index_read-children}

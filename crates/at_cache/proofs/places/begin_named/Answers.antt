@@ -1,4 +1,4 @@
-use Rattle.std.proofs.Common.{None}
+use Rattle.at_cache.proofs.Common.{None}
 use Rattle.at_cache.proofs.Naming.{goes_to_named, goes_unread}
 use Rattle.at_cache.proofs.places.begin_named.Goals as goal
 

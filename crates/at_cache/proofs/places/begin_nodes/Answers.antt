@@ -1,8 +1,4 @@
-use Rattle.std.proofs.Common.{List, ℕ, subst, take_all}
-use Rattle.std.specs.List.{list_any}
-use Rattle.at_cache.specs.Marking.{GoesOn}
-use Rattle.at_index.specs.Asking.{sees, Answers}
-use Rattle.at_index.specs.Finding.{edges_to}
+use Rattle.at_cache.proofs.Common.{List, ℕ, subst, take_all, list_any, GoesOn, sees, Answers, edges_to}
 use Rattle.at_cache.proofs.Naming.{goes_next, goes_nowhere}
 use Rattle.at_cache.proofs.places.begin_nodes.Goals as goal
 

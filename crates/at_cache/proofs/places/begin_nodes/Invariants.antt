@@ -1,8 +1,4 @@
-use Rattle.std.proofs.Common.{take}
-use Rattle.std.specs.List.{list_any}
-use Rattle.at_index.specs.Asking.{Answers, sees}
-use Rattle.at_cache.specs.Marking.{GoesOn}
-use Rattle.at_index.specs.Finding.{edges_to}
+use Rattle.at_cache.proofs.Common.{take, list_any, Answers, sees, GoesOn, edges_to}
 use Rattle.at_cache.proofs.places.begin_nodes.Given as goal
 
 abbrev pub invariant-loop-node : goal.invariant-loop-node

@@ -1,7 +1,4 @@
-use Rattle.std.proofs.Common.{◌∙◌, [], arith, ap, sym, refl, subst, take_all}
-use Rattle.at_cache.specs.Info.{memory_of}
-use Rattle.at_cache.specs.Putting.{AreTaken}
-use Rattle.at_cache.specs.Theirs.{AreTheirs}
+use Rattle.at_cache.proofs.Common.{◌∙◌, [], arith, ap, sym, refl, subst, take_all, memory_of, AreTaken, AreTheirs}
 use Rattle.at_cache.proofs.of_cut.Ordered.{taken_more, theirs_more, theirs_none}
 use Rattle.at_cache.proofs.putting.slots_of.Goals as goal
 use Rattle.at_cache.proofs.putting.slots_of.Goals.{in-Some+in_ok-push, in_default}

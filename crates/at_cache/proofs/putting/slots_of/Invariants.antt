@@ -1,7 +1,4 @@
-use Rattle.std.proofs.Common.{take}
-use Rattle.at_cache.specs.Info.{memory_of}
-use Rattle.at_cache.specs.Putting.{AreTaken}
-use Rattle.at_cache.specs.Theirs.{AreTheirs}
+use Rattle.at_cache.proofs.Common.{take, memory_of, AreTaken, AreTheirs}
 use Rattle.at_cache.proofs.putting.slots_of.Given as goal
 
 abbrev pub invariant-loop-used : goal.invariant-loop-used

@@ -1,6 +1,4 @@
-use Rattle.std.proofs.Common.{option_map}
-use Rattle.at_body.specs.Values.{value_view}
-use Rattle.at_cache.specs.Info.{memory_of}
+use Rattle.at_cache.proofs.Common.{option_map, value_view, memory_of}
 use Rattle.at_cache.proofs.of_cut.Losing.{compared_other, compared_same}
 use Rattle.at_cache.proofs.renewing.compare.Goals as goal
 

@@ -1,13 +1,4 @@
-use Rattle.std.proofs.Common.{◌≡◌, ◌<◌, ◌∙◌, List, None, true, ap, length, map, option_map, refl, rules, subst, sym}
-use Rattle.at_body.specs.Values.{value_view}
-use Rattle.at_store.specs.Located.{loc_view}
-use Rattle.at_cache.specs.declared.standing.Standing.{Standing}
-use Rattle.at_cache.specs.Info.{memory_of}
-use Rattle.at_cache.specs.Marking.{held_in}
-use Rattle.at_cache.specs.Putting.{AreTaken}
-use Rattle.at_index.specs.Finding.{edges_to}
-use Rattle.at_cache.specs.Renewing.{IsSlotFor}
-use Rattle.at_cache.specs.Standings.{standing_of}
+use Rattle.at_cache.proofs.Common.{◌≡◌, ◌<◌, ◌∙◌, List, None, true, ap, length, map, option_map, refl, rules, subst, sym, value_view, loc_view, Standing, memory_of, held_in, AreTaken, edges_to, IsSlotFor, standing_of}
 use Rattle.at_cache.proofs.of_cut.Alive.{reads_stand, uses_stand}
 use Rattle.at_cache.proofs.of_cut.EnteredHeld.{made_so, not_held, puts_so, slot_still}
 use Rattle.at_cache.proofs.of_cut.Enters.{has_entered}
@@ -57,8 +48,7 @@ returns-in_err-put_in-clause-enters c = let kept = rw c.in_err-put_in.was at c.p
 
 pub add_users-requires : goal.add_users-requires
 add_users-requires c = record {
-  there = subst (AreTaken (memory_of c.args.cut.now.entries))
-      (sym c.as_slice.ensures) c.in_ok-links.ensures.taken;
+  there = subst (AreTaken (memory_of c.args.cut.now.entries)) (sym c.as_slice.ensures) c.in_ok-links.ensures.taken;
 }
 
 pub put_in-requires-clause-slot : goal.put_in-requires-clause-slot

@@ -1,5 +1,4 @@
-use Rattle.std.proofs.Common.{sym, ◌∙◌}
-use Rattle.at_cache.specs.Info.{memory_of}
+use Rattle.at_cache.proofs.Common.{sym, ◌∙◌, memory_of}
 use Rattle.at_cache.proofs.Users.{from_kept}
 use Rattle.at_cache.proofs.of_cut.Outdated.{awaited_still, stays_awaited}
 use Rattle.at_cache.proofs.renewing.outdate.Goals as goal

@@ -1,7 +1,4 @@
-use Rattle.std.proofs.Common.{◌∙◌, option_map, sym}
-use Rattle.std.proofs.lemmas.Result.{on_ok_weaker}
-use Rattle.at_body.specs.Values.{value_view}
-use Rattle.at_cache.specs.Info.{info, memory_of}
+use Rattle.at_cache.proofs.Common.{◌∙◌, option_map, sym, on_ok_weaker, value_view, info, memory_of}
 use Rattle.at_cache.proofs.of_cut.Losing.{entered_in, slot_free, slot_next}
 use Rattle.at_cache.proofs.renewing.put_in.Goals as goal
 

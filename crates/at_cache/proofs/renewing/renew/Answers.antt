@@ -1,6 +1,4 @@
-use Rattle.std.proofs.Common.{IsSome, option_map, subst, sym}
-use Rattle.at_body.specs.Values.{value_view}
-use Rattle.at_cache.specs.Info.{memory_of}
+use Rattle.at_cache.proofs.Common.{IsSome, option_map, subst, sym, value_view, memory_of}
 use Rattle.at_cache.proofs.of_cut.Losing.{renewed_in}
 use Rattle.at_cache.proofs.renewing.renew.Goals as goal
 

@@ -1,6 +1,4 @@
-use Rattle.std.proofs.Common.{◌∙◌, sym}
-use Rattle.std.proofs.lemmas.Option.{none-some}
-use Rattle.std.proofs.lemmas.Result.{IfOk-weaker}
+use Rattle.at_cache.proofs.Common.{◌∙◌, sym, none-some, IfOk-weaker}
 use Rattle.at_cache.proofs.of_cut.EnteredHeld.{is_next, is_slot, its_slot_is}
 use Rattle.at_cache.proofs.of_cut.Slotted.{has_slot, no_slot}
 use Rattle.at_cache.proofs.renewing.slot_for.Goals as goal

@@ -1,13 +1,5 @@
-use Rattle.std.proofs.Common.{ap, is_some, subst, sym, take_all, ◌∙◌, true≢false}
-use Rattle.std.proofs.lemmas.Option.{same_Some}
-use Rattle.at_body.specs.Values.{value_view}
-use Rattle.at_cache.specs.declared.standing.Standing.{Standing}
-use Rattle.at_cache.specs.Info.{Info, memory_of}
-use Rattle.at_cache.specs.Putting.{AreTaken}
-use Rattle.at_cache.specs.Standings.{instances_in, kept_held, trace_of}
-use Rattle.at_cache.specs.Traced.{AreAllKept}
+use Rattle.at_cache.proofs.Common.{ap, is_some, subst, sym, take_all, ◌∙◌, true≢false, same_Some, value_view, Standing, Info, memory_of, AreTaken, instances_in, kept_held, trace_of, AreAllKept, none_in}
 use Rattle.at_cache.proofs.of_cut.Goes.{goes_at, goes_none, goes_then, has_shown, is_on, is_pair, links_taken, trace_slot, value_kept, value_slot}
-use Rattle.at_index.proofs.Lists.{none_in}
 use Rattle.at_cache.proofs.settling.+settling.Goals as goal
 
 pub settle_all-loop-slot-init : goal.settle_all-loop-slot-init

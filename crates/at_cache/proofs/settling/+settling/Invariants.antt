@@ -1,11 +1,5 @@
-use Rattle.std.proofs.Common.{◌≡◌, ◌+◌, ◌*◌, ℕ, List, Some, take}
-use Rattle.at_model.specs.Run.{Instance, Location}
-use Rattle.at_index.specs.declared.edge.Edge.{Edge}
-use Rattle.at_cache.specs.Info.{memory_of}
-use Rattle.at_cache.specs.Putting.{AreTaken}
-use Rattle.at_cache.specs.Settling.{GoesOn, IsWhole}
-use Rattle.at_cache.specs.Standings.{instances_in, kept_held, remembered}
-use Rattle.at_cache.specs.Traced.{AreAllKept, Trace}
+use Rattle.at_cache.proofs.Common.{◌≡◌, ◌+◌, ◌*◌, ℕ, List, Some, take, Instance, Location, Edge, memory_of, AreTaken, IsWhole, instances_in, kept_held, remembered, AreAllKept, Trace}
+use Rattle.at_cache.specs.Settling.{GoesOn}
 use Rattle.at_cache.proofs.settling.+settling.Given as goal
 
 abbrev pub decreases-settle_all : goal.decreases-settle_all

@@ -1,7 +1,5 @@
-use Rattle.std.proofs.Common.{◌+◌, ap, refl, sym, ◌∙◌, true≢false}
-use Rattle.at_cache.specs.declared.standing.Standing.{Standing}
+use Rattle.at_cache.proofs.Common.{◌+◌, ap, refl, sym, ◌∙◌, true≢false, Standing, standing_of}
 use Rattle.at_cache.proofs.of_cut.Goes.{goes_itself, goes_none, standing_in, value_kept}
-use Rattle.at_cache.specs.Standings.{standing_of}
 use Rattle.at_cache.proofs.of_cut.Seeing.{set_is}
 use Rattle.at_cache.proofs.settling.keep_again.Goals as goal
 
@@ -16,8 +14,7 @@ returns-then-standing c lists whole (traced, all) e there = (
 pub returns-then-counts-ge-NUMBERS : goal.returns-then-counts-ge-NUMBERS
 returns-then-counts-ge-NUMBERS c lists whole can e there = (
   goes_none lists _ e.instance _ _ whole,
-  λ h. absurd
-      (true≢false (sym h)),
+  λ h. absurd (true≢false (sym h)),
 )
 
 pub returns : goal.returns

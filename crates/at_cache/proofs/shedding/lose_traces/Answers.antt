@@ -1,5 +1,4 @@
-use Rattle.std.proofs.Common.{arith, subst}
-use Rattle.at_cache.specs.Standings.{IsChanged, untraced}
+use Rattle.at_cache.proofs.Common.{arith, subst, IsChanged, untraced}
 use Rattle.at_cache.proofs.of_cut.Shed.{loses_end, loses_more, loses_start}
 use Rattle.at_cache.proofs.shedding.lose_traces.Goals as goal
 

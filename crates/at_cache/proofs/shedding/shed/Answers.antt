@@ -1,4 +1,4 @@
-use Rattle.std.proofs.Common.{arith}
+use Rattle.at_cache.proofs.Common.{arith}
 use Rattle.at_cache.proofs.of_cut.Shed.{sheds_end, sheds_more, sheds_start}
 use Rattle.at_cache.proofs.shedding.shed.Goals as goal
 

@@ -1,5 +1,4 @@
-use Rattle.std.specs.Prelude.{◌≤◌}
-use Rattle.at_cache.specs.Info.{memory_of, table_len}
+use Rattle.at_cache.proofs.Common.{◌≤◌, memory_of, table_len}
 use Rattle.at_cache.proofs.of_cut.Shed.{ShedsBelow}
 use Rattle.at_cache.proofs.shedding.shed.Given as goal
 

@@ -1,6 +1,4 @@
-use Rattle.std.proofs.Common.{ap, sym, ◌∙◌}
-use Rattle.at_cache.specs.declared.standing.Standing.{Standing}
-use Rattle.at_cache.specs.Info.{memory_of}
+use Rattle.at_cache.proofs.Common.{ap, sym, ◌∙◌, Standing, memory_of}
 use Rattle.at_cache.proofs.of_cut.Shed.{sheds_by, sheds_none, sheds_nothing}
 use Rattle.at_cache.proofs.shedding.shed_at.Goals as goal
 

@@ -1,5 +1,4 @@
-use Rattle.std.proofs.Common.{◌∙◌}
-use Rattle.at_body.specs.Same.{same_instance}
+use Rattle.at_cache.proofs.Common.{◌∙◌, same_instance}
 use Rattle.indexmap.proofs.MapLemmas.{absent_from_lookup, insert_entry-absent}
 use Rattle.at_cache.proofs.slots.append.Goals as goal
 

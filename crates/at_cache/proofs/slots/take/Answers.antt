@@ -1,8 +1,4 @@
-use Rattle.std.proofs.Common.{◌≡◌, ◌∙◌, ℕ, None, nat_eq, if◌then◌else◌, option_map, slice_get, sym, ap, subst}
-use Rattle.std.specs.Map.{lookup}
-use Rattle.slab.specs.Slab.{get}
-use Rattle.at_cache.specs.Placed.{IsMoved, IsPlaced, at}
-use Rattle.at_body.specs.Same.{same_instance}
+use Rattle.at_cache.proofs.Common.{◌≡◌, ◌∙◌, ℕ, None, nat_eq, if◌then◌else◌, option_map, slice_get, sym, ap, subst, lookup, get, IsMoved, IsPlaced, at, same_instance}
 use Rattle.at_cache.proofs.Came.{none_still}
 use Rattle.at_cache.proofs.Moving.{AreApart, apart_by, entry_there, nothing_removed, nothing_there, placed, removed_is, removes, table_by}
 use Rattle.at_cache.proofs.slots.take.Goals as goal

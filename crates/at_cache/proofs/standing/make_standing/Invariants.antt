@@ -1,5 +1,4 @@
-use Rattle.std.proofs.Common.{◌≡◌, ◌-◌, ◌+◌, ℕ, length}
-use Rattle.at_cache.specs.Standings.{standing_of}
+use Rattle.at_cache.proofs.Common.{◌≡◌, ◌-◌, ◌+◌, ℕ, length, standing_of}
 use Rattle.at_cache.proofs.standing.make_standing.Given as goal
 
 abbrev pub invariant-loop-standings : goal.invariant-loop-standings

@@ -1,7 +1,4 @@
-use Rattle.std.proofs.Common.{◌∙◌, sym}
-use Rattle.at_index.specs.Edges.{edges_in}
-use Rattle.at_cache.specs.Info.{memory_of}
-use Rattle.at_index.proofs.Listing.{listed_one, lists_moved}
+use Rattle.at_cache.proofs.Common.{◌∙◌, sym, edges_in, memory_of, listed_one, lists_moved}
 use Rattle.at_cache.proofs.Users.{reused_twice, still_there}
 use Rattle.at_index.proofs.OneEdge.{alone_has, lists_alone}
 use Rattle.at_cache.proofs.of_cut.Alive.{told_reused}

@@ -1,13 +1,5 @@
-use Rattle.std.proofs.Common.{◌∙◌, ◌+◌, arith, sym, subst, take_all, Contains, refl, rules}
-use Rattle.std.proofs.lemmas.Bool.{cases_eq}
-use Rattle.std.proofs.lemmas.List.{take_more}
-use Rattle.std.proofs.lemmas.List.Elements.{Contains-get_or}
-use Rattle.at_cache.specs.Info.{memory_of}
-use Rattle.at_index.specs.Linking.{AreListed}
-use Rattle.at_cache.specs.Putting.{Uses, users_at}
-use Rattle.at_cache.specs.Standings.{alive_in}
+use Rattle.at_cache.proofs.Common.{◌∙◌, ◌+◌, arith, sym, subst, take_all, Contains, refl, rules, cases_eq, take_more, Contains-get_or, memory_of, AreListed, Uses, users_at, alive_in, listed_more}
 use Rattle.at_cache.proofs.Users.{uses_none, uses_more, uses_all, users_here, users_other, still_kept}
-use Rattle.at_index.proofs.Listing.{listed_more}
 use Rattle.at_cache.proofs.of_cut.Alive.{told_uses}
 use Rattle.at_cache.proofs.using.add_users.Goals as goal
 

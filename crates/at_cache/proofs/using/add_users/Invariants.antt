@@ -1,11 +1,4 @@
-use Rattle.std.proofs.Common.{◌≡◌, ℕ, None, take}
-use Rattle.std.specs.Map.{lookup}
-use Rattle.at_model.specs.Run.{Instance}
-use Rattle.at_body.specs.Same.{same_instance}
-use Rattle.at_cache.specs.Info.{memory_of}
-use Rattle.at_index.specs.Linking.{AreListed}
-use Rattle.at_cache.specs.Putting.{Uses, users_at}
-use Rattle.at_cache.specs.Standings.{alive_in}
+use Rattle.at_cache.proofs.Common.{◌≡◌, ℕ, None, take, lookup, Instance, same_instance, memory_of, AreListed, Uses, users_at, alive_in}
 use Rattle.at_cache.proofs.using.add_users.Given as goal
 
 abbrev pub invariant-loop-slot : goal.invariant-loop-slot

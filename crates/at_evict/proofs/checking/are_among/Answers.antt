@@ -1,5 +1,4 @@
-use Rattle.std.proofs.Common.{◌∙◌, ℕ, Contains, subst, sym, take_all}
-use Rattle.at_index.proofs.Lists.{none_in}
+use Rattle.at_evict.proofs.Common.{◌∙◌, ℕ, Contains, subst, sym, take_all, none_in}
 use Rattle.at_evict.proofs.of_folding.Gathering.{is_one}
 use Rattle.at_evict.proofs.of_folding.Walking.{all_more}
 use Rattle.at_evict.proofs.checking.are_among.Goals as goal

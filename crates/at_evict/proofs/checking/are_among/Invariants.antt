@@ -1,4 +1,4 @@
-use Rattle.std.proofs.Common.{ℕ, Contains, take}
+use Rattle.at_evict.proofs.Common.{ℕ, Contains, take}
 use Rattle.at_evict.proofs.checking.are_among.Given as goal
 
 abbrev pub invariant-loop-slot : goal.invariant-loop-slot

@@ -1,9 +1,4 @@
-use Rattle.std.proofs.Common.{◌≤◌, ◌^◌, subst, sym}
-use Rattle.slab.specs.Slab.{get}
-use Rattle.at_cache.specs.Putting.{is_current}
-use Rattle.at_index.specs.Finding.{edges_to, own_edges}
-use Rattle.at_evict.specs.Folding.{AreOrdered, AreTaken, Relinks, listed_at, slots_at}
-use Rattle.at_cache.specs.Info.{memory_of}
+use Rattle.at_evict.proofs.Common.{◌≤◌, ◌^◌, subst, sym, get, is_current, edges_to, own_edges, AreOrdered, AreTaken, Relinks, listed_at, slots_at, memory_of}
 use Rattle.at_evict.proofs.of_folding.AtDesks.{own_refolded}
 use Rattle.at_evict.proofs.of_folding.Nodes.{noted_still}
 use Rattle.at_evict.proofs.of_folding.Reheld.{folds_held}

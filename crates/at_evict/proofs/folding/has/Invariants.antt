@@ -1,5 +1,4 @@
-use Rattle.std.proofs.Common.{◌≡◌, false, nat_eq, take}
-use Rattle.std.specs.List.{list_any}
+use Rattle.at_evict.proofs.Common.{◌≡◌, false, nat_eq, take, list_any}
 use Rattle.at_evict.proofs.folding.has.Given as goal
 
 abbrev pub invariant-loop-other : goal.invariant-loop-other

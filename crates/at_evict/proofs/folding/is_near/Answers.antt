@@ -1,5 +1,4 @@
-use Rattle.std.proofs.Common.{◌∙◌, Contains, List, ℕ, subst, sym}
-use Rattle.std.proofs.lemmas.List.Elements.{Contains-append_right}
+use Rattle.at_evict.proofs.Common.{◌∙◌, Contains, List, ℕ, subst, sym, Contains-append_right}
 use Rattle.at_evict.proofs.of_folding.Gathering.{is_one}
 use Rattle.at_evict.proofs.folding.is_near.Goals as goal
 

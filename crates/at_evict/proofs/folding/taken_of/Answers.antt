@@ -1,4 +1,4 @@
-use Rattle.std.proofs.Common.{arith}
+use Rattle.at_evict.proofs.Common.{arith}
 use Rattle.at_evict.proofs.of_folding.Taken.{taken_all, taken_more, taken_none}
 use Rattle.at_evict.proofs.folding.taken_of.Goals as goal
 

@@ -1,6 +1,4 @@
-use Rattle.std.proofs.Common.{◌≡◌, get_or, length-set, slice_set}
-use Rattle.smallvec.proofs.SmallVecLemmas.{items-with_items}
-use Rattle.at_index.specs.declared.facet.Readers.{Readers}
+use Rattle.at_evict.proofs.Common.{◌≡◌, get_or, length-set, slice_set, items-with_items, Readers}
 use Rattle.at_evict.proofs.of_folding.Joined.{one_fewer, one_list}
 use Rattle.at_evict.proofs.joining.become_one.Goals as goal
 

@@ -1,6 +1,4 @@
-use Rattle.std.proofs.Common.{◌≡◌, length, nat_eq, subst, sym, true}
-use Rattle.at_index.specs.Edges.{edges_in}
-use Rattle.at_index.specs.declared.facet.Readers.{Readers}
+use Rattle.at_evict.proofs.Common.{◌≡◌, length, nat_eq, subst, sym, true, edges_in, Readers}
 use Rattle.at_evict.proofs.of_folding.Joined.{left_out}
 use Rattle.at_evict.proofs.joining.is_left_out.Goals as goal
 

@@ -1,5 +1,4 @@
-use Rattle.std.proofs.Common.{◌-◌, length}
-use Rattle.at_evict.specs.Joining.{HaveSame}
+use Rattle.at_evict.proofs.Common.{◌-◌, length, HaveSame}
 use Rattle.at_evict.proofs.joining.join_all.Given as goal
 
 abbrev pub invariant-loop-place : goal.invariant-loop-place

@@ -1,6 +1,4 @@
-use Rattle.at_evict.specs.Folding.{slots_at}
-use Rattle.at_cache.specs.Info.{memory_of}
-use Rattle.at_cache.specs.Putting.{is_current}
+use Rattle.at_evict.proofs.Common.{slots_at, memory_of, is_current}
 use Rattle.at_evict.proofs.lone.numbers_of.Goals as goal
 
 pub loop-slot-init : goal.loop-slot-init

@@ -1,6 +1,4 @@
-use Rattle.at_evict.specs.Folding.{AreLone, slots_at}
-use Rattle.at_cache.specs.Info.{memory_of}
-use Rattle.at_cache.specs.Putting.{is_current}
+use Rattle.at_evict.proofs.Common.{AreLone, slots_at, memory_of, is_current}
 use Rattle.at_evict.proofs.lone.numbers_of.Given as goal
 
 abbrev pub invariant-loop-slot : goal.invariant-loop-slot

@@ -1,4 +1,4 @@
-use Rattle.at_evict.specs.Folding.{IsLone}
+use Rattle.at_evict.proofs.Common.{IsLone}
 use Rattle.at_evict.proofs.of_folding.Gathering.{each_set}
 use Rattle.at_evict.proofs.lone.set_number.Goals as goal
 

@@ -1,4 +1,4 @@
-use Rattle.std.proofs.Common.{◌∙◌, Contains, subst, sym}
+use Rattle.at_evict.proofs.Common.{◌∙◌, Contains, subst, sym}
 use Rattle.at_evict.proofs.of_folding.Gathering.{is_none, is_one}
 use Rattle.at_evict.proofs.of_folding.Linking.{linked_goes, linked_push, linked_there}
 use Rattle.at_evict.proofs.relinking.add_link.Goals as goal

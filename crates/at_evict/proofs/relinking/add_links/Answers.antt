@@ -1,5 +1,4 @@
-use Rattle.std.proofs.Common.{subst, take_all}
-use Rattle.at_evict.specs.Folding.{Linked, slots_at}
+use Rattle.at_evict.proofs.Common.{subst, take_all, Linked, slots_at}
 use Rattle.at_evict.proofs.of_folding.Linking.{linked_none}
 use Rattle.at_evict.proofs.of_folding.Walking.{linked_more}
 use Rattle.at_evict.proofs.relinking.add_links.Goals as goal

@@ -1,5 +1,4 @@
-use Rattle.std.proofs.Common.{take}
-use Rattle.at_evict.specs.Folding.{Linked, slots_at}
+use Rattle.at_evict.proofs.Common.{take, Linked, slots_at}
 use Rattle.at_evict.proofs.relinking.add_links.Given as goal
 
 abbrev pub invariant-loop-slot : goal.invariant-loop-slot

@@ -1,8 +1,4 @@
-use Rattle.std.proofs.Common.{◌∙◌, ap, option_map, subst, sym}
-use Rattle.std.proofs.lemmas.Option.{none-some, same_Some}
-use Rattle.std.proofs.lemmas.Result.{on_ok_weaker}
-use Rattle.at_evict.specs.Folding.{Linked, slots_at}
-use Rattle.at_cache.specs.Info.{Info, info}
+use Rattle.at_evict.proofs.Common.{◌∙◌, ap, option_map, subst, sym, none-some, same_Some, on_ok_weaker, Linked, slots_at, Info, info}
 use Rattle.at_evict.proofs.relinking.add_own.Goals as goal
 
 pub returns-in-Some : goal.returns-in-Some

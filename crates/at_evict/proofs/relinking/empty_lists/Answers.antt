@@ -1,5 +1,4 @@
-use Rattle.std.proofs.Common.{ap}
-use Rattle.at_evict.specs.Folding.{slots_at}
+use Rattle.at_evict.proofs.Common.{ap, slots_at}
 use Rattle.at_evict.proofs.of_folding.Linking.{none_pushed}
 use Rattle.at_evict.proofs.relinking.empty_lists.Goals as goal
 

@@ -1,5 +1,4 @@
-use Rattle.std.proofs.Common.{◌≡◌, ℕ, []}
-use Rattle.at_evict.specs.Folding.{slots_at}
+use Rattle.at_evict.proofs.Common.{◌≡◌, ℕ, [], slots_at}
 use Rattle.at_evict.proofs.relinking.empty_lists.Given as goal
 
 abbrev pub invariant-loop : goal.invariant-loop

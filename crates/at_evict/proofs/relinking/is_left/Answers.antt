@@ -1,5 +1,4 @@
-use Rattle.std.proofs.Common.{ℕ, Contains, subst}
-use Rattle.at_evict.specs.Folding.{Stays}
+use Rattle.at_evict.proofs.Common.{ℕ, Contains, subst, Stays}
 use Rattle.at_evict.proofs.relinking.is_left.Goals as goal
 
 pub returns-clause-stay : goal.returns-clause-stay

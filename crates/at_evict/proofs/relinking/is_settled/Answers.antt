@@ -1,6 +1,4 @@
-use Rattle.std.proofs.Common.{ap, option_map, sym}
-use Rattle.at_cache.specs.Info.{info, memory_of}
-use Rattle.at_cache.specs.Putting.{is_current}
+use Rattle.at_evict.proofs.Common.{ap, option_map, sym, info, memory_of, is_current}
 use Rattle.at_evict.proofs.of_folding.Relinking.{relinks_settled}
 use Rattle.at_evict.proofs.relinking.is_settled.Goals as goal
 

@@ -1,7 +1,4 @@
-use Rattle.std.proofs.Common.{◌≡◌, ◌∙◌, List, ℕ, ap, eqb, IsPermutation, length, subst, sym}
-use Rattle.std.specs.List.{dedup}
-use Rattle.smallvec.proofs.SmallVecLemmas.{items-with_items}
-use Rattle.at_evict.specs.Folding.{HasSame}
+use Rattle.at_evict.proofs.Common.{◌≡◌, ◌∙◌, List, ℕ, ap, eqb, IsPermutation, length, subst, sym, dedup, items-with_items, HasSame}
 use Rattle.at_evict.proofs.of_folding.Distinct.{same_sorted}
 use Rattle.at_evict.proofs.relinking.make_distinct.Goals as goal
 

@@ -1,8 +1,4 @@
-use Rattle.std.proofs.Common.{◌∙◌, arith, get_or, subst, sym}
-use Rattle.slab.specs.Slab.{get}
-use Rattle.at_evict.specs.Folding.{AreLone, RelinksAt, slots_at}
-use Rattle.at_cache.specs.Info.{memory_of}
-use Rattle.at_index.proofs.Lists.{got}
+use Rattle.at_evict.proofs.Common.{◌∙◌, arith, get_or, subst, sym, get, AreLone, RelinksAt, slots_at, memory_of, got}
 use Rattle.at_evict.proofs.of_folding.Linking.{listed_place}
 use Rattle.at_evict.proofs.of_folding.Relinking.{relinks_end, relinks_more, relinks_start, relinks_taken}
 use Rattle.at_evict.proofs.relinking.relink.Goals as goal

@@ -1,6 +1,4 @@
-use Rattle.slab.specs.Slab.{get}
-use Rattle.at_evict.specs.Folding.{listed_at, slots_at}
-use Rattle.at_cache.specs.Info.{memory_of}
+use Rattle.at_evict.proofs.Common.{get, listed_at, slots_at, memory_of}
 use Rattle.at_evict.proofs.of_folding.Relinking.{RelinksBelow}
 use Rattle.at_evict.proofs.relinking.relink.Given as goal
 

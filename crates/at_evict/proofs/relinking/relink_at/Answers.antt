@@ -1,6 +1,4 @@
-use Rattle.std.proofs.Common.{◌∙◌, sym}
-use Rattle.at_evict.specs.Folding.{slots_at}
-use Rattle.at_cache.specs.Info.{memory_of}
+use Rattle.at_evict.proofs.Common.{◌∙◌, sym, slots_at, memory_of}
 use Rattle.at_evict.proofs.of_folding.Gathering.{is_none}
 use Rattle.at_evict.proofs.of_folding.Relinking.{relinks_nothing, relinks_same}
 use Rattle.at_evict.proofs.relinking.relink_at.Goals as goal

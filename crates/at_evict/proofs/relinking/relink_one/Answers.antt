@@ -1,7 +1,4 @@
-use Rattle.std.proofs.Common.{◌∙◌, subst, sym}
-use Rattle.at_index.specs.Edges.{edges_in}
-use Rattle.at_evict.specs.Folding.{AreLone, slots_at}
-use Rattle.at_cache.specs.Info.{memory_of}
+use Rattle.at_evict.proofs.Common.{◌∙◌, subst, sym, edges_in, AreLone, slots_at, memory_of}
 use Rattle.at_evict.proofs.of_folding.Relinking.{current_taken, relinks_none, relinks_one}
 use Rattle.at_evict.proofs.relinking.relink_one.Goals as goal
 

@@ -1,5 +1,4 @@
-use Rattle.std.proofs.Common.{◌∙◌, sym}
-use Rattle.at_cache.specs.Info.{memory_of}
+use Rattle.at_evict.proofs.Common.{◌∙◌, sym, memory_of}
 use Rattle.at_evict.proofs.of_folding.Gathering.{is_none, is_one}
 use Rattle.at_evict.proofs.of_folding.Relinking.{removes_by, removes_none, removes_nothing}
 use Rattle.at_evict.proofs.relinking.remove_at.Goals as goal

@@ -1,6 +1,4 @@
-use Rattle.std.proofs.Common.{subst, sym, take_all}
-use Rattle.at_evict.specs.Folding.{Remains, slots_at}
-use Rattle.at_cache.specs.Info.{memory_of}
+use Rattle.at_evict.proofs.Common.{subst, sym, take_all, Remains, slots_at, memory_of}
 use Rattle.at_evict.proofs.of_folding.Taken.{RemainsOf, of_all, of_more, of_none}
 use Rattle.at_evict.proofs.relinking.remove_folded.Goals as goal
 

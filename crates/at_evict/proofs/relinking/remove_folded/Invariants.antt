@@ -1,6 +1,4 @@
-use Rattle.std.proofs.Common.{take}
-use Rattle.at_evict.specs.Folding.{slots_at}
-use Rattle.at_cache.specs.Info.{memory_of}
+use Rattle.at_evict.proofs.Common.{take, slots_at, memory_of}
 use Rattle.at_evict.proofs.of_folding.Taken.{RemainsOf}
 use Rattle.at_evict.proofs.relinking.remove_folded.Given as goal
 

@@ -1,4 +1,4 @@
-use Rattle.std.proofs.Common.{◌∙◌, sym}
+use Rattle.at_evict.proofs.Common.{◌∙◌, sym}
 use Rattle.at_evict.proofs.of_folding.Rerun.{covers_near, covers_pushed}
 use Rattle.at_evict.proofs.rerunning.add_near.Goals as goal
 

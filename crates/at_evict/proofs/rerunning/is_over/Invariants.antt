@@ -1,6 +1,4 @@
-use Rattle.std.proofs.Common.{◌≡◌, false, take}
-use Rattle.std.specs.List.{list_any}
-use Rattle.at_evict.specs.Rerunning.{is_as_wide}
+use Rattle.at_evict.proofs.Common.{◌≡◌, false, take, list_any, is_as_wide}
 use Rattle.at_evict.proofs.rerunning.is_over.Given as goal
 
 abbrev pub invariant-loop-other : goal.invariant-loop-other

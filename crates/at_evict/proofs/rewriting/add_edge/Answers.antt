@@ -1,7 +1,4 @@
-use Rattle.std.proofs.Common.{Contains, List, subst}
-use Rattle.at_index.specs.declared.row.Row.{Row}
-use Rattle.at_index.specs.Rows.{edges_along}
-use Rattle.at_cache.specs.Putting.{is_current}
+use Rattle.at_evict.proofs.Common.{Contains, List, subst, Row, edges_along, is_current}
 use Rattle.at_evict.proofs.of_folding.Parting.{added_had, added_more}
 use Rattle.at_evict.proofs.rewriting.add_edge.Goals as goal
 

@@ -1,6 +1,4 @@
-use Rattle.std.proofs.Common.{refl}
-use Rattle.at_index.proofs.Lists.{node_there}
-use Rattle.at_index.proofs.RowLists.{along_has}
+use Rattle.at_evict.proofs.Common.{refl, node_there, along_has}
 use Rattle.at_evict.proofs.room.has_at.Goals as goal
 
 pub returns-in-Some : goal.returns-in-Some

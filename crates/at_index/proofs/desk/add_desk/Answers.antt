@@ -1,6 +1,5 @@
-use Rattle.std.proofs.Common.{◌∙◌}
+use Rattle.at_index.proofs.Common.{◌∙◌, ghosts}
 use Rattle.indexmap.proofs.CallerLemmas.{insert_entry-new}
-use Rattle.at_index.specs.contracts.desk.SpotPartialEq.TheImpl.{ghosts}
 use Rattle.at_index.proofs.DeskEdges.{new_has, new_reads}
 use Rattle.at_index.proofs.desk.add_desk.Goals as goal
 

@@ -1,6 +1,4 @@
-use Rattle.std.proofs.Common.{[], take}
-use Rattle.at_index.specs.Linking.{Keeps}
-use Rattle.at_index.specs.Rows.{edges_along}
+use Rattle.at_index.proofs.Common.{[], take, Keeps, edges_along}
 use Rattle.at_index.proofs.desk.are_idle.Given as goal
 
 abbrev pub invariant-loop-row : goal.invariant-loop-row

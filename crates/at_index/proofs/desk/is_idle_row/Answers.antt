@@ -1,5 +1,4 @@
-use Rattle.std.proofs.Common.{◌∙◌, sym}
-use Rattle.at_index.specs.Rows.{edges_of}
+use Rattle.at_index.proofs.Common.{◌∙◌, sym, edges_of}
 use Rattle.at_index.proofs.Listing.{keeps_itself}
 use Rattle.at_index.proofs.RowLists.{keeps_rest, keeps_then}
 use Rattle.at_index.proofs.desk.is_idle_row.Goals as goal

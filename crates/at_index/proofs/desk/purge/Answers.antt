@@ -1,4 +1,4 @@
-use Rattle.std.proofs.Common.{◌≡◌, ◌∙◌, IfSome, subst, swap_remove}
+use Rattle.at_index.proofs.Common.{◌≡◌, ◌∙◌, IfSome, subst, swap_remove}
 use Rattle.at_index.proofs.DeskEdges.{desk_goes}
 use Rattle.at_index.proofs.RowLists.{keeps_then}
 use Rattle.at_index.proofs.desk.purge.Goals as goal

@@ -1,7 +1,4 @@
-use Rattle.std.proofs.Common.{ℕ, ◌-◌, length}
-use Rattle.at_model.specs.Run.{Location}
-use Rattle.at_index.specs.Desks.{edges_in_desks}
-use Rattle.at_index.specs.Linking.{Keeps}
+use Rattle.at_index.proofs.Common.{ℕ, ◌-◌, length, Location, edges_in_desks, Keeps}
 use Rattle.at_index.proofs.desk.purge.Given as goal
 
 abbrev pub invariant-loop-place : goal.invariant-loop-place

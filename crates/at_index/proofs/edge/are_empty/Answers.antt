@@ -1,4 +1,4 @@
-use Rattle.std.proofs.Common.{◌∙◌, sym}
+use Rattle.at_index.proofs.Common.{◌∙◌, sym}
 use Rattle.at_index.proofs.NoRows.{none_more, some_there, none_at_all}
 use Rattle.at_index.proofs.edge.are_empty.Goals as goal
 

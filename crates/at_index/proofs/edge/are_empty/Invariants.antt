@@ -1,5 +1,4 @@
-use Rattle.std.proofs.Common.{◌≡◌, [], take}
-use Rattle.at_index.specs.Rows.{edges_along}
+use Rattle.at_index.proofs.Common.{◌≡◌, [], take, edges_along}
 use Rattle.at_index.proofs.edge.are_empty.Given as goal
 
 abbrev pub invariant-loop-row : goal.invariant-loop-row

@@ -1,4 +1,4 @@
-use Rattle.std.proofs.Common.{◌≡◌, take}
+use Rattle.at_index.proofs.Common.{◌≡◌, take}
 use Rattle.at_index.proofs.edge.are_same.Given as goal
 
 abbrev pub invariant-loop-place : goal.invariant-loop-place

@@ -1,5 +1,4 @@
-use Rattle.std.proofs.Common.{◌∙◌}
-use Rattle.std.proofs.lemmas.Option.{IfSome_then}
+use Rattle.at_index.proofs.Common.{◌∙◌, IfSome_then}
 use Rattle.at_index.proofs.RowLists.{alone_along, none_along}
 use Rattle.at_index.proofs.edge.few_of.Goals as goal
 

@@ -1,7 +1,5 @@
-use Rattle.std.proofs.Common.{◌∙◌, arith, eq-eqb, ne_eqb, refl, sym}
-use Rattle.std.proofs.lemmas.Nat.Bits.{shr_and_one}
-use Rattle.at_store.specs.Located.{loc_view}
-use Rattle.at_index.specs.Asking.{Answers}
+use Rattle.at_index.proofs.Common.{◌∙◌, arith, refl, sym, shr_and_one, loc_view, Answers}
+use Rattle.std.proofs.Common.{eq-eqb, ne_eqb}
 use Rattle.at_index.proofs.Beginning.{all_asked, all_passed, number_asked, number_passed, one_touched}
 use Rattle.at_index.proofs.facet.is_any_touched.Goals as goal
 use Rattle.at_index.proofs.facet.is_any_touched.Goals.{else-rest-eq1-via-then-rest-eq1+else-touched, else-rest-eq1-via-else-rest-eq1}

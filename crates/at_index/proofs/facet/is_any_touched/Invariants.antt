@@ -1,4 +1,4 @@
-use Rattle.at_index.specs.Asking.{Answers}
+use Rattle.at_index.proofs.Common.{Answers}
 use Rattle.at_index.proofs.Beginning.{AreFalse}
 use Rattle.at_index.proofs.facet.is_any_touched.Given as goal
 

@@ -1,5 +1,4 @@
-use Rattle.std.proofs.Common.{◌+◌, ◌*◌, arith, refl}
-use Rattle.at_model.specs.Run.{Tok}
+use Rattle.at_index.proofs.Common.{◌+◌, ◌*◌, arith, refl, Tok}
 use Rattle.at_index.proofs.Locations.{shifted_alone, stands_alone}
 use Rattle.at_index.proofs.facet.token.Goals as goal
 

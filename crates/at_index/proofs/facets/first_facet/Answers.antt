@@ -1,8 +1,4 @@
-use Rattle.std.proofs.Common.{◌≡◌, List, ◌∷◌, ◌∙◌, map, subst, sym}
-use Rattle.at_store.specs.declared.node.Loc.{Loc}
-use Rattle.at_store.specs.Located.{loc_view}
-use Rattle.at_index.specs.Sameness.{node_at, same_location}
-use Rattle.at_index.specs.Readers.{IsFirst, stands_for}
+use Rattle.at_index.proofs.Common.{◌≡◌, List, ◌∷◌, ◌∙◌, map, subst, sym, Loc, loc_view, node_at, same_location, IsFirst, stands_for}
 use Rattle.at_index.proofs.Locations.{first_alone, first_wider, not_other}
 use Rattle.at_index.proofs.facets.first_facet.Goals as goal
 

@@ -1,6 +1,4 @@
-use Rattle.std.proofs.Common.{◌∷◌, length, map}
-use Rattle.at_store.specs.Located.{loc_view}
-use Rattle.at_index.specs.Readers.{IsFirst}
+use Rattle.at_index.proofs.Common.{◌∷◌, length, map, loc_view, IsFirst}
 use Rattle.at_index.proofs.facets.first_facet.Given as goal
 
 abbrev pub invariant-loop-next : goal.invariant-loop-next

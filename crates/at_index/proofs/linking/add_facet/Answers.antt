@@ -1,5 +1,4 @@
-use Rattle.std.proofs.Common.{refl}
-use Rattle.at_index.specs.declared.facet.Readers.{Readers}
+use Rattle.at_index.proofs.Common.{refl, Readers}
 use Rattle.at_index.proofs.linking.add_facet.Goals as goal
 
 pub returns-clause-added : goal.returns-clause-added

@@ -1,7 +1,4 @@
-use Rattle.std.proofs.Common.{sym, subst, Contains}
-use Rattle.std.proofs.lemmas.List.Elements.{Contains-push}
-use Rattle.at_index.specs.Edges.{edges_in}
-use Rattle.at_index.specs.Linking.{Lists}
+use Rattle.at_index.proofs.Common.{sym, subst, Contains, Contains-push, edges_in, Lists}
 use Rattle.at_index.proofs.Listing.{listed_one}
 use Rattle.at_index.proofs.linking.add_to_few.Goals as goal
 

@@ -1,6 +1,4 @@
-use Rattle.std.proofs.Common.{sym, subst}
-use Rattle.at_index.specs.Edges.{edges_in}
-use Rattle.at_index.specs.Linking.{Lists}
+use Rattle.at_index.proofs.Common.{sym, subst, edges_in, Lists}
 use Rattle.at_index.proofs.Listing.{listed_one}
 use Rattle.at_index.proofs.OneEdge.{alone_has}
 use Rattle.at_index.proofs.linking.add_to_row.Goals as goal

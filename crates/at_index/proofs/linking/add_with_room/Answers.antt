@@ -1,4 +1,4 @@
-use Rattle.std.proofs.Common.{refl}
+use Rattle.at_index.proofs.Common.{refl}
 use Rattle.at_index.proofs.RowLists.{has_row, lists_row}
 use Rattle.at_index.proofs.linking.add_with_room.Goals as goal
 

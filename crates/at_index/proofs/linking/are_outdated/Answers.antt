@@ -1,5 +1,4 @@
-use Rattle.std.proofs.Common.{[], subst}
-use Rattle.at_index.specs.Linking.{Keeps}
+use Rattle.at_index.proofs.Common.{[], subst, Keeps}
 use Rattle.at_index.proofs.linking.are_outdated.Goals as goal
 
 pub returns-in-Some : goal.returns-in-Some

@@ -1,4 +1,4 @@
-use Rattle.std.proofs.Common.{sym}
+use Rattle.at_index.proofs.Common.{sym}
 use Rattle.at_index.proofs.RowLists.{along_has}
 use Rattle.at_index.proofs.linking.do_end_with.Goals as goal
 

@@ -1,5 +1,4 @@
-use Rattle.std.proofs.Common.{◌≡◌, ◌∙◌, arith, ap, length, suc}
-use Rattle.at_index.specs.Rows.{edges_along}
+use Rattle.at_index.proofs.Common.{◌≡◌, ◌∙◌, arith, ap, length, suc, edges_along}
 use Rattle.at_index.proofs.RowLists.{last_longer}
 use Rattle.at_index.proofs.linking.extends_last.Goals as goal
 

@@ -1,4 +1,4 @@
-use Rattle.std.proofs.Common.{◌∙◌, [], sym}
+use Rattle.at_index.proofs.Common.{◌∙◌, [], sym}
 use Rattle.at_index.proofs.RowLists.{keeps_rest}
 use Rattle.at_index.proofs.linking.is_outdated.Goals as goal
 

@@ -1,6 +1,4 @@
-use Rattle.std.proofs.Common.{◌≡◌, ◌≤◌, ◌-◌, ◌+◌, ◌^◌, ℕ, length}
-use Rattle.at_model.specs.Run.{Location}
-use Rattle.at_index.specs.Readers.{edges_at}
+use Rattle.at_index.proofs.Common.{◌≡◌, ◌≤◌, ◌-◌, ◌+◌, ◌^◌, ℕ, length, Location, edges_at}
 use Rattle.at_index.proofs.linking.make_list.Given as goal
 
 abbrev pub invariant-loop-alloc : goal.invariant-loop-alloc

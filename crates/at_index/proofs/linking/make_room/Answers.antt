@@ -1,5 +1,4 @@
-use Rattle.std.proofs.Common.{ap}
-use Rattle.at_index.specs.Rows.{edges_along}
+use Rattle.at_index.proofs.Common.{ap, edges_along}
 use Rattle.at_index.proofs.Listing.{kept_on}
 use Rattle.at_index.proofs.linking.make_room.Goals as goal
 

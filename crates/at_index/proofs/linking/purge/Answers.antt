@@ -1,4 +1,4 @@
-use Rattle.std.proofs.Common.{◌∙◌, ◌<◌, arith, length, sym}
+use Rattle.at_index.proofs.Common.{◌∙◌, ◌<◌, arith, length, sym}
 use Rattle.at_index.proofs.RowLists.{keeps_then, row_goes, row_set}
 use Rattle.at_index.proofs.linking.purge.Goals as goal
 

@@ -1,7 +1,4 @@
-use Rattle.std.proofs.Common.{◌∙◌, ap, sym}
-use Rattle.smallvec.specs.SmallVec.{SmallVec}
-use Rattle.at_index.specs.declared.row.Row.{Row}
-use Rattle.at_index.specs.Rows.{edges_along}
+use Rattle.at_index.proofs.Common.{◌∙◌, ap, sym, SmallVec, Row, edges_along}
 use Rattle.at_index.proofs.Listing.{keeps_itself, listed_one, lists_same}
 use Rattle.at_index.proofs.RowLists.{has_row, lists_row}
 use Rattle.at_index.proofs.linking.push_edge.Goals as goal

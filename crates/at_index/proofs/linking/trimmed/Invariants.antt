@@ -1,6 +1,4 @@
-use Rattle.std.proofs.Common.{length}
-use Rattle.at_index.specs.Linking.{Keeps}
-use Rattle.at_index.specs.Rows.{edges_of}
+use Rattle.at_index.proofs.Common.{length, Keeps, edges_of}
 use Rattle.at_index.proofs.linking.trimmed.Given as goal
 
 abbrev pub invariant-loop-edge : goal.invariant-loop-edge

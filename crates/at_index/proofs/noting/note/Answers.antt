@@ -1,4 +1,4 @@
-use Rattle.std.proofs.lemmas.Result.{on_ok_weaker}
+use Rattle.at_index.proofs.Common.{on_ok_weaker}
 use Rattle.at_index.proofs.Noted.{index_is}
 use Rattle.at_index.proofs.noting.note.Goals as goal
 

@@ -1,5 +1,4 @@
-use Rattle.std.proofs.Common.{refl}
-use Rattle.at_index.specs.Readers.{edges_at}
+use Rattle.at_index.proofs.Common.{refl, edges_at}
 use Rattle.at_index.proofs.Noted.{noted_there}
 use Rattle.at_index.proofs.noting.note_node.Goals as goal
 

@@ -1,6 +1,4 @@
-use Rattle.std.proofs.Common.{subst, sym}
-use Rattle.at_index.specs.declared.run.Run.{Run}
-use Rattle.at_index.specs.Runs.{KeepsRuns}
+use Rattle.at_index.proofs.Common.{subst, sym, Run, KeepsRuns}
 use Rattle.at_index.proofs.of_runs.Seats.{run_pushed, runs_stay}
 use Rattle.at_index.proofs.seating.add_run.Goals as goal
 

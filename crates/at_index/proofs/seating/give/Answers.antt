@@ -1,5 +1,4 @@
-use Rattle.std.proofs.Common.{inl, arith, refl, sym}
-use Rattle.at_index.specs.declared.run.Run.{Run}
+use Rattle.at_index.proofs.Common.{inl, arith, refl, sym, Run}
 use Rattle.at_index.proofs.of_runs.Seats.{count_is, lent, set_given, set_here, set_on, set_past}
 use Rattle.at_index.proofs.seating.give.Goals as goal
 

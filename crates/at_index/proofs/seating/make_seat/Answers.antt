@@ -1,5 +1,4 @@
-use Rattle.std.proofs.Common.{◌≡◌, ◌∙◌, refl, rules, subst, sym}
-use Rattle.at_index.specs.Runs.{AreApart, AreGiven, IsFree, edges_over}
+use Rattle.at_index.proofs.Common.{◌≡◌, ◌∙◌, refl, rules, subst, sym, AreApart, AreGiven, IsFree, edges_over}
 use Rattle.at_index.proofs.of_runs.Seats.{apart_pushed, free_pushed, given_pushed, over_pushed}
 use Rattle.at_index.proofs.seating.make_seat.Goals as goal
 

@@ -1,7 +1,4 @@
-use Rattle.std.proofs.Common.{◌≡◌, ◌≤◌, ◌-◌, ◌+◌, ◌^◌, ℕ, List, length}
-use Rattle.at_model.specs.Run.{Location}
-use Rattle.at_index.specs.declared.run.Run.{Run}
-use Rattle.at_index.specs.Runs.{AreApart, AreGiven, IsFree, edges_over}
+use Rattle.at_index.proofs.Common.{◌≡◌, ◌≤◌, ◌-◌, ◌+◌, ◌^◌, ℕ, List, length, Location, Run, AreApart, AreGiven, IsFree, edges_over}
 use Rattle.at_index.proofs.seating.make_seat.Given as goal
 
 abbrev pub invariant-loop-node : goal.invariant-loop-node

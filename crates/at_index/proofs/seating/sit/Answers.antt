@@ -1,6 +1,4 @@
-use Rattle.std.proofs.Common.{◌≡◌, ◌∙◌, Some, arith, refl, rules, slice_get, subst}
-use Rattle.std.proofs.lemmas.Option.{slice_get_read}
-use Rattle.at_index.specs.declared.run.Seat.{Seat}
+use Rattle.at_index.proofs.Common.{◌≡◌, ◌∙◌, Some, arith, refl, rules, slice_get, subst, slice_get_read, Seat}
 use Rattle.at_index.proofs.of_runs.Seats.{beyond, over_runs, sits_apart, sits_given, sits_same}
 use Rattle.at_index.proofs.seating.sit.Goals as goal
 

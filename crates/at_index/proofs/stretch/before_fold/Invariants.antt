@@ -1,4 +1,4 @@
-use Rattle.std.proofs.Common.{◌≡◌, ◌+◌, ◌≤◌, length}
+use Rattle.at_index.proofs.Common.{◌≡◌, ◌+◌, ◌≤◌, length}
 use Rattle.at_index.proofs.stretch.before_fold.Given as goal
 
 abbrev pub invariant-loop-place : goal.invariant-loop-place

@@ -1,5 +1,4 @@
-use Rattle.std.proofs.Common.{map, refl}
-use Rattle.at_store.specs.Located.{loc_view}
+use Rattle.at_index.proofs.Common.{map, refl, loc_view}
 use Rattle.at_index.proofs.of_runs.Following.{follows_more, follows_none}
 use Rattle.at_index.proofs.Locations.{first_of}
 use Rattle.at_index.proofs.stretch.follow.Goals as goal

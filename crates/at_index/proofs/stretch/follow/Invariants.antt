@@ -1,6 +1,4 @@
-use Rattle.std.proofs.Common.{length, map}
-use Rattle.at_store.specs.Located.{loc_view}
-use Rattle.at_index.specs.Runs.{Follows}
+use Rattle.at_index.proofs.Common.{length, map, loc_view, Follows}
 use Rattle.at_index.proofs.stretch.follow.Given as goal
 
 abbrev pub invariant-loop-location : goal.invariant-loop-location

@@ -1,7 +1,4 @@
-use Rattle.std.proofs.Common.{◌∙◌, ◌&&◌, ap, sym}
-use Rattle.at_cache.specs.Flushing.{is_fresh}
-use Rattle.at_cache.specs.Info.{memory_of}
-use Rattle.at_cache.specs.Standings.{standing_of}
+use Rattle.at_cache.proofs.Common.{◌∙◌, ◌&&◌, ap, sym, is_fresh, memory_of, standing_of}
 use Rattle.at_cache.proofs.of_cut.Seeing.{fresh_seen}
 use Rattle.at_cache.proofs.cut.Cut.is_fresh.Goals as goal
 

@@ -1,6 +1,4 @@
-use Rattle.std.proofs.Common.{◌∙◌, ap, sym}
-use Rattle.at_cache.specs.Info.{memory_of}
-use Rattle.at_cache.specs.Standings.{is_alive}
+use Rattle.at_cache.proofs.Common.{◌∙◌, ap, sym, memory_of, is_alive}
 use Rattle.at_cache.proofs.of_cut.Alive.{not_told, told_as}
 use Rattle.at_cache.proofs.cut.CutTells.tells_of.Goals as goal
 

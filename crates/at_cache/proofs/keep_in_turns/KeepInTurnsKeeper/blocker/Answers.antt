@@ -1,4 +1,4 @@
-use Rattle.std.specs.Prelude.{Option, None, Some, IfSome, true}
+use Rattle.at_cache.proofs.Common.{Option, None, Some, IfSome, true}
 use Rattle.at_cache.proofs.of_cut.InTurns.{next_in_turns}
 use Rattle.at_cache.proofs.keep_in_turns.KeepInTurnsKeeper.blocker.Goals as goal
 

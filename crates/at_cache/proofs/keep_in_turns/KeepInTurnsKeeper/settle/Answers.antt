@@ -1,4 +1,4 @@
-use Rattle.std.specs.Prelude.{true}
+use Rattle.at_cache.proofs.Common.{true}
 use Rattle.at_cache.proofs.of_cut.InTurns.{settled_in_turns}
 use Rattle.at_cache.proofs.keep_in_turns.KeepInTurnsKeeper.settle.Goals as goal
 

@@ -1,6 +1,4 @@
-use Rattle.std.proofs.Common.{sym, true≢false, ◌∙◌}
-use Rattle.at_index.specs.Finding.{edges_to}
-use Rattle.at_cache.specs.Info.{memory_of}
+use Rattle.at_cache.proofs.Common.{sym, true≢false, ◌∙◌, edges_to, memory_of}
 use Rattle.at_cache.proofs.of_cut.Shed.{indexed_untraced, keeps_untraced, stay_untraced, there_untraced, tied_held, valued_untraced}
 use Rattle.at_cache.proofs.keep_recorded.KeepRecorded.folded.Goals as goal
 

@@ -1,5 +1,4 @@
-use Rattle.std.proofs.Common.{◌≤◌, length, subst, sym, true≢false}
-use Rattle.at_index.specs.Finding.{edges_to}
+use Rattle.at_cache.proofs.Common.{◌≤◌, length, subst, sym, true≢false, edges_to}
 use Rattle.at_cache.proofs.of_cut.Shed.{indexed_shed, keeps_shed, stay_shed, tied_shed, valued_shed}
 use Rattle.at_cache.proofs.keep_recorded.KeepRecorded.shed.Goals as goal
 

@@ -1,5 +1,4 @@
-use Rattle.std.proofs.Common.{sym, ◌∙◌}
-use Rattle.std.proofs.lemmas.Result.{IfOk-weaker}
+use Rattle.at_cache.proofs.Common.{sym, ◌∙◌, IfOk-weaker}
 use Rattle.at_cache.proofs.of_cut.Shed.{shrinks_then}
 use Rattle.at_cache.proofs.keep_recorded.KeepRecorded.shrunk.Goals as goal
 

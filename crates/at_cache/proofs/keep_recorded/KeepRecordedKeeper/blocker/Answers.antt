@@ -1,6 +1,4 @@
-use Rattle.std.proofs.Common.{subst, sym}
-use Rattle.at_cache.specs.Blocking.{LeadsTo}
-use Rattle.at_index.specs.Finding.{edges_to}
+use Rattle.at_cache.proofs.Common.{subst, sym, LeadsTo, edges_to}
 use Rattle.at_cache.proofs.of_cut.InTheWay.{next_from}
 use Rattle.at_cache.proofs.keep_recorded.KeepRecordedKeeper.blocker.Goals as goal
 

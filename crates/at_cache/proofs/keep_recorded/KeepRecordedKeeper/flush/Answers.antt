@@ -1,7 +1,4 @@
-use Rattle.std.proofs.Common.{arith, true≢false}
-use Rattle.at_index.specs.Asking.{Answers}
-use Rattle.at_index.specs.Finding.{edges_to}
-use Rattle.at_cache.specs.Shedding.{remembered_cut}
+use Rattle.at_cache.proofs.Common.{arith, true≢false, Answers, edges_to, remembered_cut}
 use Rattle.at_cache.proofs.of_cut.Flushed.{flushes_traces, held_after, leaves_held, loses_held, spares_edit, tied_after, valued_after}
 use Rattle.at_cache.proofs.of_cut.Shed.{flushes_then}
 use Rattle.at_cache.proofs.of_cut.LetGo.{leaves_then, loses_then, spares_then}

@@ -1,5 +1,4 @@
-use Rattle.at_index.specs.Finding.{edges_to}
-use Rattle.at_cache.specs.Standings.{remembered}
+use Rattle.at_cache.proofs.Common.{edges_to, remembered}
 use Rattle.at_cache.proofs.of_cut.Spared.{untraced_sure}
 use Rattle.at_cache.proofs.keep_recorded.KeepRecordedKeeper.has_trace.Goals as goal
 

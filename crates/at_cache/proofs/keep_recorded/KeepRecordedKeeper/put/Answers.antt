@@ -1,13 +1,4 @@
-use Rattle.std.proofs.Common.{◌≡◌, ◌+◌, ◌∙◌, None, Some, ℕ, inl, map, option_map, rules, subst, sym, true≢false}
-use Rattle.at_model.specs.Run.{Instance}
-use Rattle.at_body.specs.Values.{value_view}
-use Rattle.at_store.specs.Located.{loc_view}
-use Rattle.at_cache.specs.declared.keep_recorded.KeepRecorded.{KeepRecorded}
-use Rattle.at_index.specs.Finding.{edges_to}
-use Rattle.at_cache.specs.Info.{Info, memory_of}
-use Rattle.at_cache.specs.Kept.{AreKept, Entries, Puts}
-use Rattle.at_cache.specs.Renewing.{IsAwaited, IsSlotFor}
-use Rattle.at_cache.specs.Standings.{kept_held, remembered}
+use Rattle.at_cache.proofs.Common.{◌≡◌, ◌+◌, ◌∙◌, None, Some, ℕ, inl, map, option_map, rules, subst, sym, true≢false, Instance, value_view, loc_view, KeepRecorded, edges_to, Info, memory_of, AreKept, Entries, Puts, IsAwaited, IsSlotFor, kept_held, remembered}
 use Rattle.at_cache.proofs.of_cut.Goes.{stay_traced}
 use Rattle.at_cache.proofs.of_cut.LeftHeld.{on_err}
 use Rattle.at_cache.proofs.of_cut.Outdated.{puts_after, stay_after}

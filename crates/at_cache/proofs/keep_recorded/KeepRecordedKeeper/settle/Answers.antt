@@ -1,7 +1,4 @@
-use Rattle.std.proofs.Common.{◌<◌, ◌^◌, ℕ, sym, true≢false, ◌∙◌}
-use Rattle.at_cache.specs.declared.keep_recorded.KeepRecorded.{KeepRecorded}
-use Rattle.at_index.specs.Finding.{edges_to}
-use Rattle.at_cache.specs.Settling.{IsWhole}
+use Rattle.at_cache.proofs.Common.{◌<◌, ◌^◌, ℕ, sym, true≢false, ◌∙◌, KeepRecorded, edges_to, IsWhole}
 use Rattle.at_cache.proofs.of_cut.Goes.{alike_from, goes_from, settled_from, stay_from, stay_traced}
 use Rattle.at_cache.proofs.of_cut.Spared.{alike_itself}
 use Rattle.at_cache.proofs.of_cut.Behind.{settles_nothing}

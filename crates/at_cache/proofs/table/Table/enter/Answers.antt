@@ -1,7 +1,4 @@
-use Rattle.std.proofs.Common.{◌≡◌, ◌∙◌, ℕ, Some, option_map, sym, ap, subst, refl, rules}
-use Rattle.slab.specs.Slab.{get}
-use Rattle.at_cache.specs.Info.{info, memory_of}
-use Rattle.at_cache.specs.Placed.{at}
+use Rattle.at_cache.proofs.Common.{◌≡◌, ◌∙◌, ℕ, Some, option_map, sym, ap, subst, refl, rules, get, info, memory_of, at}
 use Rattle.at_cache.proofs.Came.{come_more}
 use Rattle.at_cache.proofs.Changing.{entered_at, free_slot, memory_entered}
 use Rattle.at_cache.proofs.Moving.{apart_by, given_back, placed, slot_entered, table_by, table_entered}

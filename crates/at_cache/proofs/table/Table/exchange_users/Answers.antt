@@ -1,8 +1,4 @@
-use Rattle.std.proofs.Common.{sym, refl}
-use Rattle.slab.specs.Slab.{get}
-use Rattle.at_index.specs.Edges.{edges_in}
-use Rattle.at_cache.specs.Slots.{with_list}
-use Rattle.at_cache.specs.Putting.{with_users}
+use Rattle.at_cache.proofs.Common.{sym, refl, get, edges_in, with_list, with_users}
 use Rattle.at_cache.proofs.Changing.{still, absent_changed, length_changed, memory_changed, place_within, taken_slot, users_there}
 use Rattle.at_cache.proofs.table.Table.exchange_users.Goals as goal
 

@@ -1,4 +1,4 @@
-use Rattle.std.proofs.Common.{◌∙◌, sym}
+use Rattle.at_cache.proofs.Common.{◌∙◌, sym}
 use Rattle.at_cache.proofs.Came.{none_by}
 use Rattle.at_cache.proofs.table.Table.get.Goals as goal
 

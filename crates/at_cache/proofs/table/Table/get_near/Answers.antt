@@ -1,4 +1,4 @@
-use Rattle.std.proofs.Common.{◌∙◌, sym}
+use Rattle.at_cache.proofs.Common.{◌∙◌, sym}
 use Rattle.at_cache.proofs.Shown.{looked_up}
 use Rattle.at_cache.proofs.table.Table.get_near.Goals as goal
 

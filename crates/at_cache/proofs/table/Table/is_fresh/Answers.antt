@@ -1,4 +1,4 @@
-use Rattle.std.proofs.Common.{◌∙◌}
+use Rattle.at_cache.proofs.Common.{◌∙◌}
 use Rattle.at_cache.proofs.Telling.{fresh_none, fresh_some}
 use Rattle.at_cache.proofs.table.Table.is_fresh.Goals as goal
 

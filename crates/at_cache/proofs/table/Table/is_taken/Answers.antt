@@ -1,7 +1,4 @@
-use Rattle.std.proofs.Common.{ℕ, Option, ap, is_some, option_map}
-use Rattle.at_model.specs.Run.{Instance}
-use Rattle.at_cache.specs.declared.entry.Entry.{Entry}
-use Rattle.at_cache.specs.Info.{info}
+use Rattle.at_cache.proofs.Common.{ℕ, Option, ap, is_some, option_map, Instance, Entry, info}
 use Rattle.at_cache.proofs.table.Table.is_taken.Goals as goal
 
 pub returns-in-Some : goal.returns-in-Some

@@ -1,6 +1,4 @@
-use Rattle.std.proofs.Common.{◌≡◌, None, sym, subst}
-use Rattle.std.proofs.lemmas.Result.{IfOk-weaker}
-use Rattle.slab.specs.Slab.{get}
+use Rattle.at_cache.proofs.Common.{◌≡◌, None, sym, subst, IfOk-weaker, get}
 use Rattle.at_cache.proofs.Changing.{free_slot}
 use Rattle.at_cache.proofs.table.Table.next.Goals as goal
 

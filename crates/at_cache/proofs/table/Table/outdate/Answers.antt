@@ -1,6 +1,4 @@
-use Rattle.std.proofs.Common.{refl, sym}
-use Rattle.slab.specs.Slab.{get}
-use Rattle.at_cache.specs.Slots.{outdated, with_number}
+use Rattle.at_cache.proofs.Common.{refl, sym, get, outdated, with_number}
 use Rattle.at_cache.proofs.Changing.{still, memory_changed, place_within, taken_slot}
 use Rattle.at_cache.proofs.table.Table.outdate.Goals as goal
 

@@ -1,5 +1,4 @@
-use Rattle.std.proofs.Common.{◌∙◌, sym, ap, option_map}
-use Rattle.slab.specs.Slab.{get}
+use Rattle.at_cache.proofs.Common.{◌∙◌, sym, ap, option_map, get}
 use Rattle.at_cache.proofs.Moving.{at_none, at_some}
 use Rattle.at_cache.proofs.table.Table.pair.Goals as goal
 

@@ -1,8 +1,4 @@
-use Rattle.std.proofs.Common.{ap, option_map, refl, sym}
-use Rattle.slab.specs.Slab.{get}
-use Rattle.at_index.specs.Edges.{edges_in}
-use Rattle.at_cache.specs.Info.{info, memory_of}
-use Rattle.at_cache.specs.Slots.{relinked, with_rest}
+use Rattle.at_cache.proofs.Common.{ap, option_map, refl, sym, get, edges_in, info, memory_of, relinked, with_rest}
 use Rattle.at_cache.proofs.Changing.{still, memory_changed, place_within, unwritten}
 use Rattle.at_cache.proofs.Moving.{at_none}
 use Rattle.at_cache.proofs.table.Table.relink.Goals as goal

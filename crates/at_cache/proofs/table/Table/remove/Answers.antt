@@ -1,5 +1,4 @@
-use Rattle.slab.specs.Slab.{get}
-use Rattle.at_cache.specs.Placed.{at}
+use Rattle.at_cache.proofs.Common.{get, at}
 use Rattle.at_cache.proofs.Came.{come_on}
 use Rattle.at_cache.proofs.Changing.{value_taken}
 use Rattle.at_cache.proofs.table.Table.remove.Goals as goal

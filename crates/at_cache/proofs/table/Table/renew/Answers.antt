@@ -1,7 +1,4 @@
-use Rattle.std.proofs.Common.{option_map, refl, sym}
-use Rattle.slab.specs.Slab.{get}
-use Rattle.at_body.specs.Values.{value_view}
-use Rattle.at_cache.specs.Slots.{renewed, with_entry}
+use Rattle.at_cache.proofs.Common.{option_map, refl, sym, get, value_view, renewed, with_entry}
 use Rattle.at_cache.proofs.Changing.{still, length_changed, memory_changed, place_within, taken_slot}
 use Rattle.at_cache.proofs.table.Table.renew.Goals as goal
 

@@ -1,7 +1,4 @@
-use Rattle.std.proofs.Common.{sym, refl}
-use Rattle.slab.specs.Slab.{get}
-use Rattle.at_cache.specs.Slots.{with_mark}
-use Rattle.at_cache.specs.Flushing.{doomed}
+use Rattle.at_cache.proofs.Common.{sym, refl, get, with_mark, doomed}
 use Rattle.at_cache.proofs.Changing.{still, length_changed, marked, memory_changed, place_within, taken_slot}
 use Rattle.at_cache.proofs.table.Table.set_going.Goals as goal
 

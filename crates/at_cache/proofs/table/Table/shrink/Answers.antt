@@ -1,9 +1,4 @@
-use Rattle.std.proofs.Common.{ℕ, List, ap, option_map, subst, sym}
-use Rattle.slab.specs.Slab.{get}
-use Rattle.at_model.specs.Run.{Instance}
-use Rattle.at_cache.specs.Attributes.{HaveCome}
-use Rattle.at_cache.specs.declared.entry.Entry.{Entry}
-use Rattle.at_cache.specs.Info.{info}
+use Rattle.at_cache.proofs.Common.{ℕ, List, ap, option_map, subst, sym, get, Instance, HaveCome, Entry, info}
 use Rattle.at_cache.proofs.Moving.{at_same, placed_same}
 use Rattle.at_cache.proofs.table.Table.shrink.Goals as goal
 

@@ -1,9 +1,5 @@
-use Rattle.std.proofs.Common.{sym, refl}
-use Rattle.slab.specs.Slab.{get}
+use Rattle.at_cache.proofs.Common.{sym, refl, get, memory_of, unmarked, with_mark}
 use Rattle.at_cache.specs.declared.mark.Mark.TheVariants as mark
-use Rattle.at_cache.specs.Info.{memory_of}
-use Rattle.at_cache.specs.Marking.{unmarked}
-use Rattle.at_cache.specs.Slots.{with_mark}
 use Rattle.at_cache.proofs.Changing.{still, free_slot, length_changed, mark_there, memory_changed, place_within, unwritten}
 use Rattle.at_cache.proofs.table.Table.unmark.Goals as goal
 

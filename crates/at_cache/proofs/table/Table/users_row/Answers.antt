@@ -1,5 +1,4 @@
-use Rattle.std.proofs.Common.{◌≡◌, IfSome, subst}
-use Rattle.at_index.specs.Rows.{edges_of}
+use Rattle.at_cache.proofs.Common.{◌≡◌, IfSome, subst, edges_of}
 use Rattle.at_cache.proofs.of_cut.Slotted.{users_there}
 use Rattle.at_cache.proofs.table.Table.users_row.Goals as goal
 

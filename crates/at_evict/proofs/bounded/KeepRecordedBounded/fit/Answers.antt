@@ -1,8 +1,7 @@
-use Rattle.std.proofs.Common.{◌≡◌, subst}
+use Rattle.at_evict.proofs.Common.{◌≡◌, subst, Entries, Memories, StayTraced}
 use Rattle.at_cache.specs.declared.keep_recorded.KeepRecorded.{KeepRecorded}
 use Rattle.at_cache.specs.Keeping.{recorded_by, remembered_by}
-use Rattle.at_cache.specs.Kept.{Entries, LeavesKept}
-use Rattle.at_cache.specs.Traced.{Memories, StayTraced}
+use Rattle.at_cache.specs.Kept.{LeavesKept}
 use Rattle.at_evict.proofs.bounded.KeepRecordedBounded.fit.Goals as goal
 
 -- what is left of the one in the place is left of it

@@ -1,6 +1,4 @@
-use Rattle.std.proofs.Common.{ℕ, Contains, subst, take_all}
-use Rattle.at_evict.specs.Folding.{Stays}
-use Rattle.at_index.proofs.Lists.{none_in}
+use Rattle.at_evict.proofs.Common.{ℕ, Contains, subst, take_all, Stays, none_in}
 use Rattle.at_evict.proofs.of_folding.Walking.{all_more}
 use Rattle.at_evict.proofs.lone.Lone.are_at.Goals as goal
 

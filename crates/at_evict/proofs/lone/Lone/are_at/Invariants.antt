@@ -1,6 +1,4 @@
-use Rattle.std.proofs.Common.{ℕ, Bool, List, Contains, take}
-use Rattle.at_index.specs.declared.edge.Edge.{Edge}
-use Rattle.at_evict.specs.Folding.{AreLone, Stays}
+use Rattle.at_evict.proofs.Common.{ℕ, Bool, List, Contains, take, Edge, AreLone, Stays}
 use Rattle.at_evict.proofs.lone.Lone.are_at.Given as goal
 
 abbrev pub invariant-loop-slot : goal.invariant-loop-slot

@@ -1,5 +1,4 @@
-use Rattle.std.proofs.Common.{◌∙◌, ℕ, List, ap, refl, slice_get, sym}
-use Rattle.at_index.proofs.Lists.{node_there}
+use Rattle.at_evict.proofs.Common.{◌∙◌, ℕ, List, ap, refl, slice_get, sym, node_there}
 use Rattle.at_evict.proofs.lone.Lone.edge_to.Goals as goal
 
 pub returns : goal.returns

@@ -1,5 +1,4 @@
-use Rattle.std.proofs.Common.{◌∙◌, ℕ, List, ap, refl, slice_get, sym}
-use Rattle.at_index.proofs.Lists.{node_there}
+use Rattle.at_evict.proofs.Common.{◌∙◌, ℕ, List, ap, refl, slice_get, sym, node_there}
 use Rattle.at_evict.proofs.of_folding.Gathering.{lone_has}
 use Rattle.at_evict.proofs.lone.Lone.has.Goals as goal
 

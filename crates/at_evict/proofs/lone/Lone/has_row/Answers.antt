@@ -1,4 +1,4 @@
-use Rattle.std.proofs.Common.{inr}
+use Rattle.at_evict.proofs.Common.{inr}
 use Rattle.at_evict.proofs.of_folding.Gathering.{alone_end, alone_more}
 use Rattle.at_evict.proofs.lone.Lone.has_row.Goals as goal
 

@@ -1,7 +1,4 @@
-use Rattle.std.proofs.Common.{ℕ, Bool, List, length}
-use Rattle.at_index.specs.declared.edge.Edge.{Edge}
-use Rattle.at_evict.specs.Folding.{AreLone}
-use Rattle.at_index.specs.Rows.{edges_of}
+use Rattle.at_evict.proofs.Common.{ℕ, Bool, List, length, Edge, AreLone, edges_of}
 use Rattle.at_evict.proofs.of_folding.Gathering.{AreAloneBut}
 use Rattle.at_evict.proofs.lone.Lone.has_row.Given as goal
 

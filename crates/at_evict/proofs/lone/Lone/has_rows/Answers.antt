@@ -1,7 +1,4 @@
-use Rattle.std.proofs.Common.{List, subst, take_all}
-use Rattle.at_index.specs.declared.row.Row.{Row}
-use Rattle.at_evict.specs.Folding.{AreAlone}
-use Rattle.at_index.specs.Rows.{edges_along}
+use Rattle.at_evict.proofs.Common.{List, subst, take_all, Row, AreAlone, edges_along}
 use Rattle.at_evict.proofs.of_folding.Gathering.{alone_none}
 use Rattle.at_evict.proofs.of_folding.Walking.{alone_row}
 use Rattle.at_evict.proofs.lone.Lone.has_rows.Goals as goal

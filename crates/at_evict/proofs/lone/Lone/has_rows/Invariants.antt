@@ -1,7 +1,4 @@
-use Rattle.std.proofs.Common.{ℕ, Bool, List, take}
-use Rattle.at_index.specs.declared.edge.Edge.{Edge}
-use Rattle.at_evict.specs.Folding.{AreAlone, AreLone}
-use Rattle.at_index.specs.Rows.{edges_along}
+use Rattle.at_evict.proofs.Common.{ℕ, Bool, List, take, Edge, AreAlone, AreLone, edges_along}
 use Rattle.at_evict.proofs.lone.Lone.has_rows.Given as goal
 
 abbrev pub invariant-loop-row : goal.invariant-loop-row

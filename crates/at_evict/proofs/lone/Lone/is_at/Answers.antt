@@ -1,6 +1,4 @@
-use Rattle.std.proofs.Common.{◌∙◌, ℕ, List, ap, refl, slice_get, sym}
-use Rattle.std.proofs.lemmas.Bool.{not-true}
-use Rattle.at_index.proofs.Lists.{node_there}
+use Rattle.at_evict.proofs.Common.{◌∙◌, ℕ, List, ap, refl, slice_get, sym, not-true, node_there}
 use Rattle.at_evict.proofs.of_folding.Gathering.{lone_stays}
 use Rattle.at_evict.proofs.lone.Lone.is_at.Goals as goal
 

@@ -1,8 +1,4 @@
-use Rattle.std.proofs.Common.{[], ◌++◌, ◌∷◌, OnOk, subst}
-use Rattle.at_evict.specs.Folding.{Added}
-use Rattle.at_evict.specs.Refolding.{into_of, is_told}
-use Rattle.at_cache.specs.Info.{memory_of}
-use Rattle.at_index.specs.Rows.{edges_along}
+use Rattle.at_evict.proofs.Common.{[], ◌++◌, ◌∷◌, OnOk, subst, Added, into_of, is_told, memory_of, edges_along}
 use Rattle.at_evict.proofs.refolding.Refolding.add_edge_into.Goals as goal
 
 pub returns-in-Some-clause-added : goal.returns-in-Some-clause-added

@@ -1,6 +1,4 @@
-use Rattle.std.proofs.Common.{ap, option_map, refl, sym}
-use Rattle.at_cache.specs.Info.{info, memory_of}
-use Rattle.at_cache.proofs.Users.{current}
+use Rattle.at_evict.proofs.Common.{ap, option_map, refl, sym, info, memory_of, current}
 use Rattle.at_evict.proofs.of_folding.Parting.{added_same}
 use Rattle.at_evict.proofs.refolding.Refolding.add_edge_to.Goals as goal
 

@@ -1,7 +1,4 @@
-use Rattle.std.proofs.Common.{◌∙◌, arith, refl, subst, take_all}
-use Rattle.at_evict.specs.Folding.{Added}
-use Rattle.at_cache.specs.Info.{memory_of}
-use Rattle.at_index.specs.Rows.{edges_along}
+use Rattle.at_evict.proofs.Common.{◌∙◌, arith, refl, subst, take_all, Added, memory_of, edges_along}
 use Rattle.at_evict.proofs.of_folding.Parting.{added_none, added_push}
 use Rattle.at_evict.proofs.refolding.Refolding.add_edges_to.Goals as goal
 

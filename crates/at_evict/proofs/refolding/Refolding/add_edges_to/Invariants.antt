@@ -1,7 +1,4 @@
-use Rattle.std.proofs.Common.{◌≡◌, length, take}
-use Rattle.at_evict.specs.Folding.{Added}
-use Rattle.at_cache.specs.Info.{memory_of}
-use Rattle.at_index.specs.Rows.{edges_along}
+use Rattle.at_evict.proofs.Common.{◌≡◌, length, take, Added, memory_of, edges_along}
 use Rattle.at_evict.proofs.refolding.Refolding.add_edges_to.Given as goal
 
 abbrev pub invariant-loop-number : goal.invariant-loop-number

@@ -1,7 +1,4 @@
-use Rattle.std.proofs.Common.{ap, option_map, sym, refl}
-use Rattle.std.proofs.lemmas.Result.{on_ok_weaker}
-use Rattle.at_cache.specs.Info.{info, memory_of}
-use Rattle.at_cache.proofs.Users.{current}
+use Rattle.at_evict.proofs.Common.{ap, option_map, sym, refl, on_ok_weaker, info, memory_of, current}
 use Rattle.at_evict.proofs.of_folding.Rerun.{reaches_gone, reaches_one}
 use Rattle.at_evict.proofs.refolding.Refolding.add_to.Goals as goal
 

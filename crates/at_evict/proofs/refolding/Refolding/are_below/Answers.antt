@@ -1,7 +1,4 @@
-use Rattle.std.proofs.Common.{ℕ, Contains, subst, take_all}
-use Rattle.at_evict.specs.Folding.{IsBelow}
-use Rattle.at_evict.specs.Refolding.{into_of}
-use Rattle.at_index.proofs.Lists.{none_in}
+use Rattle.at_evict.proofs.Common.{ℕ, Contains, subst, take_all, IsBelow, into_of, none_in}
 use Rattle.at_evict.proofs.of_folding.Walking.{all_more}
 use Rattle.at_evict.proofs.refolding.Refolding.are_below.Goals as goal
 

@@ -1,6 +1,4 @@
-use Rattle.std.proofs.Common.{ℕ, Contains, take}
-use Rattle.at_evict.specs.Folding.{IsBelow}
-use Rattle.at_evict.specs.Refolding.{into_of}
+use Rattle.at_evict.proofs.Common.{ℕ, Contains, take, IsBelow, into_of}
 use Rattle.at_evict.proofs.refolding.Refolding.are_below.Given as goal
 
 abbrev pub invariant-loop-slot : goal.invariant-loop-slot

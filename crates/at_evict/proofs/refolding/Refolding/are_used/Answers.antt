@@ -1,8 +1,4 @@
-use Rattle.std.proofs.Common.{◌≡◌, ◌⊎◌, ℕ, Contains, subst, take_all}
-use Rattle.at_index.specs.Edges.{edges_in}
-use Rattle.at_evict.specs.Folding.{HasUser}
-use Rattle.at_evict.specs.Refolding.{into_of, is_told}
-use Rattle.at_index.proofs.Lists.{none_in}
+use Rattle.at_evict.proofs.Common.{◌≡◌, ◌⊎◌, ℕ, Contains, subst, take_all, edges_in, HasUser, into_of, is_told, none_in}
 use Rattle.at_evict.proofs.of_folding.Walking.{all_more}
 use Rattle.at_evict.proofs.refolding.Refolding.are_used.Goals as goal
 

@@ -1,7 +1,4 @@
-use Rattle.std.proofs.Common.{◌≡◌, ◌⊎◌, ℕ, Contains, take}
-use Rattle.at_index.specs.Edges.{edges_in}
-use Rattle.at_evict.specs.Folding.{HasUser}
-use Rattle.at_evict.specs.Refolding.{into_of, is_told}
+use Rattle.at_evict.proofs.Common.{◌≡◌, ◌⊎◌, ℕ, Contains, take, edges_in, HasUser, into_of, is_told}
 use Rattle.at_evict.proofs.refolding.Refolding.are_used.Given as goal
 
 abbrev pub invariant-loop-target : goal.invariant-loop-target

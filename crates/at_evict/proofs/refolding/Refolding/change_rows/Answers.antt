@@ -1,4 +1,4 @@
-use Rattle.std.proofs.lemmas.Result.{on_ok_weaker}
+use Rattle.at_evict.proofs.Common.{on_ok_weaker}
 use Rattle.at_evict.proofs.of_folding.Parting.{refolded_parted}
 use Rattle.at_evict.proofs.refolding.Refolding.change_rows.Goals as goal
 

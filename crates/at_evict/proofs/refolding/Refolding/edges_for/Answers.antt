@@ -1,4 +1,4 @@
-use Rattle.std.proofs.Common.{◌∙◌, [], refl, sym}
+use Rattle.at_evict.proofs.Common.{◌∙◌, [], refl, sym}
 use Rattle.at_evict.proofs.of_folding.Single.{refolded_stale, refolded_to}
 use Rattle.at_evict.proofs.refolding.Refolding.edges_for.Goals as goal
 

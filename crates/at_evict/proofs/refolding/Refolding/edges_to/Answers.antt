@@ -1,5 +1,4 @@
-use Rattle.std.proofs.Common.{ap, option_map, sym}
-use Rattle.at_cache.specs.Info.{info}
+use Rattle.at_evict.proofs.Common.{ap, option_map, sym, info}
 use Rattle.at_evict.proofs.refolding.Refolding.edges_to.Goals as goal
 
 pub returns-in-Some : goal.returns-in-Some

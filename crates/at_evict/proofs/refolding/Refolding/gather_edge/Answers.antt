@@ -1,6 +1,4 @@
-use Rattle.std.proofs.Common.{◌∙◌, ◌++◌, ap, sym}
-use Rattle.std.proofs.lemmas.Result.{on_ok_weaker}
-use Rattle.at_evict.specs.Refolding.{into_of, is_told}
+use Rattle.at_evict.proofs.Common.{◌∙◌, ◌++◌, ap, sym, on_ok_weaker, into_of, is_told}
 use Rattle.at_evict.proofs.of_folding.Gathering.{gathered_one, gathered_stale}
 use Rattle.at_evict.proofs.refolding.Refolding.gather_edge.Goals as goal
 

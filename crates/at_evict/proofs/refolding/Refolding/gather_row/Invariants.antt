@@ -1,6 +1,4 @@
-use Rattle.std.proofs.Common.{length}
-use Rattle.at_evict.specs.Refolding.{into_of, is_told}
-use Rattle.at_index.specs.Rows.{edges_of}
+use Rattle.at_evict.proofs.Common.{length, into_of, is_told, edges_of}
 use Rattle.at_evict.proofs.of_folding.Walking.{Behind}
 use Rattle.at_evict.proofs.refolding.Refolding.gather_row.Given as goal
 

@@ -1,5 +1,4 @@
-use Rattle.std.proofs.Common.{◌∙◌, ℕ, Contains, inl, inr, subst, sym}
-use Rattle.at_evict.specs.Refolding.{into_of, is_told}
+use Rattle.at_evict.proofs.Common.{◌∙◌, ℕ, Contains, inl, inr, subst, sym, into_of, is_told}
 use Rattle.at_evict.proofs.of_folding.Gathering.{is_one}
 use Rattle.at_evict.proofs.refolding.Refolding.is_below.Goals as goal
 

@@ -1,7 +1,4 @@
-use Rattle.std.proofs.Common.{Contains, subst, sym}
-use Rattle.slab.proofs.SlabLemmas.{Contains-cons}
-use Rattle.at_index.specs.Rows.{edges_of}
-use Rattle.at_index.proofs.Lists.{head_of}
+use Rattle.at_evict.proofs.Common.{Contains, subst, sym, Contains-cons, edges_of, head_of}
 use Rattle.at_evict.proofs.refolding.Refolding.is_in_row.Goals as goal
 
 pub loop-edge-init : goal.loop-edge-init

@@ -1,6 +1,4 @@
-use Rattle.std.proofs.Common.{Contains, length}
-use Rattle.at_index.specs.declared.edge.Edge.{Edge}
-use Rattle.at_index.specs.Rows.{edges_of}
+use Rattle.at_evict.proofs.Common.{Contains, length, Edge, edges_of}
 use Rattle.at_evict.proofs.refolding.Refolding.is_in_row.Given as goal
 
 abbrev pub invariant-loop-edge : goal.invariant-loop-edge

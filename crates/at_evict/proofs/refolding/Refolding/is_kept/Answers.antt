@@ -1,5 +1,4 @@
-use Rattle.std.proofs.Common.{◌∙◌, inr, refl}
-use Rattle.at_evict.specs.Refolding.{into_of, is_told}
+use Rattle.at_evict.proofs.Common.{◌∙◌, inr, refl, into_of, is_told}
 use Rattle.at_evict.proofs.of_folding.Gathering.{alone_end, alone_more}
 use Rattle.at_evict.proofs.refolding.Refolding.is_kept.Goals as goal
 

@@ -1,8 +1,4 @@
-use Rattle.std.proofs.Common.{◌≡◌, Contains, Some, subst, sym, take_all}
-use Rattle.at_evict.specs.Folding.{FoldsAt}
-use Rattle.at_evict.specs.Refolding.{into_of}
-use Rattle.at_cache.specs.Info.{Info, memory_of}
-use Rattle.at_index.proofs.Lists.{none_in}
+use Rattle.at_evict.proofs.Common.{◌≡◌, Contains, Some, subst, sym, take_all, FoldsAt, into_of, Info, memory_of, none_in}
 use Rattle.at_evict.proofs.of_folding.Walking.{all_more}
 use Rattle.at_evict.proofs.refolding.Refolding.is_sound.Goals as goal
 

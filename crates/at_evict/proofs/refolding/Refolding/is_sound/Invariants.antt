@@ -1,7 +1,4 @@
-use Rattle.std.proofs.Common.{◌≡◌, ℕ, Contains, Some, take}
-use Rattle.at_evict.specs.Folding.{FoldsAt}
-use Rattle.at_evict.specs.Refolding.{into_of}
-use Rattle.at_cache.specs.Info.{Info, memory_of}
+use Rattle.at_evict.proofs.Common.{◌≡◌, ℕ, Contains, Some, take, FoldsAt, into_of, Info, memory_of}
 use Rattle.at_evict.proofs.refolding.Refolding.is_sound.Given as goal
 
 abbrev pub invariant-loop-slot : goal.invariant-loop-slot

@@ -1,6 +1,4 @@
-use Rattle.std.proofs.Common.{ap, option_map, sym, ◌∙◌}
-use Rattle.std.proofs.lemmas.Option.{none-some}
-use Rattle.at_cache.specs.Info.{info}
+use Rattle.at_evict.proofs.Common.{ap, option_map, sym, ◌∙◌, none-some, info}
 use Rattle.at_evict.proofs.of_folding.Walking.{folds_at}
 use Rattle.at_evict.proofs.refolding.Refolding.is_sound_at.Goals as goal
 

@@ -1,4 +1,4 @@
-use Rattle.std.proofs.Common.{inl, inr}
+use Rattle.at_evict.proofs.Common.{inl, inr}
 use Rattle.at_evict.proofs.refolding.Refolding.is_used.Goals as goal
 
 pub returns-then-target-slot : goal.returns-then-target-slot

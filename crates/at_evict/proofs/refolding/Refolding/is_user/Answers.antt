@@ -1,4 +1,4 @@
-use Rattle.std.proofs.Common.{◌∙◌, Contains, subst, sym}
+use Rattle.at_evict.proofs.Common.{◌∙◌, Contains, subst, sym}
 use Rattle.at_evict.proofs.of_folding.Gathering.{is_one}
 use Rattle.at_evict.proofs.refolding.Refolding.is_user.Goals as goal
 

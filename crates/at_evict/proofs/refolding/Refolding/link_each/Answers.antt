@@ -1,7 +1,4 @@
-use Rattle.std.proofs.Common.{subst, take_all}
-use Rattle.slab.specs.Slab.{get}
-use Rattle.at_evict.specs.Folding.{LinkedTo, listed_at}
-use Rattle.at_evict.specs.Refolding.{into_of}
+use Rattle.at_evict.proofs.Common.{subst, take_all, get, LinkedTo, listed_at, into_of}
 use Rattle.at_evict.proofs.of_folding.Linking.{to_none}
 use Rattle.at_evict.proofs.of_folding.Walking.{to_more}
 use Rattle.at_evict.proofs.refolding.Refolding.link_each.Goals as goal

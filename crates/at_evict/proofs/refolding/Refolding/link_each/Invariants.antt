@@ -1,7 +1,4 @@
-use Rattle.std.proofs.Common.{take}
-use Rattle.slab.specs.Slab.{get}
-use Rattle.at_evict.specs.Folding.{LinkedTo, listed_at}
-use Rattle.at_evict.specs.Refolding.{into_of}
+use Rattle.at_evict.proofs.Common.{take, get, LinkedTo, listed_at, into_of}
 use Rattle.at_evict.proofs.refolding.Refolding.link_each.Given as goal
 
 abbrev pub invariant-loop-target : goal.invariant-loop-target

@@ -1,6 +1,4 @@
-use Rattle.std.proofs.Common.{◌∙◌, ap, option_map, sym}
-use Rattle.std.proofs.lemmas.Result.{on_ok_weaker}
-use Rattle.at_cache.specs.Info.{info}
+use Rattle.at_evict.proofs.Common.{◌∙◌, ap, option_map, sym, on_ok_weaker, info}
 use Rattle.at_evict.proofs.of_folding.Linking.{from_entry, from_itself, from_nothing}
 use Rattle.at_evict.proofs.refolding.Refolding.link_from.Goals as goal
 

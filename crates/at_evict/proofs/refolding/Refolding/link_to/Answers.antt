@@ -1,8 +1,4 @@
-use Rattle.std.proofs.Common.{arith, refl, sym}
-use Rattle.std.proofs.lemmas.Option.{slice_get_read}
-use Rattle.std.proofs.lemmas.Result.{on_ok_weaker}
-use Rattle.slab.specs.Slab.{get}
-use Rattle.at_cache.proofs.Moving.{one_slot}
+use Rattle.at_evict.proofs.Common.{arith, refl, sym, slice_get_read, on_ok_weaker, get, one_slot}
 use Rattle.at_evict.proofs.of_folding.Linking.{listed_to, to_one}
 use Rattle.at_evict.proofs.refolding.Refolding.link_to.Goals as goal
 

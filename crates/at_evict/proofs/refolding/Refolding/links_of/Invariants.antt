@@ -1,8 +1,4 @@
-use Rattle.std.proofs.Common.{take}
-use Rattle.slab.specs.Slab.{get}
-use Rattle.at_evict.specs.Folding.{listed_at}
-use Rattle.at_evict.specs.Refolding.{into_of}
-use Rattle.at_cache.specs.Info.{memory_of}
+use Rattle.at_evict.proofs.Common.{take, get, listed_at, into_of, memory_of}
 use Rattle.at_evict.proofs.of_folding.Taken.{LinksOf}
 use Rattle.at_evict.proofs.refolding.Refolding.links_of.Given as goal
 

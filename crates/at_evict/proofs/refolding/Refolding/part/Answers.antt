@@ -1,4 +1,4 @@
-use Rattle.std.proofs.Common.{◌<◌, arith, length}
+use Rattle.at_evict.proofs.Common.{◌<◌, arith, length}
 use Rattle.at_evict.proofs.of_folding.Parting.{parted_end, parted_goes, parted_start, parted_stays}
 use Rattle.at_evict.proofs.refolding.Refolding.part.Goals as goal
 

@@ -1,7 +1,4 @@
-use Rattle.std.proofs.Common.{◌≡◌, ◌-◌, [], length}
-use Rattle.at_evict.specs.Refolding.{into_of}
-use Rattle.at_cache.specs.Info.{memory_of}
-use Rattle.at_index.specs.Rows.{edges_along}
+use Rattle.at_evict.proofs.Common.{◌≡◌, ◌-◌, [], length, into_of, memory_of, edges_along}
 use Rattle.at_evict.proofs.of_folding.Parting.{PartedTo}
 use Rattle.at_evict.proofs.refolding.Refolding.part.Given as goal
 

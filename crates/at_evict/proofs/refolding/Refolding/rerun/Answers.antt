@@ -1,6 +1,4 @@
-use Rattle.std.proofs.Common.{arith, length-set, refl}
-use Rattle.std.proofs.lemmas.Option.{slice_get_read}
-use Rattle.at_index.proofs.Gained.{get_other}
+use Rattle.at_evict.proofs.Common.{arith, length-set, refl, slice_get_read, get_other}
 use Rattle.at_evict.proofs.of_folding.Places.{below_end, below_more, below_start}
 use Rattle.at_evict.proofs.of_folding.Rerun.{one_run, runs_rerun, seated_set}
 use Rattle.at_evict.proofs.refolding.Refolding.rerun.Goals as goal

@@ -1,9 +1,4 @@
-use Rattle.std.proofs.Common.{List}
-use Rattle.at_index.specs.declared.run.Seat.{Seat}
-use Rattle.at_evict.specs.Refolding.{into_of}
-use Rattle.at_cache.specs.Info.{memory_of}
-use Rattle.at_evict.specs.Rerunning.{IsRerun}
-use Rattle.at_index.specs.Runs.{AreSeated}
+use Rattle.at_evict.proofs.Common.{List, Seat, into_of, memory_of, IsRerun, AreSeated}
 use Rattle.at_evict.proofs.of_folding.Places.{Below}
 use Rattle.at_evict.proofs.refolding.Refolding.rerun.Given as goal
 

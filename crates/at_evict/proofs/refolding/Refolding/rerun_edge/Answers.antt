@@ -1,7 +1,4 @@
-use Rattle.std.proofs.Common.{List, ℕ, ◌∙◌, subst, take_all}
-use Rattle.std.proofs.lemmas.Result.{err_from_is_err_and}
-use Rattle.at_cache.specs.Info.{memory_of}
-use Rattle.at_evict.specs.Rerunning.{Reaches}
+use Rattle.at_evict.proofs.Common.{List, ℕ, ◌∙◌, subst, take_all, err_from_is_err_and, memory_of, Reaches}
 use Rattle.at_evict.proofs.of_folding.Rerun.{reaches_more, reaches_none}
 use Rattle.at_evict.proofs.refolding.Refolding.rerun_edge.Goals as goal
 

@@ -1,6 +1,4 @@
-use Rattle.std.proofs.Common.{take}
-use Rattle.at_cache.specs.Info.{memory_of}
-use Rattle.at_evict.specs.Rerunning.{Reaches}
+use Rattle.at_evict.proofs.Common.{take, memory_of, Reaches}
 use Rattle.at_evict.proofs.refolding.Refolding.rerun_edge.Given as goal
 
 abbrev pub invariant-loop-slot : goal.invariant-loop-slot

@@ -1,8 +1,4 @@
-use Rattle.std.proofs.Common.{List, [], subst, sym, take_all}
-use Rattle.at_index.specs.declared.run.Reach.{Reach}
-use Rattle.at_evict.specs.Refolding.{into_of}
-use Rattle.at_cache.specs.Info.{memory_of}
-use Rattle.at_evict.specs.Rerunning.{AreRerun}
+use Rattle.at_evict.proofs.Common.{List, [], subst, sym, take_all, Reach, into_of, memory_of, AreRerun}
 use Rattle.at_evict.proofs.of_folding.Rerun.{rerun_more, rerun_none}
 use Rattle.at_evict.proofs.refolding.Refolding.rerun_edges.Goals as goal
 

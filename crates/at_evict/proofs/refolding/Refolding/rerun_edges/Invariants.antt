@@ -1,7 +1,4 @@
-use Rattle.std.proofs.Common.{take}
-use Rattle.at_evict.specs.Refolding.{into_of}
-use Rattle.at_cache.specs.Info.{memory_of}
-use Rattle.at_evict.specs.Rerunning.{AreRerun}
+use Rattle.at_evict.proofs.Common.{take, into_of, memory_of, AreRerun}
 use Rattle.at_evict.proofs.refolding.Refolding.rerun_edges.Given as goal
 
 abbrev pub invariant-loop-reach : goal.invariant-loop-reach

@@ -1,6 +1,4 @@
-use Rattle.std.proofs.Common.{◌∙◌, ap, arith, length, length-set, refl}
-use Rattle.std.proofs.lemmas.Option.{slice_get_read}
-use Rattle.at_index.proofs.Gained.{get_other}
+use Rattle.at_evict.proofs.Common.{◌∙◌, ap, arith, length, length-set, refl, slice_get_read, get_other}
 use Rattle.at_evict.proofs.of_folding.Nodes.{nodes_refolded}
 use Rattle.at_evict.proofs.of_folding.Places.{below_end, below_more, below_start, one_node}
 use Rattle.at_evict.proofs.refolding.Refolding.rewrite.Goals as goal

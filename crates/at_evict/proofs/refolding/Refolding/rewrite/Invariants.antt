@@ -1,5 +1,4 @@
-use Rattle.at_evict.specs.Folding.{IsNodeRefolded}
-use Rattle.at_evict.specs.Refolding.{into_of, is_told}
+use Rattle.at_evict.proofs.Common.{IsNodeRefolded, into_of, is_told}
 use Rattle.at_evict.proofs.of_folding.Places.{Below}
 use Rattle.at_evict.proofs.refolding.Refolding.rewrite.Given as goal
 

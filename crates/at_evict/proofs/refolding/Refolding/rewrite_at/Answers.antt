@@ -1,7 +1,4 @@
-use Rattle.std.proofs.Common.{◌≡◌, get_or, length-set, slice_set}
-use Rattle.smallvec.proofs.SmallVecLemmas.{items-with_items}
-use Rattle.at_index.specs.declared.facet.Readers.{Readers}
-use Rattle.at_index.proofs.Gained.{get_other}
+use Rattle.at_evict.proofs.Common.{◌≡◌, get_or, length-set, slice_set, items-with_items, Readers, get_other}
 use Rattle.at_evict.proofs.of_folding.Places.{one_place}
 use Rattle.at_evict.proofs.refolding.Refolding.rewrite_at.Goals as goal
 

@@ -1,4 +1,4 @@
-use Rattle.indexmap.proofs.CallerLemmas.{index_map_len-with_value_at}
+use Rattle.at_evict.proofs.Common.{index_map_len-with_value_at}
 use Rattle.at_evict.proofs.of_folding.AtDesks.{one_desk, set_other}
 use Rattle.at_evict.proofs.refolding.Refolding.rewrite_desk.Goals as goal
 

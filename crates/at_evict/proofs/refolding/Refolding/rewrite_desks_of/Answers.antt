@@ -1,4 +1,4 @@
-use Rattle.std.proofs.Common.{arith, refl}
+use Rattle.at_evict.proofs.Common.{arith, refl}
 use Rattle.at_evict.proofs.of_folding.AtDesks.{desks_refolded}
 use Rattle.at_evict.proofs.of_folding.Places.{below_end, below_more, below_start}
 use Rattle.at_evict.proofs.refolding.Refolding.rewrite_desks_of.Goals as goal

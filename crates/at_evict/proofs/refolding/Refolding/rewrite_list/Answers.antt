@@ -1,4 +1,4 @@
-use Rattle.at_evict.specs.Refolding.{into_of, is_told}
+use Rattle.at_evict.proofs.Common.{into_of, is_told}
 use Rattle.at_evict.proofs.of_folding.Gathering.{refolded_alone}
 use Rattle.at_evict.proofs.refolding.Refolding.rewrite_list.Goals as goal
 

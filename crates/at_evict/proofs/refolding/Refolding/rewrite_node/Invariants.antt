@@ -1,5 +1,4 @@
-use Rattle.at_evict.specs.Folding.{IsRefolded}
-use Rattle.at_evict.specs.Refolding.{into_of, is_told}
+use Rattle.at_evict.proofs.Common.{IsRefolded, into_of, is_told}
 use Rattle.at_evict.proofs.of_folding.Places.{Below}
 use Rattle.at_evict.proofs.refolding.Refolding.rewrite_node.Given as goal
 

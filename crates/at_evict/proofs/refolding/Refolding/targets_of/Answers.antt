@@ -1,5 +1,4 @@
-use Rattle.std.proofs.Common.{◌∙◌, sym}
-use Rattle.at_evict.specs.Refolding.{into_of, is_told}
+use Rattle.at_evict.proofs.Common.{◌∙◌, sym, into_of, is_told}
 use Rattle.at_evict.proofs.of_folding.Rerun.{targets_off, targets_on}
 use Rattle.at_evict.proofs.refolding.Refolding.targets_of.Goals as goal
 

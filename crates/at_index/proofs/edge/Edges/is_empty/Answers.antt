@@ -1,4 +1,4 @@
-use Rattle.std.proofs.Common.{refl, ap, sym, nat_eq}
+use Rattle.at_index.proofs.Common.{refl, ap, sym, nat_eq}
 use Rattle.at_index.proofs.RowEdges.{many}
 use Rattle.at_index.proofs.edge.Edges.is_empty.Goals as goal
 

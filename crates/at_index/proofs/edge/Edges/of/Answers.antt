@@ -1,4 +1,4 @@
-use Rattle.std.proofs.Common.{arith}
+use Rattle.at_index.proofs.Common.{arith}
 use Rattle.at_index.proofs.RowEdges.{alone}
 use Rattle.at_index.proofs.edge.Edges.of.Goals as goal
 

@@ -1,4 +1,4 @@
-use Rattle.std.proofs.Common.{◌≡◌, ◌∷◌, [], IfSome, subst}
+use Rattle.at_index.proofs.Common.{◌≡◌, ◌∷◌, [], IfSome, subst}
 use Rattle.at_index.proofs.edge.Edges.only.Goals as goal
 
 pub returns-in-Some : goal.returns-in-Some

@@ -1,4 +1,4 @@
-use Rattle.std.proofs.Common.{refl}
+use Rattle.at_index.proofs.Common.{refl}
 use Rattle.at_index.proofs.Beginning.{told_of_one}
 use Rattle.at_index.proofs.facet.Facet.is_touched.Goals as goal
 

@@ -1,5 +1,4 @@
-use Rattle.std.proofs.Common.{refl}
-use Rattle.at_model.specs.Run.{Is, Up}
+use Rattle.at_index.proofs.Common.{refl, Is, Up}
 use Rattle.at_index.proofs.Locations.{power_alone, stands_alone}
 use Rattle.at_index.proofs.facet.Facet.of.Goals as goal
 

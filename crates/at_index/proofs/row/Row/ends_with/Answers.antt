@@ -1,6 +1,4 @@
-use Rattle.std.proofs.Common.{Contains, arith, subst}
-use Rattle.at_index.specs.declared.edge.Edge.{Edge}
-use Rattle.at_index.specs.Rows.{edges_from}
+use Rattle.at_index.proofs.Common.{Contains, arith, subst, Edge, edges_from}
 use Rattle.at_index.proofs.RowEdges.{ends_so}
 use Rattle.at_index.proofs.row.Row.ends_with.Goals as goal
 

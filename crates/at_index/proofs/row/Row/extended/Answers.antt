@@ -1,6 +1,4 @@
-use Rattle.std.proofs.Common.{◌≡◌, ◌++◌, ◌∷◌, [], arith, refl, subst, sym}
-use Rattle.at_index.specs.declared.edge.Edge.{Edge}
-use Rattle.at_index.specs.Rows.{edges_from}
+use Rattle.at_index.proofs.Common.{◌≡◌, ◌++◌, ◌∷◌, [], arith, refl, subst, sym, Edge, edges_from}
 use Rattle.at_index.proofs.RowEdges.{goes_on}
 use Rattle.at_index.proofs.row.Row.extended.Goals as goal
 

@@ -1,5 +1,4 @@
-use Rattle.std.proofs.Common.{ap, sym, nat_eq}
-use Rattle.at_index.specs.Rows.{first_of}
+use Rattle.at_index.proofs.Common.{ap, sym, nat_eq, first_of}
 use Rattle.at_index.proofs.RowEdges.{many}
 use Rattle.at_index.proofs.row.Row.is_empty.Goals as goal
 

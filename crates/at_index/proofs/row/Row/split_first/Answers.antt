@@ -1,5 +1,4 @@
-use Rattle.std.proofs.Common.{◌∷◌, ◌∙◌, ◌-◌, ap, arith, sym}
-use Rattle.at_index.specs.Rows.{edges_from, first_of}
+use Rattle.at_index.proofs.Common.{◌∷◌, ◌∙◌, ◌-◌, ap, arith, sym, edges_from, first_of}
 use Rattle.at_index.proofs.RowEdges.{first_and_rest, none_of}
 use Rattle.at_index.proofs.row.Row.split_first.Goals as goal
 

@@ -1,4 +1,4 @@
-use Rattle.at_index.specs.Rows.{first_of}
+use Rattle.at_index.proofs.Common.{first_of}
 use Rattle.at_index.proofs.RowEdges.{any_step}
 use Rattle.at_index.proofs.row.Row.step_to.Goals as goal
 

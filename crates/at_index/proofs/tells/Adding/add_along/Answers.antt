@@ -1,4 +1,4 @@
-use Rattle.std.proofs.Common.{◌<◌, arith}
+use Rattle.at_index.proofs.Common.{◌<◌, arith}
 use Rattle.at_index.proofs.of_runs.Along.{adds_along, lists_along}
 use Rattle.at_index.proofs.of_runs.Seats.{counted, has_run, seated_on}
 use Rattle.at_index.proofs.of_runs.Stretches.{adds_before, lists_kept}

@@ -1,8 +1,6 @@
-use Rattle.std.proofs.Common.{refl}
-use Rattle.std.proofs.lemmas.Result.{on_ok_weaker}
+use Rattle.at_index.proofs.Common.{refl, on_ok_weaker, slice_get_within}
 use Rattle.at_index.proofs.Added.{added_has, added_lists, added_others}
 use Rattle.at_index.proofs.Gained.{among_changed, among_gained, among_stays}
-use Rattle.std.proofs.lemmas.Option.{slice_get_within}
 use Rattle.at_index.proofs.tells.Adding.add_among.Goals as goal
 
 pub add_at-requires : goal.add_at-requires

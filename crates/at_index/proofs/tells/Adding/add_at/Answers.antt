@@ -1,6 +1,5 @@
-use Rattle.std.proofs.Common.{◌≡◌, get_or, length-set, slice_set}
+use Rattle.at_index.proofs.Common.{◌≡◌, get_or, length-set, slice_set, Readers}
 use Rattle.smallvec.proofs.SmallVecLemmas.{items-with_items}
-use Rattle.at_index.specs.declared.facet.Readers.{Readers}
 use Rattle.at_index.proofs.Gained.{gained_at}
 use Rattle.at_index.proofs.tells.Adding.add_at.Goals as goal
 

@@ -1,8 +1,5 @@
-use Rattle.std.proofs.Common.{◌∷◌, [], refl, subst, sym}
+use Rattle.at_index.proofs.Common.{◌∷◌, [], refl, subst, sym, on_ok_weaker, desk_edges, drawer_at, Reads}
 use Rattle.std.specs.Prelude.{IsSome}
-use Rattle.std.proofs.lemmas.Result.{on_ok_weaker}
-use Rattle.at_index.specs.Desks.{desk_edges, drawer_at}
-use Rattle.at_index.specs.Linking.{Reads}
 use Rattle.at_index.proofs.DeskEdges.{node_changed, node_gains}
 use Rattle.at_index.proofs.tells.Adding.add_at_node.Goals as goal
 

@@ -1,6 +1,4 @@
-use Rattle.std.proofs.Common.{inr, map}
-use Rattle.at_store.specs.Located.{loc_view}
-use Rattle.at_index.specs.Finding.{own_edges}
+use Rattle.at_index.proofs.Common.{inr, map, loc_view, own_edges}
 use Rattle.at_index.proofs.Listing.{reads_unchanged}
 use Rattle.at_index.proofs.of_runs.Stretches.{but_first, but_then, none_left, reads_first, reads_then}
 use Rattle.at_index.proofs.tells.Adding.add_each.Goals as goal

@@ -1,10 +1,4 @@
-use Rattle.std.proofs.Common.{◌≤◌, ◌^◌, length, map}
-use Rattle.at_store.specs.Located.{loc_view}
-use Rattle.at_index.specs.Asking.{AreNoted}
-use Rattle.at_index.specs.Finding.{own_edges}
-use Rattle.at_index.specs.Readers.{edges_at}
-use Rattle.at_index.specs.Linking.{Reads}
-use Rattle.at_index.specs.Runs.{ListsBut, Stays}
+use Rattle.at_index.proofs.Common.{◌≤◌, ◌^◌, length, map, loc_view, AreNoted, own_edges, edges_at, Reads, ListsBut, Stays}
 use Rattle.at_index.proofs.tells.Adding.add_each.Given as goal
 
 abbrev pub invariant-loop-location : goal.invariant-loop-location

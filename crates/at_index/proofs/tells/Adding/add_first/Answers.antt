@@ -1,10 +1,4 @@
-use Rattle.std.proofs.Common.{◌∷◌, ap, arith, map}
-use Rattle.std.proofs.lemmas.Result.{IfOk-weaker, on_ok_weaker}
-use Rattle.at_store.specs.Located.{loc_view}
-use Rattle.at_index.specs.Desks.{desk_edges}
-use Rattle.at_index.specs.Finding.{own_edges}
-use Rattle.at_index.specs.Readers.{edges_at}
-use Rattle.at_index.specs.Runs.{ListsBut}
+use Rattle.at_index.proofs.Common.{◌∷◌, ap, arith, map, IfOk-weaker, on_ok_weaker, loc_view, desk_edges, own_edges, edges_at, ListsBut}
 use Rattle.at_index.proofs.DeskEdges.{but_more, first_in, first_listed}
 use Rattle.at_index.proofs.of_runs.Stretches.{adds_beside, but_beside, reads_beside, reads_within, stays_behind, stays_beside}
 use Rattle.at_index.proofs.tells.Adding.add_first.Goals as goal

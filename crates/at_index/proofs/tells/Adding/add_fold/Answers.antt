@@ -1,6 +1,4 @@
-use Rattle.std.proofs.Common.{◌∙◌, eqb-true, length, map, sym}
-use Rattle.at_store.specs.Located.{loc_view}
-use Rattle.at_index.specs.Finding.{edges_to, own_edges}
+use Rattle.at_index.proofs.Common.{◌∙◌, eqb-true, length, map, sym, loc_view, edges_to, own_edges}
 use Rattle.at_index.proofs.of_runs.Over.{noted_from, noted_to}
 use Rattle.at_index.proofs.of_runs.Stretches.{adds_beside, both_ok, but_all, but_beside, but_then, in_back, in_front, in_parts, lists_parts, none_left, reads_parts, reads_then, reads_within}
 use Rattle.at_index.proofs.tells.Adding.add_fold.Goals as goal

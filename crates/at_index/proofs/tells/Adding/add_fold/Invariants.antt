@@ -1,9 +1,4 @@
-use Rattle.std.proofs.Common.{map}
-use Rattle.at_store.specs.Located.{loc_view}
-use Rattle.at_index.specs.Asking.{AreNoted}
-use Rattle.at_index.specs.Finding.{edges_to}
-use Rattle.at_index.specs.Linking.{Reads}
-use Rattle.at_index.specs.Runs.{ListsBut}
+use Rattle.at_index.proofs.Common.{map, loc_view, AreNoted, edges_to, Reads, ListsBut}
 use Rattle.at_index.proofs.tells.Adding.add_fold.Given as goal
 
 abbrev pub invariant-loop : goal.invariant-loop

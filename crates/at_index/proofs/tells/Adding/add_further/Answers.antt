@@ -1,8 +1,4 @@
-use Rattle.std.proofs.Common.{◌++◌, map}
-use Rattle.std.proofs.lemmas.Result.{IfOk-weaker}
-use Rattle.at_store.specs.Located.{loc_view}
-use Rattle.at_index.specs.Runs.{ListsBut, Stays, edges_over}
-use Rattle.at_index.specs.Finding.{edges_to, own_edges}
+use Rattle.at_index.proofs.Common.{◌++◌, map, IfOk-weaker, loc_view, ListsBut, Stays, edges_over, edges_to, own_edges}
 use Rattle.at_index.proofs.of_runs.Over.{noted_from, noted_to}
 use Rattle.at_index.proofs.of_runs.Stretches.{adds_beside, but_beside, in_back, in_front, in_parts, lists_parts, reads_parts, reads_within, stays_added}
 use Rattle.at_index.proofs.tells.Adding.add_further.Goals as goal

@@ -1,6 +1,4 @@
-use Rattle.std.proofs.Common.{◌∷◌, inl, inr, map, refl}
-use Rattle.at_store.specs.Located.{loc_view}
-use Rattle.at_index.specs.Readers.{edges_at, stands_for}
+use Rattle.at_index.proofs.Common.{◌∷◌, inl, inr, map, refl, loc_view, edges_at, stands_for}
 use Rattle.at_index.proofs.Listing.{listed_on, reads_on, reads_unchanged}
 use Rattle.at_index.proofs.Locations.{first_of, index_is_first}
 use Rattle.at_index.proofs.Noted.{noted_on}

@@ -1,5 +1,4 @@
-use Rattle.std.proofs.Common.{◌∷◌, []}
-use Rattle.at_index.specs.Desks.{drawer_at}
+use Rattle.at_index.proofs.Common.{◌∷◌, [], drawer_at}
 use Rattle.at_index.proofs.DeskEdges.{node_comes, node_gains}
 use Rattle.at_index.proofs.tells.Adding.add_node.Goals as goal
 

@@ -1,8 +1,4 @@
-use Rattle.std.proofs.Common.{map}
-use Rattle.std.proofs.lemmas.Result.{on_ok_weaker}
-use Rattle.at_store.specs.Located.{loc_view}
-use Rattle.at_index.specs.Finding.{own_edges}
-use Rattle.at_index.specs.Runs.{edges_over}
+use Rattle.at_index.proofs.Common.{map, on_ok_weaker, loc_view, own_edges, edges_over}
 use Rattle.at_index.proofs.of_runs.Stretches.{listed_beside, reads_beside, stays_beside}
 use Rattle.at_index.proofs.of_runs.Over.{noted_from, noted_to}
 use Rattle.at_index.proofs.tells.Adding.add_own.Goals as goal

@@ -1,8 +1,4 @@
-use Rattle.std.proofs.Common.{◌≡◌, inl, inr, ap, arith, refl}
-use Rattle.at_index.specs.declared.run.Reach.{Reach}
-use Rattle.at_index.specs.declared.run.Run.{Run}
-use Rattle.std.proofs.lemmas.Option.{slice_get_read}
-use Rattle.std.proofs.lemmas.Result.{on_ok_weaker}
+use Rattle.at_index.proofs.Common.{◌≡◌, inl, inr, ap, arith, refl, Reach, Run, slice_get_read, on_ok_weaker}
 use Rattle.at_index.proofs.of_runs.Reaching.{adds_reach, reach_there}
 use Rattle.at_index.proofs.of_runs.Seats.{count_is, set_past}
 use Rattle.at_index.proofs.tells.Adding.add_reach.Goals as goal

@@ -1,6 +1,4 @@
-use Rattle.std.proofs.Common.{◌∙◌, sym, refl, rules}
-use Rattle.std.proofs.lemmas.Option.{slice_get_read}
-use Rattle.std.proofs.lemmas.Result.{on_ok_weaker}
+use Rattle.at_index.proofs.Common.{◌∙◌, sym, refl, rules, slice_get_read, on_ok_weaker}
 use Rattle.at_index.proofs.Gained.{list_changed, list_gained, list_stays}
 use Rattle.at_index.proofs.Listing.{lists_same}
 use Rattle.at_index.proofs.Locations.{stands_at}

@@ -1,7 +1,4 @@
-use Rattle.std.proofs.Common.{◌∷◌, [], subst, sym}
-use Rattle.std.proofs.lemmas.Result.{on_ok_weaker}
-use Rattle.at_index.specs.Desks.{drawer_at, edges_in_desks}
-use Rattle.at_index.specs.Linking.{Reads}
+use Rattle.at_index.proofs.Common.{◌∷◌, [], subst, sym, on_ok_weaker, drawer_at, edges_in_desks, Reads}
 use Rattle.at_index.proofs.DeskEdges.{kept_reads, set_has, set_reads}
 use Rattle.at_index.proofs.tells.Adding.add_to_desks.Goals as goal
 

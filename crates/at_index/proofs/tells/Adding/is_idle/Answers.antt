@@ -1,5 +1,4 @@
-use Rattle.std.proofs.Common.{◌≡◌, ◌∙◌, arith, eqb-true, length, refl, rules, sym}
-use Rattle.at_index.specs.declared.run.Run.{Run}
+use Rattle.at_index.proofs.Common.{◌≡◌, ◌∙◌, arith, eqb-true, length, refl, rules, sym, Run}
 use Rattle.at_index.proofs.of_runs.Seats.{lent, none_long, set_idle, set_keeps}
 use Rattle.at_index.proofs.tells.Adding.is_idle.Goals as goal
 

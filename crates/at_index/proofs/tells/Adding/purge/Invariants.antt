@@ -1,5 +1,4 @@
-use Rattle.std.proofs.Common.{◌-◌, length}
-use Rattle.at_index.specs.Runs.{HoldsReach}
+use Rattle.at_index.proofs.Common.{◌-◌, length, HoldsReach}
 use Rattle.at_index.proofs.tells.Adding.purge.Given as goal
 
 abbrev pub invariant-loop-place : goal.invariant-loop-place

@@ -1,4 +1,4 @@
-use Rattle.std.proofs.Common.{refl}
+use Rattle.at_index.proofs.Common.{refl}
 use Rattle.at_index.proofs.of_runs.Along.{over_holds}
 use Rattle.at_index.proofs.of_runs.Reaching.{holds_all, holds_then}
 use Rattle.at_index.proofs.of_runs.Seats.{seated_keeps}

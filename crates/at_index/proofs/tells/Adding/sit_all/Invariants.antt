@@ -1,5 +1,4 @@
-use Rattle.std.proofs.Common.{◌≤◌, ◌^◌, length}
-use Rattle.at_index.specs.Runs.{AreSeated, Lose, edges_over}
+use Rattle.at_index.proofs.Common.{◌≤◌, ◌^◌, length, AreSeated, Lose, edges_over}
 use Rattle.at_index.proofs.tells.Adding.sit_all.Given as goal
 
 abbrev pub invariant-loop-location : goal.invariant-loop-location

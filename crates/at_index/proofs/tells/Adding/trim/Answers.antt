@@ -1,4 +1,4 @@
-use Rattle.std.proofs.Common.{◌∙◌, sym}
+use Rattle.at_index.proofs.Common.{◌∙◌, sym}
 use Rattle.at_index.proofs.of_runs.Reaching.{holds_popped, holds_then}
 use Rattle.at_index.proofs.of_runs.Seats.{popped}
 use Rattle.at_index.proofs.tells.Adding.trim.Goals as goal
