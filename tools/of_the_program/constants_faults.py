@@ -273,9 +273,20 @@ class Judged:
         """Those of classes that are there."""
         return [it for it in self.constants if it.it.of.text in self.declared.named]
 
+    def nowhere(self, it: Constant) -> Optional[Token]:
+        """Where it is told that its class isn't there: at its kind, where that isn't either."""
+        if it.of.text in self.declared.named:
+            return None
+        if it.kind.text not in self.declared.named:
+            return it.kind
+        return it.new if it.of.text == EVERY else it.of
+
     def misshapen(self) -> None:
-        for placed in self.known():
+        for placed in self.constants:
             it = placed.it
+            unknown = self.nowhere(it)
+            if unknown:
+                raise Wrong(placed.file, Refused(NAME, unknown.at))
             try:
                 Terms(self.bare, it.cell).cell(Component(it.component, "list" if it.is_list else "child", it.kind.text))
             except Refusal as refusal:
@@ -294,18 +305,13 @@ class Judged:
 
 
 def attributes(declared: Declared, constants: Sequence[Placed]) -> None:
-    """Raises Wrong where the attribute that a constant declares is refused."""
+    """Raises Wrong where the attribute that a constant declares has the name of an accessor."""
     known = [it for it in constants if not it.it.is_accessor()]
     parts = [Component(part.name.text, part.form, "") for it in declared.classes for part in it.parts]
     taken = {name for part in parts for name in accessors(part)}
     for placed in known:
         if placed.it.name.text == "equals" or placed.it.name.text in taken:
             raise Wrong(placed.file, Refused("J12 name of an accessor", placed.it.at))
-    for placed in known:
-        it = placed.it
-        if it.kind.text not in declared.named or it.of.text not in declared.named:
-            at = it.kind if it.kind.text not in declared.named else it.new if it.of.text == EVERY else it.of
-            raise Wrong(placed.file, Refused(NAME, at.at))
 
 
 def fault_of(grammar: str, aspects: Dict[str, str]) -> Optional[str]:

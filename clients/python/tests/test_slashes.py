@@ -55,8 +55,21 @@ FAULTS = """aspect A {
   syn nta List<Nix> P.getNixesList() = new List<Nix>(); //: J3/11
   syn int P.o() = getNumNixes();
   eq R.getOwn().i() = 1; inh int Y.i(); eq P.getChild().i() = 2;
+  syn nta X Nix.getIt() = new X("a"); //: J3/11
+  syn nta List<Y> Nix.getAllList() = new List<Y>(); //: J3/11
+  syn nta Y Nix.it() = new Y(); //: J3/11
+  syn nta Nix Nix.getNone() = new Nix(); //: J3/11
+  syn int P.q() = getNumAll() + getIt().m() + it().m() + getNone().m();
 }
 """
+# Constants of a class that isn't there, and what is told of that.
+NOWHERE = [
+    ("syn nta X Z.getOne() = new X();", "1:22 J3 There is no class Z. There is P, X."),
+    ("syn nta List<X> Z.getOneList() = new List<X>();", "1:28 J3 There is no class Z. There is P, X."),
+    ("syn nta Z Z.getOne() = new Z();", "1:20 J3 There is no class Z. There is P, X."),
+    ("syn nta X ASTNode.getOne() = new X();", "1:41 J3 There is no class ASTNode."),
+    ("syn nta X ASTNode.one() = new X();", "1:38 J3 There is no class ASTNode."),
+]
 # Aspects that leave something unfilled over a grammar, what is told of that, and the beginning of what helps.
 LEFT = [
     ("P ::= /X/; X ::= <N> <B:boolean> Y; Y : W; abstract W;", "", ["g.ast:1:8 J7 No constant fills P's component /X/."],
@@ -314,6 +327,13 @@ class Faults(unittest.TestCase):
         said = {it.code: it.message for it in check(GRAMMAR, [Source("x.jrag", FAULTS)], PROGRAM, "jastadd").findings if it.line in (3, 5, 7)}
         self.assertEqual(said, {"J4": "This is a list of Z, and the component is /Names:Y*/.",
                                 "J6": "The component /Own:Y/ of Q is filled already, at x.jrag:6."})
+
+    def test_a_class_that_is_not_there(self):
+        for text, told in NOWHERE:
+            with self.subTest(text):
+                found = check(Source("g.ast", "P ::= X; X;"), [Source("x.jrag", f"aspect A {{ {text} }}")], PROGRAM, "jastadd").findings
+                self.assertEqual([f"{it.line}:{it.column} {it.code} {it.message}" for it in found], [told])
+                self.assertTrue(found[0].hint.startswith("A constant is declared for a class of the grammar." if "Z Z" not in text else "The kind of"))
 
     def test_what_is_left_unfilled(self):
         for grammar, text, told, hint in LEFT:

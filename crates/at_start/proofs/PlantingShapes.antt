@@ -15,7 +15,7 @@ use Rattle.at_tree.specs.declared.term.Term.{Term as TermValue}
 use Rattle.at_tree.proofs.ShapeLaws.{found-is}
 use Rattle.at_tree.proofs.Shaping.{onto_trees, terms_known_from, trees_from, trees_from-end, trees_from-more}
 use Rattle.at_start.specs.Constants.{Placed, cell_under}
-use Rattle.at_start.specs.ConstantFaults.{Finds, Refusal, if_declared, misfit, refusal, term_code}
+use Rattle.at_start.specs.ConstantFaults.{Finds, Refusal, misfit, misshapen, refusal, term_code, unknown_at}
 use Rattle.at_start.specs.Unmade.{IsUnknown, IsUnmade}
 use Rattle.at_start.specs.declared.constants.shaping.CellFault.{CellFault}
 use Rattle.at_start.specs.declared.constants.shaping.CellFault.TheVariants.{Class, Fit, Memory}
@@ -151,12 +151,30 @@ module _ (classes : Classes) (k : Placed) (b : ℕ) (there : class_of_name class
       → misfit classes k ≡ Some (refusal k code.Kind k.constant.at)
   unfit_kind is known = unfit is ∙ ap (λ t. Some (refusal k (if t then code.Kind else code.UnknownName) k.constant.at)) known
 
--- ---- where its class is one
+-- ---- its class
 
-pub where_declared : {T : Type 0} (classes : Classes) (k : Placed) (fault : Option Refusal) (result : Result T StartFault) (class : Option ℕ) (none : Bool)
-    → class_of_name classes k.constant.class.text ≡ class → is_some class ≡ not none → none ≡ false → Finds fault result
-    → Finds (if_declared classes k fault) result
-where_declared classes k fault result None none is some off found = absurd (true≢false (sym (some ∙ ap not off)))
-where_declared classes k fault result (Some c) none is some off found =
-    subst (λ (o : Option Refusal). Finds o result)
-    (sym (ap (λ (o : Option ℕ). elim o as (λ _. Option Refusal) [ None ↦ None | Some b ↦ fault ]) is)) found
+-- what is told of a constant whose class is that one, or none
+abbrev by_class : Classes → Placed → Option ℕ → Option Refusal
+by_class classes k o = elim o as (λ _. Option Refusal) [
+  | None ↦ Some (refusal k code.UnknownName (unknown_at classes k.constant))
+  | Some c ↦ misfit classes k
+]
+
+module _ (classes : Classes) (k : Placed) (class : Option ℕ) (none : Bool)
+    (is : class_of_name classes k.constant.class.text ≡ class) (some : is_some class ≡ not none) where
+  pub where_declared : {T : Type 0} (result : Result T StartFault) → none ≡ false → Finds (misfit classes k) result
+      → Finds (misshapen classes k) result
+  where_declared result off found = by class refl
+    where
+      by : (o : Option ℕ) → class ≡ o → Finds (misshapen classes k) result
+      by None at = absurd (true≢false (sym (ap is_some (sym at) ∙ some ∙ ap not off)))
+      by (Some c) at = subst (λ (o : Option Refusal). Finds o result) (sym (ap (by_class classes k) (is ∙ at))) found
+
+  pub unknown_class : none ≡ true
+      → misshapen classes k ≡ Some (refusal k code.UnknownName (unknown_at classes k.constant))
+  unknown_class on = by class refl
+    where
+      by : (o : Option ℕ) → class ≡ o
+          → misshapen classes k ≡ Some (refusal k code.UnknownName (unknown_at classes k.constant))
+      by None at = ap (by_class classes k) (is ∙ at)
+      by (Some c) at = absurd (true≢false (ap is_some (sym at) ∙ some ∙ ap not on))

@@ -1,6 +1,6 @@
--- For which constant files are refused: of its component, of its term, or since its tree is too large or would stand in itself. Or for
--- which component of the grammar, since none fills it.
-use Rattle.std.specs.Prelude.{◌≡◌, ℕ, Bool, true, false, not, ◌&&◌, List, [], ◌∷◌, ◌++◌, Option, Some, None, is_none, is_some, Result, Ok, Err, if◌then◌else◌}
+-- For which constant files are refused: of its component, of its class, of its term, or since its tree is too large or would stand in
+-- itself. Or for which component of the grammar, since none fills it.
+use Rattle.std.specs.Prelude.{◌≡◌, ℕ, Bool, true, false, not, ◌&&◌, List, [], ◌∷◌, ◌++◌, codes, Option, Some, None, is_none, is_some, Result, Ok, Err, if◌then◌else◌}
 use Rattle.std.specs.List.{list_any}
 use Rattle.std.specs.Option.{option_map, option_or}
 use Rattle.std.specs.Str.{bytes_eq}
@@ -117,10 +117,15 @@ misfilled marks ds ks = first_of (first_refusal (unlike marks ds) ks ∷ first_a
 abbrev pub barren : List Mark → Declarations → Option Refusal
 barren marks ds = option_map (λ f. lacking f.at) (first_fault (bare marks ds))
 
--- ---- its tree, where its class is one: another one is refused with its declaration
+-- ---- its class, and its tree
 
-abbrev pub if_declared : Classes → Placed → Option Refusal → Option Refusal
-if_declared classes k r = elim (class_of_name classes k.constant.class.text) [ None ↦ None | Some c ↦ r ]
+-- ASTNode stands above all classes and is none of them: that is told at the first `new`
+abbrev pub class_at : Constant → Place
+class_at k = if bytes_eq k.class.text (codes "ASTNode") then k.at else k.class.at
+
+-- where it is told that its class isn't there: a kind that isn't there either comes first
+abbrev pub unknown_at : Classes → Constant → Place
+unknown_at classes k = if is_none (class_of_name classes k.kind.text) then k.kind.at else class_at k
 
 -- what is written of it names what is no class, or else makes no tree of the kind
 abbrev pub term_code : Classes → Constant → Code
@@ -132,9 +137,15 @@ misfit classes k = elim (class_of_name classes k.constant.kind.text) [
   | Some b ↦ if is_none (cell_under classes k.constant.cell b) then Some (refusal k (term_code classes k.constant) k.constant.at) else None
 ]
 
--- over the classes without constants it makes no tree
+-- over the classes without constants its class isn't there, or it makes no tree
 abbrev pub misshapen : Classes → Placed → Option Refusal
-misshapen classes k = if_declared classes k (misfit classes k)
+misshapen classes k = elim (class_of_name classes k.constant.class.text) [
+  | None ↦ Some (refusal k code.UnknownName (unknown_at classes k.constant))
+  | Some c ↦ misfit classes k
+]
+
+abbrev pub if_declared : Classes → Placed → Option Refusal → Option Refusal
+if_declared classes k r = elim (class_of_name classes k.constant.class.text) [ None ↦ None | Some c ↦ r ]
 
 -- it would stand in itself
 abbrev pub encircled : Classes → Placed → Option Refusal

@@ -22,7 +22,7 @@ use std::mem;
 const MAX_ATTRIBUTES: usize = 2_000;
 
 /// The word for what stands above all classes.
-const EVERY_NODE: &str = "ASTNode";
+pub const EVERY_NODE: &str = "ASTNode";
 
 /// Of which declarations heads are sought.
 #[derive(Clone, Copy)]

@@ -6,9 +6,9 @@
 //! have, `Overloading` is how attributes of one name are told apart (`Pairs` says it of the code's table, `SampleOverloads` has a case),
 //! `Spreading` is what is read of attributes that are declared for ASTNode (at the root by `NullCalls`), and `Redeclaring` of those that
 //! are declared again below; `Slashes` are the components that a grammar marks, to be filled by constants; `Constants` are the components in
-//! which constants stand (`Planted` says what becomes of the classes), and `ConstantFaults` for which constant, or for want of which, files
-//! are refused; `StartFaults` and `Codes` are what is printed of a file that is refused. `ReadGrammar`, `FilesView`, `PlacedView` and
-//! `SlashesView` say what the code's values hold and stand for.
+//! which constants stand (`Planted` says what becomes of the classes), `Unmade` says why nothing is made of a constant's term, and
+//! `ConstantFaults` for which constant, or for want of which, files are refused; `StartFaults` and `Codes` are what is printed of a file
+//! that is refused. `ReadGrammar`, `FilesView`, `PlacedView` and `SlashesView` say what the code's values hold and stand for.
 //!
 //! **Where to begin:** `answer` in `serving.rt` is the whole, and `start`, below, its first half; `grammar.rt`, `aspects.rt`
 //! and `tree.rt` have what each kind of file gives, `slashes.rt`, `lists.rt`, `overloaded.rt`, `everywhere.rt`, `redeclared.rt` and

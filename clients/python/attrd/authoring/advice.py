@@ -115,8 +115,10 @@ class Advice:
             return f"{self._line_of_component(it)} has a component already of this name, or of a name that doesn't go with it."
         if refused.sort in ("kind of component", "filled"):
             return self._of_filling(refused, it)
+        if refused.sort == "class of a constant" and it.of is not None:
+            return self._no_class(it.of.text)
         if refused.sort == "kind of tree":
-            return f"There is no class {word}. {self._near(word, self.specification.classes)}".strip()
+            return self._no_class(word)
         made = [made for made in it.made if made.form is Form.NEW and made.word.text not in CONTAINERS]
         if refused.sort == "itself":
             return f"A node of {_listed(sorted({known.word.text for known in made}))} has {name} in it, or a constant that has: it would stand in itself."
@@ -211,9 +213,10 @@ class Advice:
             return f"{it.of.text} has no component {'' if front else 'of the accessor '}{word}. {self._near(word, own)}".strip()
         if it.index is not None and word == it.index.text:
             return f"{word} stands for the index of an element, and {it.getter.text if it.getter else 'it'} is no list."
-        if refused.code == "J3":
-            return f"There is no class {word}. {'' if word in NODES else self._near(word, self.specification.classes)}".strip()
-        return None
+        return self._no_class(word) if refused.code == "J3" else None
+
+    def _no_class(self, word: str) -> str:
+        return f"There is no class {word}. {'' if word in NODES else self._near(word, self.specification.classes)}".strip()
 
     def _parts(self, of: str) -> List[Part]:
         return [part for part in self.specification.parts(of) if part.shape is not Shape.TOKEN]

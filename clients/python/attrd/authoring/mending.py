@@ -266,6 +266,8 @@ class Mending:
             return ""
         is_named, is_in_body = offset == it.name.at, offset >= it.parameters_end
         is_kind = it.tree_kind is not None and offset == it.tree_kind.at
+        if refusal.code == "J3" and it.of is not None and (is_in_body if it.of.text == "ASTNode" else offset == it.of.at):
+            return "class of a constant"
         if refusal.code in ("J2", "J11") and is_named:
             return "component"
         if refusal.code in ("J3", "J4") and is_in_body:
@@ -283,6 +285,10 @@ class Mending:
         part = self.specification.filled(it)
         if sort == "filled":
             self._put_away(refusal.file, it)
+        elif sort == "class of a constant":
+            self._put_away(refusal.file, it)
+            self._taint_accessors(it)
+            self.tainted.add(it.name.text)
         elif part is not None:
             self._fill(it.of.text, part, refusal.file, it)
         else:
@@ -298,6 +304,10 @@ class Mending:
         else:
             self.patched[refusal.file].put(it.constant.at, it.constant.end, " ")
             self._put_body(refusal.file, it)
+        self._taint_accessors(it)
+
+    def _taint_accessors(self, it: Declaration) -> None:
+        """Has what asks for a constant's component only follow."""
         known = self.specification.grammar.components(it.of.text) if it.of is not None and it.of.text in self.specification.grammar else ()
         own = Part(it.component, Shape.CHILD if it.element is None else Shape.LIST, "")
         self.tainted.update(accessors_of(own) - {name for part in known for name in accessors_of(part)})

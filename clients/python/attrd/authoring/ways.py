@@ -131,6 +131,8 @@ OF_CONSTANTS: Dict[str, Way] = {
                      "components.", 11),
     "tree": Way("An argument stands for each component, inherited ones first, without constants: a literal for a token, `new Y(..)` for a "
                 "child, `new List()` with `.add(new Y(..))` for a list, `new Opt()` or `new Opt(new Y(..))` for an optional.", 11),
+    "class of a constant": Way("A constant is declared for a class of the grammar. What stands in all nodes is declared for one abstract class "
+                               "above all others.", 11),
     "kind of tree": Way("The kind of a constant is a class of the grammar.", 11),
     "kind of component": Way("A constant that fills a component between slashes has just its kind, a class for `/X/` and a list for `/X*/`; the "
                              "node may be one of a class below.", 11),

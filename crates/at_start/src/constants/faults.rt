@@ -4,8 +4,9 @@ ghost use Rattle.std.specs.Prelude.{◌≡◌, None, Some, OnOk, map};
 ghost use Rattle.at_model.specs.Declarations.{AreNamed, Fault as GrammarFault, first_fault};
 ghost use Rattle.at_class.specs.Grammar.{grammar_view, place_view};
 ghost use Rattle.at_class.specs.Faults.{code_view};
+ghost use Rattle.at_java.specs.Seen.{constant_view};
 ghost use Rattle.at_start.specs.Constants.{additions, whole_grammar, with_component};
-ghost use Rattle.at_start.specs.ConstantFaults.{Finds, Tells, breach, breaking, broken, encircled, first_breach, first_refusal, misfit, misshapen, oversized, refusal, told, unnamed, unstanding};
+ghost use Rattle.at_start.specs.ConstantFaults.{Finds, Tells, breach, breaking, broken, encircled, first_breach, first_refusal, misfit, misshapen, oversized, refusal, told, unknown_at, unnamed, unstanding};
 ghost use Rattle.at_start.specs.PlacedView.{placed_view};
 
 use super::Placed;
@@ -13,9 +14,11 @@ use super::filling::fills;
 use super::grammars::{add_component, copied};
 use super::shaping::{CellFault, cell_shaped, is_moderate, made_over, stands};
 use crate::code::Code;
+use crate::everywhere::EVERY_NODE;
 use crate::fault::StartFault;
 use at_class::{ClassCode, ClassTable};
 use at_grammar::Grammar;
+use at_java::Constant;
 use at_text::fault::Fault;
 use at_text::names::is_name;
 use at_text::place::Place;
@@ -135,7 +138,7 @@ fn breach(placed: &Placed, code: ClassCode) -> StartFault
     }
 }
 
-/// Looks whether the terms of all make trees of the classes.
+/// Looks whether the classes of all are there, and their terms make trees.
 pub fn look_at_terms(
     alloc: Global,
     classes: &ClassTable,
@@ -149,16 +152,32 @@ pub fn look_at_terms(
     Ok(())
 }
 
-/// Looks whether the term of this one does, where its class is one.
+/// Looks whether the class of this one is there, and its term makes a tree.
 fn look_at_term(alloc: Global, classes: &ClassTable, placed: &Placed) -> Result<(), StartFault>
     ensures { Finds (misshapen classes.now (placed_view placed.now)) result }
 {
-    if classes.id_of(placed.constant.class.text.as_str()).is_none() {
-        return Ok(());
+    let constant = &placed.constant;
+    if classes.id_of(constant.class.text.as_str()).is_none() {
+        let at = unknown_at(classes, constant);
+        return Err(refused(placed, Code::UnknownName, at));
     }
     shape_term(alloc, classes, placed)
 }
 
+/// Where it is told that the class of a constant isn't there: at its kind, where that isn't either.
+fn unknown_at(classes: &ClassTable, constant: &Constant) -> Place
+    ensures { result ≡ unknown_at classes.now (constant_view constant.now) }
+{
+    if classes.id_of(constant.kind.text.as_str()).is_none() {
+        return constant.kind.at;
+    }
+    if constant.class.text.as_str() == EVERY_NODE {
+        return constant.at;
+    }
+    constant.class.at
+}
+
+/// Looks whether the term makes a tree of the kind.
 fn shape_term(alloc: Global, classes: &ClassTable, placed: &Placed) -> Result<(), StartFault>
     ensures { Finds (misfit classes.now (placed_view placed.now)) result }
 {
