@@ -55,15 +55,16 @@ class Declaration:
         return f"{'abstract ' if self.is_abstract else ''}{self.name.text}{above} ::= {parts};"
 
 
-def slashed(tokens: Sequence[Token], at: int) -> int:
-    """How many tokens from here on are a component between slashes, `/ NAME [: NAME] [*] /`; none where it isn't one."""
-    row = [*tokens[at:at + 6], *[tokens[-1]] * 6]
+def slashed(tokens: Sequence[Token], at: int) -> bool:
+    """Whether a component between slashes begins here, `/ NAME [: NAME] [*] /`, and no sign is behind it that would go on with it."""
+    row = [*tokens[at:at + 7], *[tokens[-1]] * 7]
     end = 2
     if row[end].is_sign(":") and row[end + 1].is_name():
         end += 2
     if row[end].is_sign("*"):
         end += 1
-    return end + 1 if row[0].is_sign("/") and row[1].is_name() and row[end].is_sign("/") else 0
+    is_row = row[0].is_sign("/") and row[1].is_name() and row[end].is_sign("/")
+    return is_row and not any(row[end + 1].is_sign(it) for it in ":*")
 
 
 class Classes(Row):
@@ -72,16 +73,6 @@ class Classes(Row):
     def __init__(self, text: str) -> None:
         super().__init__(text)
         self.marks: List[Token] = []
-        left: List[Token] = []
-        at = 0
-        while at < len(self.tokens):
-            count = slashed(self.tokens, at)
-            if count:
-                self.marks.append(self.tokens[at + 1])
-                left += self.tokens[at + 1:at + count - 1]
-            left += self.tokens[at:at + 1] if not count else []
-            at += count or 1
-        self.tokens = left
 
     def all(self) -> List[Declaration]:
         found: List[Declaration] = []
@@ -104,13 +95,27 @@ class Classes(Row):
 
     def part(self) -> Part:
         if self.is_next("/"):
-            raise self.wrong("G7 form left out")
+            return self.slashed()
         if self.take("<"):
             return self.token()
         if self.take("["):
             found = self.typed("optional")
             self.want("]")
             return found
+        return self.child()
+
+    def slashed(self) -> Part:
+        """A component between slashes: what else begins with one is left out there."""
+        if not slashed(self.tokens, self.at):
+            raise self.wrong("G7 form left out")
+        self.want("/")
+        self.marks.append(self.next)
+        found = self.child()
+        self.want("/")
+        return found
+
+    def child(self) -> Part:
+        """`NAME [: NAME] [*]`"""
         found = self.typed("child")
         return Part(found.name, "list", found.kind) if self.take("*") else found
 

@@ -21,7 +21,7 @@ use Rattle.at_typing.specs.Building.{rules_of}
 use Rattle.at_typing.specs.Located.{located}
 use Rattle.at_start.specs.Constants.{Placed, constants_from, planted_classes}
 use Rattle.at_start.specs.GrammarFiles.{Declares, GivesGrammar, IsReadOf, declared}
-use Rattle.at_start.specs.Slashes.{Unslashes, all_slashed, blanked, cut, marks_of, slashes, uncut}
+use Rattle.at_start.specs.Slashes.{Unslashes, blanked, cut, marks_of, slashed_in, slashes, uncut}
 use Rattle.at_java.specs.Aliases.{Alias}
 use Rattle.at_java.specs.Declarations.{Constant}
 use Rattle.at_java.specs.Files.{Contents, contents_of}
@@ -47,8 +47,8 @@ declared_once text ds es h k =
 unslashed_once : (text read other : List ℕ) (ms ns : List Place) → Unslashes text read ms → Unslashes text other ns → (read ≡ other) × (ms ≡ ns)
 unslashed_once text _ _ _ _ (cut ps c) (cut qs d) =
     let same = cut_only text ps qs c d in (
-      ap (λ (xs : List Piece). blanked text (slashes (all_slashed 0 (spelled_at 0 xs)))) same,
-      ap (λ (xs : List Piece). marks_of text (all_slashed 0 (spelled_at 0 xs))) same,
+      ap (λ (xs : List Piece). blanked text (slashes (slashed_in (spelled_at 0 xs)))) same,
+      ap (λ (xs : List Piece). marks_of text (slashed_in (spelled_at 0 xs))) same,
     )
 unslashed_once text _ _ _ _ (cut ps c) (uncut e some fault) = absurd (some (fault_only text e fault ps c))
 unslashed_once text _ _ _ _ (uncut e some fault) (cut ps c) = absurd (some (fault_only text e fault ps c))

@@ -1,5 +1,5 @@
 -- Texts with blanks for slashes, and the marks of names behind these.
-use Rattle.std.proofs.Common.{◌≡◌, ◌∙◌, ℕ, zero, suc, ◌+◌, ◌-◌, ◌<◌, ◌≤◌, ◌==◌, ◌&&◌, true, false, Bool, Option, Some, None, Result, Ok, Err, List, [], ◌∷◌, ◌++◌, length, map, take, drop, get_or, set, if◌then◌else◌, refl, sym, ap, subst, add-one, append-nil, arith}
+use Rattle.std.proofs.Common.{◌≡◌, ◌∙◌, ℕ, zero, suc, ◌+◌, ◌-◌, ◌<◌, ◌≤◌, ◌==◌, ◌&&◌, true, false, Bool, not, Option, Some, None, Result, Ok, Err, List, [], ◌∷◌, ◌++◌, length, map, take, drop, get_or, set, if◌then◌else◌, refl, sym, ap, subst, add-one, append-nil, arith}
 use Rattle.std.specs.Str.{IsUtf8}
 use Rattle.std.proofs.lemmas.List.{drop_all, set_split, take_rest}
 use Rattle.std.proofs.lemmas.Str.{IsCharBoundary-after_ascii, IsCharBoundary-before_ascii, IsUtf8-append, IsUtf8-drop, IsUtf8-encode, IsUtf8-take, encode_ascii}
@@ -13,10 +13,12 @@ use Rattle.at_model.specs.Declarations.{Place}
 use Rattle.at_class.specs.Grammar.{place_view}
 use Rattle.at_text.specs.Symbols.{PlacedToken, placed, placed_in}
 use Rattle.at_text.specs.declared.placed.Placed.{Placed}
-use Rattle.at_start.specs.Slashes.{Slashed, Unslashes, all_slashed, blank, blanked, closed, cut, first_slashed, is_named, is_this, marks_of, slashes, typed_length, uncut}
+use Rattle.at_start.specs.Slashes.{Slashed, Unslashes, all_slashed, blank, blanked, closed, cut, first_slashed, goes_on, is_named, is_this, marks_of, next_slashed, slashed_at, slashed_in, slashes, spot_behind, typed_length, uncut}
 use Rattle.at_start.specs.SlashesView.{slashed_view}
 use Rattle.at_start.specs.declared.slashes.Slashed.{Slashed as SlashedValue}
 use Rattle.at_start.specs.declared.slashes.Blanked.{Blanked}
+use Rattle.at_start.specs.declared.slashes.Spot.{Spot}
+use Rattle.at_start.specs.declared.slashes.Spot.TheVariants.{Outside, Component, Kind, Bracketed}
 use Rattle.at_text.specs.Faults.{FaultsAt}
 use Rattle.at_text.specs.Pieces.{Cut, Piece, Spelled, spelled, spelled_at}
 use Rattle.at_text.specs.declared.scan.ScanFault.{ScanFault}
@@ -57,26 +59,22 @@ blank_utf8 bs i b less there small utf8 =
 
 -- ---- rows
 
-drop_next : {X Y : Type 0} (f : X → Y) (xs : List X) (i : ℕ) → drop 1 (map f (drop i xs)) ≡ map f (drop (i + 1) xs)
-drop_next f [] zero = refl
-drop_next f [] (suc i) = sym (ap (map f) (drop_all (suc i + 1) [] (omega arith)))
-drop_next f (x ∷ xs) zero = refl
-drop_next f (x ∷ xs) (suc i) =
-    drop_next f xs i ∙ ap (λ n. map f (drop n xs)) (add-one i) ∙ sym (ap (λ n. map f (drop n (x ∷ xs))) (add-one (suc i)))
-
-pub none_slashed : (n : ℕ) (found : List Slashed) (ts : List Lexeme) (i : ℕ) (zs : List Slashed) → length ts ≤ i
-    → found ++ all_slashed n (map spelled (drop i ts)) ≡ zs → found ≡ zs
-none_slashed n found ts i zs past so_far =
-    sym (ap (λ xs. found ++ all_slashed n (map spelled xs)) (drop_all i ts past) ∙ append-nil found) ∙ so_far
+pub none_slashed : (at : Spot) (n : ℕ) (found : List Slashed) (ts : List Lexeme) (i : ℕ) (zs : List Slashed) → length ts ≤ i
+    → found ++ all_slashed at n (map spelled (drop i ts)) ≡ zs → found ≡ zs
+none_slashed at n found ts i zs past so_far =
+    sym (ap (λ xs. found ++ all_slashed at n (map spelled xs)) (drop_all i ts past) ∙ append-nil found) ∙ so_far
 
 -- those that are left when one more token was looked at
-pub one_looked : (ts : List Lexeme) (i n more : ℕ) (old new zs : List Slashed)
-    → new ++ all_slashed more (drop 1 (map spelled (take (length ts - i) (drop i ts)))) ≡ old ++ all_slashed n (map spelled (take (length ts - i) (drop i ts)))
-    → old ++ all_slashed n (map spelled (drop i ts)) ≡ zs → new ++ all_slashed more (map spelled (drop (i + 1) ts)) ≡ zs
-one_looked ts i n more old new zs looked so_far =
+pub one_looked : (ts : List Lexeme) (i : ℕ) (other : Lexeme) (at next : Spot) (n more : ℕ) (old new zs : List Slashed)
+    → i < length ts → next ≡ spot_behind at (spelled (get_or ts i other))
+    → new ++ next_slashed at more (map spelled (take (length ts - i) (drop i ts))) ≡ old ++ all_slashed at n (map spelled (take (length ts - i) (drop i ts)))
+    → old ++ all_slashed at n (map spelled (drop i ts)) ≡ zs → new ++ all_slashed next more (map spelled (drop (i + 1) ts)) ≡ zs
+one_looked ts i other at next n more old new zs less goes looked so_far =
     let whole = take_rest ts i in
-    ap (λ us. new ++ all_slashed more us) (sym (drop_next spelled ts i) ∙ ap (λ us. drop 1 (map spelled us)) (sym whole))
-    ∙ looked ∙ ap (λ us. old ++ all_slashed n (map spelled us)) whole ∙ so_far
+    ap (λ k. new ++ all_slashed next more (map spelled (drop k ts))) (add-one i)
+    ∙ ap (λ s. new ++ all_slashed s more (map spelled (drop (suc i) ts))) goes
+    ∙ ap (λ us. new ++ next_slashed at more (map spelled us)) (sym (whole ∙ drop-cons ts i other less))
+    ∙ looked ∙ ap (λ us. old ++ all_slashed at n (map spelled us)) whole ∙ so_far
 
 -- ---- marks
 
@@ -116,28 +114,36 @@ module _ (B : ℕ → Type 0) where
   if_tested true o named s is = named s is
   if_tested false o named s is = let no : None ≡ Some s = is in absurd (cc)
 
-  closed_named : (t u : Spelled) (n : ℕ) (o : Option Spelled) → Stands u → (s : Slashed) → closed t u n o ≡ Some s → Named s
-  closed_named t u n None there s is = let no : None ≡ Some s = is in absurd (cc)
-  closed_named t u n (Some v) there s is =
+  closed_named : (t u : Spelled) (n : ℕ) (o next : Option Spelled) → Stands u → (s : Slashed) → closed t u n o next ≡ Some s → Named s
+  closed_named t u n None next there s is = let no : None ≡ Some s = is in absurd (cc)
+  closed_named t u n (Some v) next there s is =
       let found : Slashed = record { opens = t.start; name = u; closes = v.start; more = n + 2 } in
-      if_tested (is_this (codes "/") v) (Some found) (λ r same. let e : found ≡ r = cc in subst Named e there) s is
+      if_tested (is_this (codes "/") v && not (goes_on next)) (Some found) (λ r same. let e : found ≡ r = cc in subst Named e there) s is
 
   first_named : (ts : List Spelled) → All Stands ts → (s : Slashed) → first_slashed ts ≡ Some s → Named s
   first_named [] all s is = let no : None ≡ Some s = is in absurd (cc)
   first_named (t ∷ []) all s is = let no : None ≡ Some s = is in absurd (cc)
   first_named (t ∷ u ∷ ts) all s is =
-      if_tested (is_this (codes "/") t && is_named u) (closed t u (typed_length ts) (slice_get ts (typed_length ts)))
-      (closed_named t u (typed_length ts) (slice_get ts (typed_length ts)) (All-head Stands u ts (All-tail Stands t (u ∷ ts) all))) s is
+      let n = typed_length ts in
+      if_tested (is_this (codes "/") t && is_named u) (closed t u n (slice_get ts n) (slice_get ts (n + 1)))
+      (closed_named t u n (slice_get ts n) (slice_get ts (n + 1)) (All-head Stands u ts (All-tail Stands t (u ∷ ts) all))) s is
 
-  all_named : (n : ℕ) (ts : List Spelled) → All Stands ts → All Named (all_slashed n ts)
-  all_named n [] all = All-nil Named
-  all_named (suc n) (t ∷ ts) all = all_named n ts (All-tail Stands t ts all)
-  all_named zero (t ∷ ts) all = at_first (first_slashed (t ∷ ts)) (first_named (t ∷ ts) all) (λ k. all_named k ts (All-tail Stands t ts all))
+  named_at : (at : Spot) (ts : List Spelled) → All Stands ts → (s : Slashed) → slashed_at at ts ≡ Some s → Named s
+  named_at Outside ts all s is = let no : None ≡ Some s = is in absurd (cc)
+  named_at Component ts all s is = first_named ts all s is
+  named_at Kind ts all s is = let no : None ≡ Some s = is in absurd (cc)
+  named_at Bracketed ts all s is = let no : None ≡ Some s = is in absurd (cc)
+
+  all_named : (at : Spot) (n : ℕ) (ts : List Spelled) → All Stands ts → All Named (all_slashed at n ts)
+  all_named at n [] all = All-nil Named
+  all_named at (suc n) (t ∷ ts) all = all_named (spot_behind at t) n ts (All-tail Stands t ts all)
+  all_named at zero (t ∷ ts) all =
+      at_first (slashed_at at (t ∷ ts)) (named_at at (t ∷ ts) all) (λ k. all_named (spot_behind at t) k ts (All-tail Stands t ts all))
     where
-      at_first : (o : Option Slashed) → ((s : Slashed) → o ≡ Some s → Named s) → ((k : ℕ) → All Named (all_slashed k ts))
-          → All Named (elim o [ None ↦ all_slashed 0 ts | Some s ↦ s ∷ all_slashed s.more ts ])
+      at_first : (o : Option Slashed) → ((s : Slashed) → o ≡ Some s → Named s) → ((k : ℕ) → All Named (all_slashed (spot_behind at t) k ts))
+          → All Named (elim o [ None ↦ all_slashed (spot_behind at t) 0 ts | Some s ↦ s ∷ all_slashed (spot_behind at t) s.more ts ])
       at_first None named rest = rest 0
-      at_first (Some s) named rest = All-cons Named s (all_slashed s.more ts) (named s refl) (rest s.more)
+      at_first (Some s) named rest = All-cons Named s (all_slashed (spot_behind at t) s.more ts) (named s refl) (rest s.more)
 
   abbrev NamedValue : SlashedValue → Type 0
   NamedValue s = B s.name.start
@@ -149,9 +155,9 @@ module _ (B : ℕ → Type 0) where
       (values_named found (All-tail Named (slashed_view s) (map slashed_view found) all))
 
   pub found_named : (tokens : List Lexeme) (found : List SlashedValue) → All (λ (t : Lexeme). B t.start) tokens
-      → map slashed_view found ≡ all_slashed 0 (map spelled tokens) → All (λ (s : SlashedValue). B s.name.start) found
+      → map slashed_view found ≡ slashed_in (map spelled tokens) → All (λ (s : SlashedValue). B s.name.start) found
   found_named tokens found all is =
-      values_named found (subst (All Named) (sym is) (all_named 0 (map spelled tokens) (All-map Stands spelled tokens all)))
+      values_named found (subst (All Named) (sym is) (all_named Outside 0 (map spelled tokens) (All-map Stands spelled tokens all)))
 
 -- ---- blanks
 
@@ -173,15 +179,15 @@ no_more_blanks found i before zs past so_far = ap (λ ss. blanked before (slashe
 -- ---- texts
 
 cut_same : (text bytes : List ℕ) (marks : List Place) (ps : List Piece) (ts : List Spelled) → Cut text ps [] → ts ≡ spelled_at 0 ps
-    → bytes ≡ blanked text (slashes (all_slashed 0 ts)) → marks ≡ marks_of text (all_slashed 0 ts) → Unslashes text bytes marks
+    → bytes ≡ blanked text (slashes (slashed_in ts)) → marks ≡ marks_of text (slashed_in ts) → Unslashes text bytes marks
 cut_same text bytes marks ps ts whole is blanks places =
-    subst (λ bs. Unslashes text bs marks) (sym (blanks ∙ ap (λ us. blanked text (slashes (all_slashed 0 us))) is))
-    (subst (Unslashes text (blanked text (slashes (all_slashed 0 (spelled_at 0 ps))))) (sym (places ∙ ap (λ us. marks_of text (all_slashed 0 us)) is))
+    subst (λ bs. Unslashes text bs marks) (sym (blanks ∙ ap (λ us. blanked text (slashes (slashed_in us))) is))
+    (subst (Unslashes text (blanked text (slashes (slashed_in (spelled_at 0 ps))))) (sym (places ∙ ap (λ us. marks_of text (slashed_in us)) is))
     (cut ps whole))
 
 module _ {E : Type 0} (text : List ℕ) (ts : List Lexeme) (found : (ps : List Piece) × Cut text ps [] × (map spelled ts ≡ spelled_at 0 ps)) where
-  pub cut_so : (r : Result Blanked E) → IfOk r (λ u. u.bytes.items ≡ blanked text (slashes (all_slashed 0 (map spelled ts))))
-      → IfOk r (λ u. map place_view u.marks.items ≡ marks_of text (all_slashed 0 (map spelled ts)))
+  pub cut_so : (r : Result Blanked E) → IfOk r (λ u. u.bytes.items ≡ blanked text (slashes (slashed_in (map spelled ts))))
+      → IfOk r (λ u. map place_view u.marks.items ≡ marks_of text (slashed_in (map spelled ts)))
       → IfOk r (λ u. Unslashes text u.bytes.items (map place_view u.marks.items))
   cut_so (Ok u) blanks places =
       cut_same text u.bytes.items (map place_view u.marks.items) found.0 (map spelled ts) found.1 found.2 blanks places

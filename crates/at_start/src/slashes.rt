@@ -1,9 +1,9 @@
 //! Components of grammars that stand between slashes.
 
-ghost use Rattle.std.specs.Prelude.{◌≡◌, ◌++◌, ◌∷◌, [], ℕ, List, map, drop, option_map, slice_get, IfOk, OnOk, IsUtf8, IsTrue, All, IsCharBoundary};
+ghost use Rattle.std.specs.Prelude.{◌≡◌, ◌+◌, ◌++◌, ◌∷◌, [], ℕ, List, map, drop, option_map, slice_get, IfOk, OnOk, IsUtf8, IsTrue, All, IsCharBoundary};
 ghost use Rattle.at_class.specs.Grammar.{place_view};
 ghost use Rattle.at_text.specs.Pieces.{spelled};
-ghost use Rattle.at_start.specs.Slashes.{Unslashes, all_slashed, blanked, closed, is_named, is_this, first_slashed, kind_length, marks_of, slashes, star_length, typed_length};
+ghost use Rattle.at_start.specs.Slashes.{Unslashes, all_slashed, blanked, closed, goes_on, is_named, is_this, first_slashed, kind_length, marks_of, next_slashed, slashed_at, slashed_in, slashes, spot_behind, spot_within, star_length, typed_length};
 ghost use Rattle.at_start.specs.SlashesView.{slashed_view};
 
 use at_text::names::is_name;
@@ -32,6 +32,19 @@ pub struct Slashed<'a> {
     pub closes: usize,
     /// How many tokens it has behind its first.
     pub more: usize,
+}
+
+/// Where a token of a grammar stands.
+#[derive(Clone, Copy)]
+pub enum Spot {
+    /// In front of what a class has behind its `::=`.
+    Outside,
+    /// Where a component may begin, or behind its name.
+    Component,
+    /// Behind a `:`.
+    Kind,
+    /// Behind a `[` or a `<`, and not yet behind what closes it.
+    Bracketed,
 }
 
 /// What the grammar of the text is read of, or want of memory.
@@ -63,8 +76,8 @@ fn as_it_stands(alloc: Global, text: &str) -> Result<Blanked, AllocError>
 /// What the grammar of a text with these tokens is read of, or want of memory.
 fn without_slashes(alloc: Global, text: &str, tokens: &[Lexeme<'_>]) -> Result<Blanked, AllocError>
     requires { All (λ t. IsCharBoundary text.now t.start) tokens.now }
-    ensures bytes { IfOk result (λ u. u.bytes.items ≡ blanked text.now (slashes (all_slashed 0 (map spelled tokens.now)))) }
-    ensures marks { IfOk result (λ u. map place_view u.marks.items ≡ marks_of text.now (all_slashed 0 (map spelled tokens.now))) }
+    ensures bytes { IfOk result (λ u. u.bytes.items ≡ blanked text.now (slashes (slashed_in (map spelled tokens.now)))) }
+    ensures marks { IfOk result (λ u. map place_view u.marks.items ≡ marks_of text.now (slashed_in (map spelled tokens.now))) }
     ensures utf8 { IfOk result (λ u. IsUtf8 u.bytes.items) }
 {
     let found = all_slashed(alloc, tokens)?;
@@ -129,37 +142,77 @@ fn blank(bytes: &mut Vec<u8>, offset: usize)
     }
 }
 
-/// All components between slashes, or want of memory.
+/// All components between slashes of a grammar, or want of memory.
 fn all_slashed<'a>(alloc: Global, tokens: &[Lexeme<'a>]) -> Result<Vec<Slashed<'a>>, AllocError>
-    ensures { IfOk result (λ v. map slashed_view v.items ≡ all_slashed 0 (map spelled tokens.now)) }
+    ensures { IfOk result (λ v. map slashed_view v.items ≡ slashed_in (map spelled tokens.now)) }
 {
     let mut found = Vec::new(alloc);
+    let mut at = Spot::Outside;
     // How many of the next tokens belong to the last one that was found.
     let mut more = 0;
     for i in 0..tokens.len() {
-        more = look(&tokens[i..], more, &mut found)?;
+        more = look(&tokens[i..], at, more, &mut found)?;
+        at = spot_behind(at, &tokens[i]);
     }
     Ok(found)
 }
 
-/// Adds the component between slashes with which these tokens begin, where their first doesn't belong to one already; or want of memory.
-/// It gives how many of the others belong to one.
+/// Adds the component between slashes with which these tokens begin there, where their first doesn't belong to one already; or want of
+/// memory. It gives how many of the others belong to one.
 fn look<'a>(
     tokens: &[Lexeme<'a>],
+    at: Spot,
     more: usize,
     found: &mut Vec<Slashed<'a>>,
 ) -> Result<usize, AllocError>
-    ensures { IfOk result (λ n. map slashed_view found.new.items ++ all_slashed n (drop 1 (map spelled tokens.now))
-        ≡ map slashed_view found.old.items ++ all_slashed more (map spelled tokens.now)) }
+    ensures { IfOk result (λ n. map slashed_view found.new.items ++ next_slashed at n (map spelled tokens.now)
+        ≡ map slashed_view found.old.items ++ all_slashed at more (map spelled tokens.now)) }
 {
     if more > 0 {
         return Ok(more - 1);
     }
-    let Some(slashed) = first_slashed(tokens) else {
+    let Some(slashed) = slashed_at(at, tokens) else {
         return Ok(0);
     };
     found.push(slashed)?;
     Ok(slashed.more)
+}
+
+/// Where the token behind this one stands.
+fn spot_behind(at: Spot, token: &Lexeme<'_>) -> Spot
+    ensures { result ≡ spot_behind at (spelled token.now) }
+{
+    if is_this(token, ";") {
+        return Spot::Outside;
+    }
+    spot_within(at, token)
+}
+
+/// Where the token behind this one stands, if this one doesn't end a class.
+fn spot_within(at: Spot, token: &Lexeme<'_>) -> Spot
+    ensures { result ≡ spot_within at (spelled token.now) }
+{
+    match at {
+        Spot::Outside if is_this(token, "::=") => Spot::Component,
+        Spot::Outside => Spot::Outside,
+        Spot::Component if is_this(token, ":") => Spot::Kind,
+        Spot::Component if is_this(token, "[") || is_this(token, "<") => Spot::Bracketed,
+        Spot::Component | Spot::Kind => Spot::Component,
+        Spot::Bracketed if is_this(token, "]") || is_this(token, ">") => Spot::Component,
+        Spot::Bracketed => Spot::Bracketed,
+    }
+}
+
+/// The component between slashes with which these tokens begin, if one may stand there.
+fn slashed_at<'a>(at: Spot, tokens: &[Lexeme<'a>]) -> Option<Slashed<'a>>
+    ensures { option_map slashed_view result ≡ slashed_at at (map spelled tokens.now) }
+{
+    match at {
+        Spot::Component => first_slashed(tokens),
+        Spot::Outside => None,
+        Spot::Kind => None,
+        Spot::Bracketed => None,
+    }
 }
 
 /// The component between slashes with which these tokens begin.
@@ -181,10 +234,14 @@ fn closed<'a>(
     rest: &[Lexeme<'a>],
     length: usize,
 ) -> Option<Slashed<'a>>
-    ensures { option_map slashed_view result ≡ closed (spelled first.now) (spelled name.now) length (slice_get (map spelled rest.now) length) }
+    ensures { option_map slashed_view result ≡ closed (spelled first.now) (spelled name.now) length
+        (slice_get (map spelled rest.now) length) (slice_get (map spelled rest.now) (length + 1)) }
 {
     let close = rest.get(length)?;
     if !is_this(close, "/") {
+        return None;
+    }
+    if goes_on(rest, length + 1) {
         return None;
     }
     Some(Slashed {
@@ -193,6 +250,16 @@ fn closed<'a>(
         closes: close.start,
         more: length + 2,
     })
+}
+
+/// Whether the token at this index, if there is one, is one of the two signs that go on with a component.
+fn goes_on(tokens: &[Lexeme<'_>], index: usize) -> bool
+    ensures { result ≡ goes_on (slice_get (map spelled tokens.now) index) }
+{
+    match tokens.get(index) {
+        Some(token) => is_this(token, ":") || is_this(token, "*"),
+        None => false,
+    }
 }
 
 /// How many tokens `[":" name] ["*"]` takes.
