@@ -33,30 +33,14 @@ class Declared:
     parts: List[Component] = field(default_factory=list)
 
 
-def without_slashes(words: List[Word]) -> Tuple[List[Word], Set[int]]:
-    """The words without the slashes round `X`, `Name:X`, `X*` and `Name:X*`, and the offsets of the words behind the first ones."""
-    found: List[Word] = []
-    marks: Set[int] = set()
-    at = 0
-    while at < len(words):
-        end = _behind_name(words, at + 1) if words[at].text == "/" else None
-        if end is not None:
-            marks.add(words[at + 1].at)
-            found += words[at + 1:end]
-        else:
-            found.append(words[at])
-        at = at + 1 if end is None else end + 1
-    return found, marks
-
-
-def _behind_name(words: List[Word], at: int) -> Optional[int]:
-    """The number of the slash behind a child or a list that begins at a word; None where there is none."""
-    texts, kinds = [it.text for it in words[at:at + 5]], [it.kind for it in words[at:at + 5]]
-    if kinds[:1] != ["name"]:
-        return None
-    behind = 3 if texts[1:2] == [":"] and kinds[2:3] == ["name"] else 1
+def _is_slashed(words: List[Word]) -> bool:
+    """Whether words begin with `X`, `Name:X`, `X*` or `Name:X*` between slashes, and no sign is behind them that would go on with it."""
+    texts, kinds = [it.text for it in words[:7]], [it.kind for it in words[:7]]
+    if texts[:1] != ["/"] or kinds[1:2] != ["name"]:
+        return False
+    behind = 4 if texts[2:3] == [":"] and kinds[3:4] == ["name"] else 2
     behind += texts[behind:behind + 1] == ["*"]
-    return at + behind if texts[behind:behind + 1] == ["/"] else None
+    return texts[behind:behind + 1] == ["/"] and texts[behind + 1:behind + 2] not in ([":"], ["*"])
 
 
 class GrammarReader(WordReader):
@@ -65,9 +49,7 @@ class GrammarReader(WordReader):
     def __init__(self, scan: Scan, forms: str = "") -> None:
         super().__init__(scan)
         self.declared: List[Declared] = []
-        self.fixed: Set[int] = set()
-        if "jastadd" in forms.split(","):
-            self.words, self.fixed = without_slashes(self.words)
+        self.has_slashes = "jastadd" in forms.split(",")
 
     def file(self) -> List[Declared]:
         """All declarations. Raises GrammarFault."""
@@ -91,15 +73,27 @@ class GrammarReader(WordReader):
     def part(self) -> Component:
         """The next component. Raises GrammarFault."""
         if self.next.kind == "sign" and self.next.text == "/":
-            raise self.scan.fault("form left out", self.next.at, "G7")
+            return self.slashed()
         if self.take("sign", "<"):
             return self.token()
         if self.take("sign", "["):
             name, kind = self.named()
             self.want("sign", "]")
             return Component(name, Shape.OPTIONAL, kind)
+        return self.child()
+
+    def slashed(self) -> Component:
+        """A component between slashes. Raises GrammarFault, at the slash where another form begins with it."""
+        if not self.has_slashes or not _is_slashed(self.words[self.at:self.at + 7]):
+            raise self.scan.fault("form left out", self.next.at, "G7")
+        self.want("sign", "/")
+        found = self.child()
+        self.want("sign", "/")
+        return found._replace(is_fixed=True)
+
+    def child(self) -> Component:
         name, kind = self.named()
-        return Component(name, Shape.LIST if self.take("sign", "*") else Shape.CHILD, kind, name.at in self.fixed)
+        return Component(name, Shape.LIST if self.take("sign", "*") else Shape.CHILD, kind)
 
     def named(self) -> Tuple[Word, Word]:
         name = self.want("name")

@@ -41,6 +41,14 @@ READ = [
     ("P ::= /* a */ /X*/ // b\n; X;", "/X*/"), ("P ::= /<T>/;", None), ("P ::= /[X]/; X;", None), ("P ::= /X; X;", None), ("P ::= X/; X;", None),
     ("P ::= /X*:N/; X;", None), ("P ::= / /X/; X;", None), ("P ::= /X/ X; X;", None), ("P ::= /Y/;", None), ("P ::= /syn/;", None),
 ]
+# Grammars with slashes where no component may stand, and what is told of them.
+ELSEWHERE = [
+    ("/P/ ::= X; X;", "G1 syntax at 1:1"), ("abstract /Y/; P ::= /X/; X;", "G1 syntax at 1:10"), ("P ::= /X/; X; Y : /X/;", "G1 syntax at 1:19"),
+    ("P ::= [/X/]; X;", "G1 syntax at 1:8"), ("P ::= </X/>; X;", "G1 syntax at 1:8"), ("P ::= N:/X/; X;", "G1 syntax at 1:9"),
+    ("P ::= [N /X/]; X;", "G1 syntax at 1:10"), ("P ::= <N:int /X/>; X;", "G1 syntax at 1:14"),
+    ("P ::= /X/ *; X;", "G7 form left out at 1:7"), ("P ::= /X/:X; X;", "G7 form left out at 1:7"), ("P ::= X /N:X*/ *; X;", "G7 form left out at 1:9"),
+    ("P ::= /X/Y/; X; Y;", "G7 form left out at 1:11"),
+]
 # Each line has the faults that are named at its end, with the section of the page, and no other.
 FAULTS = """aspect A {
   syn X P.getX() = new X("a"); //: J10/11
@@ -99,6 +107,12 @@ class Grammars(unittest.TestCase):
                 self.assertEqual(wanted is None, not _is_read(text))
                 if wanted is not None:
                     self.assertEqual(" ".join(map(str, Grammar.read(text, "jastadd").components("P"))), wanted)
+
+    def test_slashes_elsewhere(self):
+        for text, told in ELSEWHERE:
+            with self.subTest(text), self.assertRaises(attrd.GrammarFault) as caught:
+                Grammar.read(text, "jastadd")
+            self.assertEqual(str(caught.exception), told, text)
 
     def test_without_the_word_a_slash_is_left_out(self):
         for forms in "", "circular":
