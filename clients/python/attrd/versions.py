@@ -1,7 +1,7 @@
 """The version of this library, which is that of the program it belongs to."""
 from typing import Optional
 
-VERSION = "0.48"
+VERSION = "0.49"
 
 
 class VersionWarning(UserWarning):

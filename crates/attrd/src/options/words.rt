@@ -37,7 +37,7 @@ const MAX_KEEP: u32 = 1_000_000_000;
 const MAX_NODES: u32 = 16_777_216;
 
 /// The program's version, which the file `VERSION` holds, too.
-const VERSION: &str = "0.48";
+const VERSION: &str = "0.49";
 
 /// What stands below the words in the help: a session, and the commands.
 const HELP: &str = "A session:
