@@ -37,13 +37,13 @@ LONGEST = ("the program", "client hub", "client hub, more", "client lsp", "clien
 DIVIDED = {"hub": ("test_hub_hostile", "test_hub_operator", "test_hub_lost")}
 # What is tried less often than in the gate: kills of the hub, pairs of trees, sessions and files by chance, and caches under want of memory;
 # and trees have fewer nodes. With the last word the tests of clients that take long are left out (clients/at_length.py).
-LESS = (("ATTRD_HUB_POINTS", "10"), ("ATTRD_PAIRS", "250"), ("ATTRD_CIRCULAR_SESSIONS", "8"), ("ATTRD_MADE_SESSIONS", "5"),
-        ("ATTRD_TEST_NODES", "5000"), ("ATTRD_MEMORY_KEEPERS", "1"), ("ATTRD_READINGS", "1500"), ("ATTRD_SPOILED_FILES", "8"),
+LESS = (("ATTRD_HUB_POINTS", "6"), ("ATTRD_PAIRS", "250"), ("ATTRD_CIRCULAR_SESSIONS", "5"), ("ATTRD_MADE_SESSIONS", "5"),
+        ("ATTRD_TEST_NODES", "5000"), ("ATTRD_MEMORY_KEEPERS", "1"), ("ATTRD_READINGS", "1000"), ("ATTRD_SPOILED_FILES", "5"),
         ("ATTRD_PROBLEMS", "50"), ("ATTRD_SPECS_SESSIONS", "6"), ("ATTRD_FAULT_EDITS", "40"),
         ("ATTRD_BODIES_FILES", "20"), ("ATTRD_OVERLOADED_COUNT", "20"), ("ATTRD_AGAIN_COUNT", "30"),
         ("ATTRD_CONSTANTS_SESSIONS", "10"), ("ATTRD_CONSTANTS_FILES", "5"))
-# Of requests for memory each fifth one is refused in turn, and of reads and writes each fifth one fails.
-SELDOM = (("ATTRD_MEMORY_EVERY", "5"), ("ATTRD_CALLS_EVERY", "5"))
+# Of requests for memory each eighth one is refused in turn, and of reads and writes each eighth one fails.
+SELDOM = (("ATTRD_MEMORY_EVERY", "8"), ("ATTRD_CALLS_EVERY", "8"))
 SHORT = ("ATTRD_SHORT", "1")
 # Tests of clients that take long and start no program, so that they run while it is built.
 APART = ("test_grammars", "test_hub_journal", "test_hub_lines", "test_hub_loop.Looking", "test_hub_package", "test_hub_turns",
@@ -51,7 +51,8 @@ APART = ("test_grammars", "test_hub_journal", "test_hub_lines", "test_hub_loop.L
          "test_lsp_positions", "test_lsp_source", "test_lsp_syntax", "test_page_source.OfALanguageServer.test_a_grammar_that_is_refused",
          "test_page_source.OfALanguageServer.test_a_text_that_has_no_tree", "test_replies", "test_terms", "test_update.Edits",
          "test_versions.Wheel")
-# What goes on beside the build leaves the processors to that, for which all else waits.
+# What goes on beside the build leaves the processors to that, for which all else waits; and what goes on beside the tests of the
+# program to those, which end last.
 BESIDE = ("nice", "-n", "5")
 COUNTED = re.compile(r"^(\d+) passed, (\d+) failed$", re.M)
 # The same, as unittest tells it.
@@ -161,7 +162,8 @@ def of_the_program(program: Path, pages: Sequence[str]) -> List[Part]:
     """The parts that run a program, the longest first."""
     tests = [part for it in clients() for part in of_a_client(it, program)]
     examples = Part("examples of pages", python("tools/examples.py", "--program", str(program), *pages))
-    parts = [*tests, examples, Part("the program", python("tools/program.py", str(program)), (*LESS, *SELDOM))]
+    others = [replace(it, command=[*BESIDE, *it.command]) for it in (*tests, examples)]
+    parts = [*others, Part("the program", python("tools/program.py", str(program)), (*LESS, *SELDOM))]
     return sorted(parts, key=lambda it: LONGEST.index(it.name) if it.name in LONGEST else len(LONGEST))
 
 
