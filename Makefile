@@ -33,7 +33,7 @@ help:
 	@echo "                     tries the crate's wrong bodies, which the prover has to refuse (1 to 5 minutes, behind make check)"
 	@echo "  make counts        long clauses, contracts and repeats (seconds)"
 	@echo "to test it:"
-	@echo "  make quick         nearly all tests that need no proof, by a program that isn't proved (3 minutes, 1 where the program is taken up)"
+	@echo "  make quick         nearly all tests that need no proof, by a program that isn't proved (about 3 minutes, 1 where the program is taken up)"
 	@echo "  make test          the gate: every proof, wrong bodies, tests, programs, examples (90 minutes; 15 where it passed before)"
 	@echo "  make examples      the examples of the pages alone (half a minute)"
 	@echo "  make program       the tests of the command line, streams and sockets alone (seconds)"

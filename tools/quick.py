@@ -1,4 +1,4 @@
-"""Tests what needs no proof, but for tests of clients that take long, in three minutes on two processors. Nothing is proved by it.
+"""Tests what needs no proof, but for tests of clients that take long, in about three minutes on two processors. Nothing is proved by it.
 
     python3 -m tools.quick PAGE|FOLDER ..
 
